@@ -1,0 +1,15 @@
+pub mod Product
+pub mod ShiftLaws
+pub mod Linear
+pub mod SumLaws
+pub mod ProductLaws
+pub mod Powers
+pub mod PowersLaws
+pub mod TablesTest
+pub mod Poly11D
+pub mod Nibbles
+pub mod NoRoot
+pub mod PairLaws
+pub mod PairNumbers
+pub mod Field
+pub mod Kind

@@ -1,0 +1,62 @@
+-- The products of the fields, on the numbers of their elements.
+use Rattle.std.specs.Prelude.{ℕ, zero, suc, ◌+◌, ◌*◌, ◌/◌, ◌%◌, ◌==◌, nat_lt, bit_xor, if◌then◌else◌}
+use Rattle.std.specs.Int.{bit_at}
+use Rattle.gf_tables.specs.declared.kind.FieldKind.{FieldKind}
+use Rattle.gf_tables.specs.declared.kind.FieldKind.TheVariants.{Eight, Sixteen}
+
+-- twice a, reduced by the polynomial where it doesn't fit a byte
+unfoldable pub shift : ℕ → ℕ → ℕ
+shift poly a = if nat_lt (2 * a) 256 then 2 * a else bit_xor (2 * a) poly
+
+-- a, shifted k times
+unfoldable pub shifted : ℕ → ℕ → ℕ → ℕ
+shifted poly zero a = a
+shifted poly (suc k) a = shift poly (shifted poly k a)
+
+-- over the bits below k that are set in b, the exclusive or of a shifted as often as the bit's place
+unfoldable pub sum_of_shifts : ℕ → ℕ → ℕ → ℕ → ℕ
+sum_of_shifts poly a b zero = 0
+sum_of_shifts poly a b (suc k) = bit_xor (sum_of_shifts poly a b k) (if bit_at b k == 1 then shifted poly k a else 0)
+
+-- the product of two octets, modulo a polynomial of degree 8
+unfoldable pub octet_product : ℕ → ℕ → ℕ → ℕ
+octet_product poly a b = sum_of_shifts poly a b 8
+
+-- The product of two pairs (a + b*y) * (c + d*y) where y*y = y + C. The number of a + b*y is a + size * b.
+unfoldable pub pair_product : (ℕ → ℕ → ℕ) → ℕ → ℕ → ℕ → ℕ → ℕ
+pair_product product size root n m =
+    let a = n % size in
+    let b = n / size in
+    let c = m % size in
+    let d = m / size in
+    let low = bit_xor (product a c) (product root (product b d)) in
+    let high = bit_xor (bit_xor (product a d) (product b c)) (product b d) in
+    low + size * high
+
+-- the polynomial of the field of 256 elements, x^8 + x^4 + x^3 + x^2 + 1
+abbrev pub octet_polynomial : ℕ
+octet_polynomial = 0x11D
+
+-- C of the field of 65,536 elements, over that of 256
+abbrev pub pair_constant : ℕ
+pair_constant = 0x20
+
+-- the product of a kind of field
+unfoldable pub product : FieldKind → ℕ → ℕ → ℕ
+product Eight = octet_product octet_polynomial
+product Sixteen = pair_product (octet_product octet_polynomial) 256 pair_constant
+
+-- how many elements a kind of field has
+abbrev pub size_of : FieldKind → ℕ
+size_of Eight = 256
+size_of Sixteen = 65536
+
+-- how many bytes an element takes
+abbrev pub bytes_of_element : FieldKind → ℕ
+bytes_of_element Eight = 1
+bytes_of_element Sixteen = 2
+
+-- the number of a kind of field in code files
+abbrev pub mark_of : FieldKind → ℕ
+mark_of Eight = 8
+mark_of Sixteen = 16

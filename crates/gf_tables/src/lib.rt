@@ -1,0 +1,17 @@
+//! The fields that codes are over: of 256 elements, by tables, and of 65,536 elements, as pairs.
+#![tactic(auto)]
+
+mod field;
+mod kind;
+mod nibbles;
+mod octet;
+mod quad;
+
+pub use field::Field;
+pub use kind::{FieldKind, product};
+pub use nibbles::NibbleTables;
+pub use octet::{Generates, Gf8, Octet, Poly11D};
+pub use quad::{Gf16, NoRoot, Quad};
+
+#[cfg(test)]
+mod tests;

@@ -1,0 +1,125 @@
+ghost use Rattle.std.specs.Prelude.{◌<◌};
+
+use crate::{
+    Field, FieldKind, Generates, Gf8, Gf16, NibbleTables, NoRoot, Octet, Poly11D, Quad, product,
+};
+
+// The product of bytes by its definition: a is doubled for each bit of b, and reduced where it has nine bits.
+fn product_by_shifts(a: u32, b: u32) -> u32 {
+    let mut product = 0;
+    let mut shifted = a;
+    for place in 0..8u32 {
+        if b >> place & 1 == 1 {
+            product ^= shifted;
+        }
+        shifted <<= 1;
+        if shifted & 0x100 != 0 {
+            shifted ^= 0x11D;
+        }
+    }
+    product
+}
+
+// The product of a + b*y and c + d*y, where y*y = y + 0x20 and the higher byte of a number is that of y.
+fn product_by_parts(n: u32, m: u32) -> u32 {
+    let (a, b) = (n & 0xFF, n >> 8);
+    let (c, d) = (m & 0xFF, m >> 8);
+    let top = product_by_shifts(b, d);
+    let low = product_by_shifts(a, c) ^ product_by_shifts(0x20, top);
+    let high = product_by_shifts(a, d) ^ product_by_shifts(b, c) ^ top;
+    high << 8 | low
+}
+
+// Each call of a field, at the elements with two numbers.
+fn each_call<F: Field>(n: u32, m: u32) -> [u32; 7]
+    requires left { n < F.SIZE }
+    requires right { m < F.SIZE }
+{
+    let x = F::of_number(n);
+    let y = F::of_number(m);
+    let inverse = if y == F::zero() { y } else { y.inv() };
+    [
+        x.add(y).number(),
+        x.mul(y).number(),
+        inverse.number(),
+        F::one().number(),
+        F::SIZE,
+        F::BYTES as u32,
+        F::MARK as u32,
+    ]
+}
+
+#[test]
+fn through_the_bound(rt: HostRuntime) {
+    assert_eq!(rt; each_call::<Gf8>(2, 0x80), [0x82, 0x1D, 0x1B, 1, 256, 1, 8]);
+    assert_eq!(rt; each_call::<Gf8>(2, 3), [1, 6, 0xF4, 1, 256, 1, 8]);
+    assert_eq!(rt;
+        each_call::<Gf16>(3, 0x0100),
+        [0x0103, 0x0300, 0x6C6C, 1, 65536, 2, 16]
+    );
+}
+
+#[test]
+fn all_products_of_bytes(rt: HostRuntime) {
+    for a in 0..256u32 {
+        for b in 0..256u32 {
+            let product = Gf8::of_number(a).mul(Gf8::of_number(b)).number();
+            assert_eq!(rt; product, product_by_shifts(a, b), "{a} times {b}");
+        }
+    }
+}
+
+#[test]
+fn many_products_of_pairs(rt: HostRuntime) {
+    let mut random = 1u32;
+    for _ in 0..100_000u32 {
+        random = random.wrapping_mul(1_664_525).wrapping_add(1_013_904_223);
+        let (n, m) = (random >> 16, random & 0xFFFF);
+        let product = Gf16::of_number(n).mul(Gf16::of_number(m)).number();
+        assert_eq!(rt; product, product_by_parts(n, m), "{n} times {m}");
+    }
+}
+
+#[test]
+fn products_by_kind(rt: HostRuntime) {
+    assert_eq!(rt; product(FieldKind::Eight, 2, 0x80), 0x1D);
+    assert_eq!(rt; product(FieldKind::Sixteen, 0x0100, 0x0100), 0x0120);
+}
+
+#[test]
+fn by_nibbles(rt: HostRuntime) {
+    for multiplier in [0, 1, 2, 0x1D, 0x80, 0xFF] {
+        let element = Gf8::of_number(multiplier);
+        let tables = NibbleTables::new(element);
+        assert_eq!(rt; tables.multiplier(), element);
+        for byte in 0..=255u8 {
+            let product = element.mul(Gf8::of_number(byte as u32)).number();
+            assert_eq!(rt;
+                tables.times(byte) as u32,
+                product,
+                "{multiplier} times {byte}"
+            );
+        }
+    }
+}
+
+// Threads can share values of the type.
+fn shared<T: Send + Sync>() {}
+
+// They can copy and compare them too.
+fn shared_values<T: Copy + Eq + Send + Sync>() {}
+
+fn shared_over<T: Generates + Send + Sync, F: NoRoot + Send + Sync>() {
+    shared_values::<Octet<T>>();
+    shared_values::<Quad<F>>();
+    shared::<NibbleTables<T>>();
+}
+
+#[test]
+fn threads_share_fields() {
+    shared_values::<Poly11D>();
+    shared_values::<Gf8>();
+    shared_values::<Gf16>();
+    shared_values::<FieldKind>();
+    shared_over::<Poly11D, Gf8>();
+}
