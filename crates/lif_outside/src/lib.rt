@@ -1,0 +1,14 @@
+//! The outside, as the program sees it: stores of files and sinks of bytes, with those in memory.
+#![tactic(auto)]
+
+mod memory;
+mod sink;
+mod store;
+
+pub use memory::{Call, Fail, MemSink, MemStore};
+pub use sink::Sink;
+pub use store::Store;
+
+/// The answer of an object of the outside that failed. The object has counted it.
+#[derive(Clone, Copy, Debug, PartialEq, Eq)]
+pub struct Failed;

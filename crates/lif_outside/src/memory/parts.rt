@@ -1,0 +1,81 @@
+//! Parts of the calls on a store and a sink in memory, over plain lists and maps.
+ghost use Rattle.std.specs.Prelude.{◌≡◌, ◌<◌, ◌≤◌, ◌-◌, ◌++◌, [], min, length, take, drop, unwrap_or, OnOk, OnErr, IsErr};
+ghost use Rattle.lif_outside.specs.Files.{SameFiles, Writes};
+ghost use Rattle.lif_outside.specs.Memory.{next_call, kept_by, contents};
+ghost use Rattle.lif_outside.specs.Told.{AddsPrefix};
+
+use super::{Call, Fail};
+use crate::Failed;
+use std::alloc::{AllocError, Global};
+use std::collections::BTreeMap;
+
+// Counts one more, and says how many there are then.
+pub fn count_one(count: &mut u64) -> u64
+    ensures value { result ≡ next_call count.old }
+    ensures after { count.new ≡ next_call count.old }
+    ensures later { count.old ≤ count.new }
+{
+    *count = count.saturating_add(1);
+    *count
+}
+
+// Counts a call that fails.
+pub fn failed(faults: &mut u64) -> Failed
+    ensures after { faults.new ≡ next_call faults.old }
+    ensures later { faults.old ≤ faults.new }
+{
+    count_one(faults);
+    Failed
+}
+
+// How many bytes the `nth` call of a kind keeps, where it is listed to fail.
+pub fn kept_by(fails: &[Fail], call: Call, nth: u64) -> Option<usize>
+    ensures { result ≡ kept_by fails.now call nth }
+{
+    fails
+        .iter()
+        .find(|fail| fail.call == call && fail.nth == nth)
+        .map(|fail| fail.keep)
+}
+
+// Copies bytes of a file, from a place on, to the front of a buffer, and says how many.
+pub fn read_part(file: &[u8], at: usize, most: usize, into: &mut [u8]) -> usize
+    ensures count { result ≡ min most (min (length into.old) (length file.now - at)) }
+    ensures front { take result into.new ≡ take result (drop at file.now) }
+    ensures rest { drop result into.new ≡ drop result into.old }
+{
+    let left = &file[at.min(file.len())..];
+    let count = most.min(into.len()).min(left.len());
+    into[..count].copy_from_slice(&left[..count]);
+    count
+}
+
+// Makes an empty file, in place of one that is there.
+pub fn empty_file(
+    alloc: Global,
+    files: &mut BTreeMap<String, Vec<u8>>,
+    path: &str,
+) -> Result<(), AllocError>
+    ensures ok { OnOk result (Writes path.now [] (contents files.old) (contents files.new)) }
+    ensures err { OnErr result (SameFiles (contents files.old) (contents files.new)) }
+    ensures memory { IsErr result → contents files.old path.now ≡ None }
+{
+    if let Some(file) = files.get_mut(path) {
+        file.clear();
+        return Ok(());
+    }
+    files.insert(String::from_str(alloc, path)?, Vec::new(alloc))?;
+    Ok(())
+}
+
+// Adds bytes at the end of a file, or the first `keep` alone, and none where memory runs out.
+pub fn add_bytes(file: &mut Vec<u8>, bytes: &[u8], keep: Option<usize>) -> Result<(), AllocError>
+    ensures ok { OnOk result (file.new.items
+        ≡ file.old.items ++ take (unwrap_or keep (length bytes.now)) bytes.now) }
+    ensures err { OnErr result (file.new.items ≡ file.old.items) }
+    ensures prefix { AddsPrefix bytes.now file.old.items file.new.items }
+    ensures memory { OnErr result (0 < length bytes.now) }
+{
+    let kept = keep.unwrap_or(bytes.len()).min(bytes.len());
+    file.extend_from_slice(&bytes[..kept])
+}
