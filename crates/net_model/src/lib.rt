@@ -1,0 +1,32 @@
+//! Networks: named nodes and links, a source, sinks, and patterns of links that fail together.
+#![tactic(auto)]
+
+mod lists;
+mod name;
+mod net;
+
+pub use lists::{LinkList, LinkTable, NameList, NodeList, Paths, PatternList, Side};
+pub use name::{Name, NameFault, is_name};
+pub use net::{FieldChoice, Net};
+
+/// A directed link between two nodes, by their numbers. It carries one symbol per use.
+#[derive(Drop)]
+pub struct Link {
+    pub name: Name,
+    pub tail: u32,
+    pub head: u32,
+}
+
+/// Links that fail together, in rising order.
+#[derive(Drop)]
+pub struct Pattern {
+    pub name: Name,
+    pub links: LinkList,
+}
+
+/// A sink and a pattern, as places in the lists of sinks and patterns.
+#[derive(Clone, Copy, Debug, PartialEq, Eq)]
+pub struct Demand {
+    pub sink: u32,
+    pub pattern: u32,
+}

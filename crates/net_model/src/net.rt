@@ -1,0 +1,72 @@
+//! Networks.
+ghost use Rattle.net_model.specs.Network.{IsNetwork};
+
+use crate::{LinkTable, NameList, NodeList, PatternList};
+
+/// Which field a network's codes are to be over.
+#[derive(Clone, Copy, Debug, PartialEq, Eq)]
+pub enum FieldChoice {
+    /// The smallest that serves.
+    Any,
+    /// That of 256 elements.
+    Eight,
+    /// That of 65,536 elements.
+    Sixteen,
+}
+
+/// A network. Names are valid and distinct in their kind. A link leads from one node to another. The
+/// sinks are distinct nodes other than the source, at least one. The first pattern is `none`, without
+/// links; each further one has at least one link, in rising order. There are at most 4096 nodes,
+/// 8192 links and 4096 patterns, `none` among them.
+#[derive(Drop)]
+pub struct Net {
+    pub nodes: NameList,
+    pub links: LinkTable,
+    pub source: u32,
+    pub sinks: NodeList,
+    pub patterns: PatternList,
+    pub field: FieldChoice,
+    ghost network: { IsNetwork nodes links source sinks patterns },
+}
+
+impl Net {
+    ghost use Rattle.std.specs.Prelude.{◌≡◌, ◌<◌, length};
+    ghost use Rattle.net_model.specs.Failed.{is_failed_in};
+
+    /// The network of these parts. It takes no memory.
+    pub fn of(
+        nodes: NameList,
+        links: LinkTable,
+        source: u32,
+        sinks: NodeList,
+        patterns: PatternList,
+        field: FieldChoice,
+    ) -> Net
+        requires { IsNetwork nodes links source sinks patterns }
+        ensures nodes { result.nodes ≡ nodes }
+        ensures links { result.links ≡ links }
+        ensures source { result.source ≡ source }
+        ensures sinks { result.sinks ≡ sinks }
+        ensures patterns { result.patterns ≡ patterns }
+        ensures field { result.field ≡ field }
+    {
+        Net {
+            nodes,
+            links,
+            source,
+            sinks,
+            patterns,
+            field,
+        }
+    }
+
+    /// Whether a link fails in a pattern.
+    pub fn is_failed(&self, pattern: u32, link: u32) -> bool
+        requires pattern { pattern < length self.now.patterns }
+        requires link { link < length self.now.links }
+        ensures { result ≡ is_failed_in self.now.patterns pattern link }
+    {
+        let failed = &self.patterns.at(pattern as usize).links;
+        failed.as_slice().iter().any(|one| *one == link)
+    }
+}
