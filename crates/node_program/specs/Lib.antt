@@ -1,0 +1,11 @@
+pub mod Code
+pub mod Combination
+pub mod CombinationLaws
+pub mod Value
+pub mod Decoding
+pub use Rattle.net_model.specs.Demands
+pub use Rattle.net_model.specs.Name
+pub use Rattle.net_model.specs.Lists
+pub use Rattle.net_model.specs.Network
+pub use Rattle.net_model.specs.Failed
+pub use Rattle.gf_tables.specs.Product

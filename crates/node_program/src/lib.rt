@@ -1,0 +1,28 @@
+//! Linear network codes as values, and what their links carry.
+#![tactic(auto)]
+
+mod code;
+mod lists;
+
+pub use code::Code;
+pub use gf_tables::FieldKind;
+pub use lists::{DecoderTable, Entries, OperandList, OperandTable};
+use net_model::LinkList;
+
+/// A summand of what a link carries: `times` times a row of the source or what another link carries.
+#[derive(Clone, Copy, Debug, PartialEq, Eq)]
+pub struct Operand {
+    /// The number of the row, on a link that leaves the source, else that of the other link.
+    pub from: u32,
+    /// The number of the coefficient.
+    pub times: u32,
+}
+
+/// How a sink gets the source rows from what the links into it carry.
+#[derive(Drop)]
+pub struct Decoder {
+    /// As many links as the rate, rising.
+    pub links: LinkList,
+    /// A square matrix, row by row.
+    pub entries: Entries,
+}
