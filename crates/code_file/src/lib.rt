@@ -1,0 +1,2 @@
+//! Code files: the one spelling of a code in bytes.
+#![tactic(auto)]

@@ -1,0 +1,27 @@
+-- The blocks of a file. A block is a count of four bytes, that many bytes of the file, and zeros.
+use Rattle.std.specs.Prelude.{ℕ, ◌+◌, ◌-◌, ◌*◌, ◌/◌, min, List, ◌++◌, length, map, take, drop, replicate}
+use Rattle.std.specs.List.{range_with_len}
+use Rattle.std.specs.Int.{to_be_bytes, from_be_bytes, w32}
+
+-- how many bytes of a file a block has room for
+abbrev pub capacity : ℕ → ℕ
+capacity rate = rate * 1024 - 4
+
+-- the block of these bytes
+abbrev pub block_of : ℕ → List ℕ → List ℕ
+block_of rate piece = to_be_bytes w32 (length piece) ++ piece ++ replicate (capacity rate - length piece) 0
+
+abbrev pub block_count : List ℕ → ℕ → ℕ
+block_count file rate = length file / capacity rate + 1
+
+-- the bytes of a file that the block of a number has
+abbrev pub piece_of : List ℕ → ℕ → ℕ → List ℕ
+piece_of file rate generation = take (capacity rate) (drop (generation * capacity rate) file)
+
+-- the blocks of a file, each at its generation
+abbrev pub blocks_of : List ℕ → ℕ → List (List ℕ)
+blocks_of file rate = map (λ generation. block_of rate (piece_of file rate generation)) (range_with_len 0 (block_count file rate))
+
+-- the bytes that a block counts, as far as it has them
+abbrev pub counted_bytes : List ℕ → List ℕ
+counted_bytes block = take (min (from_be_bytes w32 (take 4 block)) (length block - 4)) (drop 4 block)

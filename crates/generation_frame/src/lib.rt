@@ -1,0 +1,46 @@
+//! Blocks: how a file is cut into generations.
+#![tactic(auto)]
+
+ghost use Rattle.std.specs.Prelude.{◌≡◌, ◌<◌, ◌≤◌, ◌*◌, ◌+◌, ◌/◌, ◌%◌, length};
+ghost use Rattle.generation_frame.specs.Blocks.{capacity, block_of, counted_bytes};
+
+/// The bytes of a row.
+pub const ROW: usize = 1024;
+
+/// The bytes of the count at the front of a block.
+const COUNT: usize = 4;
+
+/// How many bytes of a file a block of `rate` rows has room for.
+pub fn cap(rate: u32) -> u32
+    requires some_rate { 1 ≤ rate }
+    requires low_rate { rate ≤ 32 }
+    ensures { result ≡ capacity rate }
+{
+    rate * 1024 - 4
+}
+
+/// Writes the block of a piece of a file: the count of its bytes, the bytes, and zeros. The block has 1 to 32
+/// rows of 1024 bytes, and room for the piece.
+pub fn cut(piece: &[u8], block: &mut [u8])
+    requires whole_rows { length block.old % 1024 ≡ 0 }
+    requires some_row { 1024 ≤ length block.old }
+    requires few_rows { length block.old ≤ 32768 }
+    requires room { length piece.now + 4 ≤ length block.old }
+    ensures { block.new ≡ block_of (length block.old / 1024) piece.now }
+{
+    let (count, rest) = block.split_at_mut(COUNT);
+    count.copy_from_slice(&(piece.len() as u32).to_be_bytes());
+    let (front, zeros) = rest.split_at_mut(piece.len());
+    front.copy_from_slice(piece);
+    zeros.fill(0);
+}
+
+/// The bytes that a block counts, as far as it has them.
+pub fn counted(block: &[u8]) -> &[u8]
+    requires { 4 ≤ length block.now }
+    ensures { result.now ≡ counted_bytes block.now }
+{
+    let count = u32::from_be_bytes([block[0], block[1], block[2], block[3]]) as usize;
+    let rest = &block[COUNT..];
+    &rest[..count.min(rest.len())]
+}
