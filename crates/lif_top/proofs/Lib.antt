@@ -1,0 +1,9 @@
+pub mod Digits
+pub mod Exits
+pub mod FrontLemmas
+pub mod OneLinkCode
+pub mod OneLinkReading
+pub mod OneLinkSink
+pub mod Complete
+pub mod Pieces
+pub mod Stages

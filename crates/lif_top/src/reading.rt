@@ -1,0 +1,87 @@
+//! Whole files, read within a limit.
+ghost use Rattle.std.specs.Prelude.{◌≡◌, ◌≤◌, ◌<◌, ◌+◌, ◌^◌, [], Some, length, true, false, IfOk, OnOk, OnErr, IsErrOf, vec_len, vec_capacity};
+ghost use Rattle.lif_outside.specs.Counts.{KeepsCounts, Rose};
+ghost use Rattle.lif_outside.specs.Files.{Files, bytes_at, SameFiles};
+ghost use Rattle.lif_outside.specs.Told.{Told, Becomes};
+ghost use Rattle.lif_top.specs.Fronts.{IsFront};
+
+use lif_outside::Store;
+
+/// How many bytes are read at a time.
+const CHUNK: usize = 16384;
+
+/// Why a whole file can't be had.
+#[derive(Clone, Copy, Debug, PartialEq, Eq)]
+pub enum ReadRefusal {
+    /// A read failed.
+    Fault,
+    /// The file has more bytes than the limit.
+    TooLong,
+    /// There was no memory.
+    OutOfMemory,
+}
+
+// Reads more of a file behind its front, and answers whether there was more. At most one byte past the limit
+// is read.
+fn read_more<S: Store>(
+    store: &mut S,
+    path: &str,
+    limit: usize,
+    chunk: &mut [u8],
+    front: &mut Vec<u8>,
+) -> Result<bool, ReadRefusal>
+    requires limit { limit < 2 ^ 41 }
+    requires within { vec_len front.old ≤ limit }
+    requires chunk { 0 < length chunk.old }
+    requires front { IsFront (S.files store.old) path.now front.old.items }
+    ensures front { IsFront (S.files store.new) path.now front.new.items }
+    ensures within { vec_len front.new ≤ limit + 1 }
+    ensures more { result ≡ Ok true → vec_len front.old < vec_len front.new }
+    ensures whole { result ≡ Ok false → Told (S.files store.new) (λ files. files path.now ≡ Some front.new.items) }
+    ensures end { result ≡ Ok false → vec_len front.new ≤ limit }
+    ensures fault { IsErrOf result ReadRefusal.Fault → Rose (S.read_faults store.old path.now) (S.read_faults store.new path.now) }
+    ensures short { IsErrOf result ReadRefusal.TooLong → ⊥ }
+    ensures memory { IsErrOf result ReadRefusal.OutOfMemory → vec_capacity front.old < limit + 1 }
+    ensures room { vec_capacity front.old ≤ vec_capacity front.new }
+    ensures unchanged { Becomes (S.files store.old) (S.files store.new) SameFiles }
+    ensures counts { KeepsCounts S.read_faults S.write_faults S.made store.old store.new }
+{
+    let at = front.len();
+    let room = chunk.len().min(limit + 1 - at);
+    match store.read(path, at as u64, &mut chunk[..room]) {
+        Err(_) => Err(ReadRefusal::Fault),
+        Ok(0) => Ok(false),
+        Ok(count) => match front.extend_from_slice(&chunk[..count]) {
+            Ok(()) => Ok(true),
+            Err(_) => Err(ReadRefusal::OutOfMemory),
+        },
+    }
+}
+
+/// Reads the whole file of a path, of at most `limit` bytes, into an empty vector. Where the vector has room
+/// for `limit` bytes and one more, it takes no memory.
+pub fn read_whole<S: Store>(
+    store: &mut S,
+    path: &str,
+    limit: usize,
+    empty: Vec<u8>,
+) -> Result<Vec<u8>, ReadRefusal>
+    requires empty { empty.items ≡ [] }
+    requires limit { limit < 2 ^ 41 }
+    ensures whole { IfOk result (λ bytes. Told (S.files store.old) (λ files. files path.now ≡ Some bytes.items)) }
+    ensures short { IfOk result (λ bytes. length bytes.items ≤ limit) }
+    ensures fault { IsErrOf result ReadRefusal.Fault → Rose (S.read_faults store.old path.now) (S.read_faults store.new path.now) }
+    ensures long { IsErrOf result ReadRefusal.TooLong → Told (S.files store.old) (λ files. limit < length (bytes_at files path.now)) }
+    ensures memory { IsErrOf result ReadRefusal.OutOfMemory → vec_capacity empty < limit + 1 }
+    ensures unchanged { Becomes (S.files store.old) (S.files store.new) SameFiles }
+    ensures counts { KeepsCounts S.read_faults S.write_faults S.made store.old store.new }
+{
+    let mut bytes = empty;
+    let mut chunk = [0; CHUNK];
+    while bytes.len() <= limit {
+        if !read_more(store, path, limit, &mut chunk, &mut bytes)? {
+            return Ok(bytes);
+        }
+    }
+    Err(ReadRefusal::TooLong)
+}

@@ -1,0 +1,80 @@
+//! What the program says.
+ghost use Rattle.std.specs.Prelude.{◌≡◌, ◌≤◌, ◌+◌, ◌/◌, ◌++◌, length, OnOk, OnErr};
+ghost use Rattle.lif_outside.specs.Counts.{Rose};
+ghost use Rattle.lif_outside.specs.Told.{Becomes, Adds, AddsPrefix};
+ghost use Rattle.lif_top.specs.Lines.{refusal_line, sent_line};
+ghost use Rattle.lif_top.specs.Sending.{source_limit};
+ghost use Rattle.lif_top.specs.Saying.{SaysRefusal, say_view};
+
+use crate::{CodeRefusal, RATE, Status};
+use arrayvec::ArrayString;
+use generation_frame::cap;
+use itoa::Buffer;
+use lif_outside::{Failed, Sink};
+
+/// The line of words that are no form.
+const USAGE: &[u8] =
+    b"usage: lif order NET | cuts NET | compile NET CODE REPORT | check CODE | send CODE PATTERN SEED SRC PREFIX | demo N K BYTES\n";
+
+/// Room for the line of a source that was sent.
+const LINE: usize = 128;
+
+// Adds a text to a line that has room for it.
+fn push(line: &mut ArrayString<LINE>, text: &str)
+    requires { length line.old.bytes + length text.now ≤ LINE }
+    ensures { line.new.bytes ≡ line.old.bytes ++ text.now }
+{
+    let _ = line.try_push_str(text);
+}
+
+/// The line of a source that was sent.
+fn sent_line(bytes: u64, generations: u64, sinks: u64) -> ArrayString<LINE>
+    ensures { result.bytes ≡ sent_line bytes generations sinks }
+{
+    let mut line = ArrayString::new();
+    let mut digits = Buffer::new();
+    push(&mut line, "sent ");
+    push(&mut line, digits.format(bytes));
+    push(&mut line, " bytes in ");
+    push(&mut line, digits.format(generations));
+    push(&mut line, " generations to ");
+    push(&mut line, digits.format(sinks));
+    push(&mut line, " sinks\n");
+    line
+}
+
+/// The line of a refusal.
+fn refusal_line(refusal: Status) -> &'static [u8]
+    ensures { result.now ≡ refusal_line refusal }
+{
+    match refusal {
+        Status::Done => b"",
+        Status::Usage => USAGE,
+        Status::CodeRefused(CodeRefusal::Unbuilt) => b"code refused: Unbuilt\n",
+        Status::ReadFault => b"read fault\n",
+        Status::WriteFault => b"write fault\n",
+        Status::TooLong => b"too long\n",
+        Status::OutOfMemory => b"out of memory\n",
+    }
+}
+
+/// Says the line of a refusal. Where that fails, the refusal stands.
+pub fn say_refusal<C: Sink>(refusal: Status, say: &mut C)
+    ensures said { SaysRefusal refusal (say_view C.written C.faults say.old) (say_view C.written C.faults say.new) }
+    ensures count { C.faults say.old ≤ C.faults say.new }
+{
+    let _ = say.put(refusal_line(refusal));
+}
+
+/// Says the line of a source that was sent to one sink, in one block and one more for each full one.
+pub fn say_sent<C: Sink>(bytes: usize, say: &mut C) -> Result<(), Failed>
+    requires { bytes ≤ source_limit }
+    ensures said { OnOk result (Becomes (C.written say.old) (C.written say.new) (Adds (sent_line bytes (bytes / 1020 + 1) 1))) }
+    ensures left { OnErr result (Becomes (C.written say.old) (C.written say.new) (AddsPrefix (sent_line bytes (bytes / 1020 + 1) 1))) }
+    ensures failed { OnErr result (Rose (C.faults say.old) (C.faults say.new)) }
+    ensures count { C.faults say.old ≤ C.faults say.new }
+{
+    let generations = bytes / cap(RATE) as usize + 1;
+    let line = sent_line(bytes as u64, generations as u64, 1);
+    say.put(line.as_str().as_bytes())
+}

@@ -1,0 +1,122 @@
+//! The command `send`.
+ghost use Rattle.std.specs.Prelude.{◌≡◌, ◌≤◌, ◌+◌, ℕ, List, [], length, IfOk, IfErr, OnOk, string_bytes, vec_capacity};
+ghost use Rattle.lif_outside.specs.Counts.{KeepsCounts};
+ghost use Rattle.lif_outside.specs.Files.{SameFiles};
+ghost use Rattle.lif_outside.specs.Told.{Becomes};
+ghost use Rattle.lif_top.specs.Ready.{IsReady};
+ghost use Rattle.lif_top.specs.Words.{paths_of};
+ghost use Rattle.lif_top.specs.Sending.{store_view, source_limit, SameStore, Fills, FillStops, Stops, Delivers, Ends};
+ghost use Rattle.lif_top.specs.Saying.{say_view};
+
+use crate::one_link::sink_of_one_link;
+use crate::output::output_path;
+use crate::reading::{ReadRefusal, read_whole};
+use crate::saying::{say_refusal, say_sent};
+use crate::transfer::carry_source;
+use crate::words::SendWords;
+use crate::{CodeRefusal, Status};
+use lif_outside::{Sink, Store};
+use std::alloc::Global;
+
+/// The greatest length of a source, in bytes.
+const SOURCE_LIMIT: usize = 67_108_864;
+
+/// The greatest length of a code file, in bytes.
+const CODE_LIMIT: usize = 268_435_456;
+
+// Makes the output and writes the source to it, by way of an empty vector with room for the source and one byte
+// more. Answers the length of the source.
+fn fill<S: Store>(
+    store: &mut S,
+    source: &str,
+    output: &str,
+    empty: Vec<u8>,
+) -> Result<usize, Status>
+    requires empty { empty.items ≡ [] }
+    requires room { source_limit + 1 ≤ vec_capacity empty }
+    ensures filled { IfOk result (λ count. (bytes : List ℕ) × (count ≡ length bytes)
+        × Fills source.now output.now (store_view S.files S.read_faults S.write_faults store.old) (store_view S.files S.read_faults S.write_faults store.new) bytes) }
+    ensures stops { IfErr result (FillStops source.now output.now (store_view S.files S.read_faults S.write_faults store.old) (store_view S.files S.read_faults S.write_faults store.new)) }
+    ensures counts { KeepsCounts S.read_faults S.write_faults S.made store.old store.new }
+{
+    let Ok(()) = store.create(output) else {
+        return Err(Status::WriteFault);
+    };
+    let bytes = match read_whole(store, source, SOURCE_LIMIT, empty) {
+        Ok(bytes) => bytes,
+        Err(ReadRefusal::Fault) => return Err(Status::ReadFault),
+        Err(ReadRefusal::TooLong) => return Err(Status::TooLong),
+        Err(ReadRefusal::OutOfMemory) => unreachable!(),
+    };
+    let Ok(()) = carry_source(store, output, &bytes) else {
+        return Err(Status::WriteFault);
+    };
+    Ok(bytes.len())
+}
+
+// What is had before anything is made: the path of the sink's file, and room for the source and one byte more.
+struct Prepared {
+    output: String,
+    room: Vec<u8>,
+}
+
+// Reads the code, and takes all memory.
+fn prepare<S: Store>(
+    alloc: Global,
+    words: &SendWords<'_>,
+    store: &mut S,
+) -> Result<Prepared, Status>
+    ensures ready { IfOk result (λ ready. IsReady (paths_of words.now) (store_view S.files S.read_faults S.write_faults store.old) ready) }
+    ensures stops { IfErr result (Stops (paths_of words.now) (store_view S.files S.read_faults S.write_faults store.old) (store_view S.files S.read_faults S.write_faults store.new)) }
+    ensures unchanged { Becomes (S.files store.old) (S.files store.new) SameFiles }
+    ensures counts { KeepsCounts S.read_faults S.write_faults S.made store.old store.new }
+{
+    let bytes = match read_whole(store, words.code, CODE_LIMIT, Vec::new(alloc)) {
+        Ok(bytes) => bytes,
+        Err(ReadRefusal::Fault) => return Err(Status::ReadFault),
+        Err(ReadRefusal::TooLong) => return Err(Status::TooLong),
+        Err(ReadRefusal::OutOfMemory) => return Err(Status::OutOfMemory),
+    };
+    let Some(sink) = sink_of_one_link(&bytes) else {
+        return Err(Status::CodeRefused(CodeRefusal::Unbuilt));
+    };
+    let output = output_path(alloc, words.prefix, sink)?;
+    let room = Vec::with_capacity(alloc, SOURCE_LIMIT + 1)?;
+    Ok(Prepared { output, room })
+}
+
+// Delivers the source to the sink's file, and answers its length.
+fn deliver<S: Store>(alloc: Global, words: &SendWords<'_>, store: &mut S) -> Result<usize, Status>
+    ensures delivered { IfOk result (λ count. (bytes : List ℕ) × (count ≡ length bytes)
+        × Delivers (paths_of words.now) (store_view S.files S.read_faults S.write_faults store.old) (store_view S.files S.read_faults S.write_faults store.new) bytes) }
+    ensures stops { IfErr result (Stops (paths_of words.now) (store_view S.files S.read_faults S.write_faults store.old) (store_view S.files S.read_faults S.write_faults store.new)) }
+    ensures counts { KeepsCounts S.read_faults S.write_faults S.made store.old store.new }
+{
+    let Prepared { output, room } = prepare(alloc, words, store)?;
+    fill(store, words.source, output.as_str(), room)
+}
+
+/// Delivers the source of the command to the sink's file, and says so.
+pub fn send<S: Store, C: Sink>(
+    alloc: Global,
+    words: &SendWords<'_>,
+    store: &mut S,
+    say: &mut C,
+) -> Status
+    ensures ends { Ends (paths_of words.now)
+        (store_view S.files S.read_faults S.write_faults store.old) (store_view S.files S.read_faults S.write_faults store.new)
+        (say_view C.written C.faults say.old) (say_view C.written C.faults say.new) result }
+    ensures counts { KeepsCounts S.read_faults S.write_faults S.made store.old store.new }
+    ensures say_count { C.faults say.old ≤ C.faults say.new }
+{
+    match deliver(alloc, words, store) {
+        Ok(count) => match say_sent(count, say) {
+            Ok(()) => Status::Done,
+            Err(_) => Status::WriteFault,
+        },
+        Err(refusal) => {
+            say_refusal(refusal, say);
+            refusal
+        }
+    }
+}
