@@ -1,0 +1,27 @@
+-- What a store over the files of the system shows.
+use Rattle.std.specs.Prelude.{ℕ, List, Option, None}
+use Rattle.lif_outside.specs.Files.{Files}
+use Rattle.lif_cli.specs.declared.disk.DiskStore.{DiskStore}
+
+-- how often a read has failed
+abbrev pub read_faults_of : DiskStore → ℕ
+read_faults_of store = store.read_faults
+
+-- how often a create or an append has failed
+abbrev pub write_faults_of : DiskStore → ℕ
+write_faults_of store = store.write_faults
+
+-- the counts of a path: all paths have one
+abbrev pub path_read_faults : DiskStore → List ℕ → ℕ
+path_read_faults store path = read_faults_of store
+
+abbrev pub path_write_faults : DiskStore → List ℕ → ℕ
+path_write_faults store path = write_faults_of store
+
+-- any path may be appended to: where no file is, that is a fault
+abbrev pub any_path : DiskStore → List ℕ → Type 0
+any_path store path = Unit {0}
+
+-- it tells nothing of the files
+abbrev pub no_files : DiskStore → Option Files
+no_files store = None

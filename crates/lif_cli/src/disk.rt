@@ -1,0 +1,157 @@
+//! A store over the files of the system.
+ghost use Rattle.std.specs.Prelude.{◌≡◌, ◌≤◌, ◌^◌, [], length, drop, IfOk, OnOk, OnErr};
+ghost use Rattle.lif_outside.specs.Counts.{KeepsCounts, Rose};
+ghost use Rattle.lif_outside.specs.Files.{SameFiles, Reads, Writes, MayEmpty, Appends, AppendsPrefix};
+ghost use Rattle.lif_outside.specs.Told.{Told, Becomes};
+ghost use Rattle.lif_cli.specs.Disk.{read_faults_of, write_faults_of, path_read_faults, path_write_faults, any_path, no_files};
+ghost use Rattle.lif_cli.specs.Faults.{one_more};
+
+use crate::faults::counted;
+use crate::pieces::{read_full, write_full};
+use lif_outside::{Failed, Store};
+use std::fs::{File, OpenOptions};
+use std::io::{Seek, SeekFrom};
+use std::rt::Files;
+use std::{fs, io};
+
+/// The files of the system, by their paths. It tells nothing of what they hold.
+#[derive(Drop)]
+pub struct DiskStore<'r> {
+    rt: &'r HostRuntime,
+    read_faults: u64,
+    write_faults: u64,
+}
+
+impl<'r> DiskStore<'r> {
+    /// A store that has had no fault.
+    pub fn new(rt: &'r HostRuntime) -> DiskStore<'r>
+        ensures reads { read_faults_of result ≡ 0 }
+        ensures writes { write_faults_of result ≡ 0 }
+    {
+        DiskStore {
+            rt,
+            read_faults: 0,
+            write_faults: 0,
+        }
+    }
+}
+
+// Reads bytes of a file, from a place on.
+fn read_at<R: Files>(rt: &R, path: &str, at: u64, into: &mut [u8]) -> io::Result<usize>
+    ensures count { IfOk result (λ n. n ≤ length into.old) }
+    ensures rest { IfOk result (λ n. drop n into.new ≡ drop n into.old) }
+{
+    let mut file = fs::open(rt, path)?;
+    file.seek(SeekFrom::Start(at))?;
+    read_full(&mut file, into)
+}
+
+// Makes an empty file, in place of one that is there.
+fn create_empty<R: Files>(rt: &R, path: &str) -> io::Result<()> {
+    File::create(rt, path)?;
+    Ok(())
+}
+
+// Adds bytes at the end of a file that is there.
+fn append_to<R: Files>(rt: &R, path: &str, bytes: &[u8]) -> io::Result<()> {
+    let mut file = OpenOptions::new().append(true).open(rt, path)?;
+    write_full(&mut file, bytes)
+}
+
+impl<'r> Store for DiskStore<'r> {
+    ghost files = { no_files };
+
+    ghost read_faults = { path_read_faults };
+
+    ghost write_faults = { path_write_faults };
+
+    ghost made = { any_path };
+
+    fn read(&mut self, path: &str, at: u64, into: &mut [u8]) -> Result<usize, Failed>
+        requires { at ≤ 2 ^ 41 }
+        ensures count { IfOk result (λ n. n ≤ length into.old) }
+        ensures rest { IfOk result (λ n. drop n into.new ≡ drop n into.old) }
+        ensures bytes { IfOk result (λ n. Told (no_files self.old) (λ files. Reads files path.now at n into.old into.new)) }
+        ensures failed { OnErr result (Rose (path_read_faults self.old path.now) (path_read_faults self.new path.now)) }
+        ensures unchanged { Becomes (no_files self.old) (no_files self.new) SameFiles }
+        ensures counts { KeepsCounts path_read_faults path_write_faults any_path self.old self.new }
+
+        // A fault is counted exactly where the read fails.
+        ensures faults_ok { OnOk result (read_faults_of self.new ≡ read_faults_of self.old) }
+        ensures faults_err { OnErr result (read_faults_of self.new ≡ one_more (read_faults_of self.old)) }
+        ensures writes { write_faults_of self.new ≡ write_faults_of self.old }
+    {
+        let outcome = read_at(self.rt, path, at, into);
+        counted(outcome, &mut self.read_faults)
+    }
+
+    fn create(&mut self, path: &str) -> Result<(), Failed>
+        ensures created { OnOk result (Becomes (no_files self.old) (no_files self.new) (Writes path.now [])) }
+        ensures made { OnOk result (any_path self.new path.now) }
+        ensures failed { OnErr result (Rose (path_write_faults self.old path.now) (path_write_faults self.new path.now)) }
+        ensures left { OnErr result (Becomes (no_files self.old) (no_files self.new) (MayEmpty path.now)) }
+        ensures counts { KeepsCounts path_read_faults path_write_faults any_path self.old self.new }
+
+        // A fault is counted exactly where the create fails.
+        ensures faults_ok { OnOk result (write_faults_of self.new ≡ write_faults_of self.old) }
+        ensures faults_err { OnErr result (write_faults_of self.new ≡ one_more (write_faults_of self.old)) }
+        ensures reads { read_faults_of self.new ≡ read_faults_of self.old }
+    {
+        counted(create_empty(self.rt, path), &mut self.write_faults)
+    }
+
+    fn append(&mut self, path: &str, bytes: &[u8]) -> Result<(), Failed>
+        requires { any_path self.old path.now }
+        ensures appended { OnOk result (Becomes (no_files self.old) (no_files self.new) (Appends path.now bytes.now)) }
+        ensures failed { OnErr result (Rose (path_write_faults self.old path.now) (path_write_faults self.new path.now)) }
+        ensures left { OnErr result (Becomes (no_files self.old) (no_files self.new) (AppendsPrefix path.now bytes.now)) }
+        ensures counts { KeepsCounts path_read_faults path_write_faults any_path self.old self.new }
+
+        // A fault is counted exactly where the append fails.
+        ensures faults_ok { OnOk result (write_faults_of self.new ≡ write_faults_of self.old) }
+        ensures faults_err { OnErr result (write_faults_of self.new ≡ one_more (write_faults_of self.old)) }
+        ensures reads { read_faults_of self.new ≡ read_faults_of self.old }
+    {
+        counted(append_to(self.rt, path, bytes), &mut self.write_faults)
+    }
+}
+
+#[cfg(test)]
+mod tests {
+    use super::*;
+    use std::test::Fail;
+
+    const LONG: usize = 5000;
+
+    #[test]
+    fn keeps_bytes_on_disk(rt: HostRuntime) -> Result<(), Fail> {
+        let path = "disk-store-test";
+        let mut store = DiskStore::new(&rt);
+        assert_eq!(rt; store.create(path), Ok(()));
+        assert_eq!(rt; store.append(path, b"abc"), Ok(()));
+        assert_eq!(rt; store.append(path, b"de"), Ok(()));
+        for (at, count, found) in [
+            (0, 4, *b"abcd"),
+            (3, 2, *b"de.."),
+            (5, 0, *b"...."),
+            (9, 0, *b"...."),
+        ] {
+            let mut into = *b"....";
+            assert_eq!(rt; store.read(path, at, &mut into), Ok(count), "at {at}");
+            assert_eq!(rt; into, found, "at {at}");
+        }
+        let mut into = [0; LONG];
+        assert_eq!(rt; store.append(path, &[7; LONG]), Ok(()));
+        assert_eq!(rt; store.read(path, 5, &mut into), Ok(LONG));
+        assert_eq!(rt; into, [7; LONG]);
+        assert_eq!(rt; store.create(path), Ok(()));
+        assert_eq!(rt; store.read(path, 0, &mut into), Ok(0));
+        assert_eq!(rt; (store.read_faults, store.write_faults), (0, 0));
+        fs::remove_file(&rt, path)?;
+        assert_eq!(rt; store.read(path, 0, &mut into), Err(Failed));
+        assert_eq!(rt; store.append(path, b"f"), Err(Failed));
+        assert_eq!(rt; store.create("no-such-folder/file"), Err(Failed));
+        assert_eq!(rt; (store.read_faults, store.write_faults), (1, 2));
+        Ok(())
+    }
+}
