@@ -1,0 +1,4 @@
+pub mod OneLink
+pub mod Butterfly
+pub mod CutButterfly
+pub mod Sevens

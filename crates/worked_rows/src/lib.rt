@@ -1,0 +1,10 @@
+//! Worked examples: what the definitions give on codes, links, blocks and elements that are written out.
+#![tactic(auto)]
+
+pub mod accepting;
+pub mod blocks;
+pub mod files;
+pub mod links;
+pub mod products;
+#[cfg(test)]
+mod tests;

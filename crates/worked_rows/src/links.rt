@@ -1,0 +1,29 @@
+//! What the links of the butterfly carry, and which of them are live.
+ghost use Rattle.std.specs.Prelude.{◌≡◌, ℕ, List, [], ◌∷◌, map, true, false};
+ghost use Rattle.std.specs.List.{range_with_len};
+ghost use Rattle.node_program.specs.Value.{global_vector, is_live};
+ghost use Rattle.worked_rows.specs.Butterfly.{butterfly};
+ghost use Rattle.worked_rows.specs.CutButterfly.{cut_butterfly};
+
+/// Where no link fails, the link from `c` to `d` and those behind it carry the sum of the two rows, and
+/// each other link one of them.
+pub fn butterfly_vectors()
+    ensures { let x : List ℕ = 1 ∷ 0 ∷ [] in
+        let y : List ℕ = 0 ∷ 1 ∷ [] in
+        let sum : List ℕ = 1 ∷ 1 ∷ [] in
+        map (global_vector butterfly 0) (range_with_len 0 9) ≡ x ∷ y ∷ x ∷ y ∷ x ∷ y ∷ sum ∷ sum ∷ sum ∷ [] }
+{}
+
+/// Where the link from `s` to `a` fails, no link carries the first row.
+pub fn cut_vectors()
+    ensures failed { global_vector cut_butterfly 1 0 ≡ 0 ∷ 0 ∷ [] }
+    ensures each { let none : List ℕ = 0 ∷ 0 ∷ [] in
+        let y : List ℕ = 0 ∷ 1 ∷ [] in
+        map (global_vector cut_butterfly 1) (range_with_len 0 9) ≡ none ∷ y ∷ none ∷ y ∷ none ∷ y ∷ y ∷ y ∷ y ∷ [] }
+{}
+
+/// Where the link from `s` to `a` fails, the links that only it feeds aren't live, and the others are.
+pub fn live_links()
+    ensures { map (is_live cut_butterfly 1) (range_with_len 0 9)
+        ≡ false ∷ true ∷ false ∷ true ∷ false ∷ true ∷ true ∷ true ∷ true ∷ [] }
+{}
