@@ -14,7 +14,8 @@ use std::io::{Seek, SeekFrom};
 use std::rt::Files;
 use std::{fs, io};
 
-/// The files of the system, by their paths. It tells nothing of what they hold.
+/// The files of the system, by their paths. It tells nothing of what they hold, and doesn't force what was
+/// written out of the system's memory.
 #[derive(Drop)]
 pub struct DiskStore<'r> {
     rt: &'r HostRuntime,

@@ -1,13 +1,22 @@
 -- The stages of `send`, one after another.
-use Rattle.std.proofs.Common.{◌≡◌, ◌≤◌, ◌<◌, ℕ, List, [], length, Some, inl, inr, ⊎_elim}
+use Rattle.std.proofs.Common.{◌≡◌, ◌≤◌, ◌<◌, ℕ, List, [], length, Option, Some, inl, inr, ⊎_elim}
 use Rattle.std.specs.Prelude.{unwrap_or}
 use Rattle.node_program.specs.declared.code.Code.{Code}
 use Rattle.lif_outside.specs.Counts.{then_rose}
-use Rattle.lif_outside.specs.Files.{before_same, same_then_written, same_then_written_prefix, same_then_may_empty}
+use Rattle.lif_outside.specs.Files.{Files, Writes, before_same, before_written, same_then_written, same_then_written_prefix, same_then_may_empty}
+use Rattle.lif_outside.specs.Told.{Told, Becomes}
 use Rattle.lif_top.specs.Sending.{StoreView, SameStore, ReadsCode, ReadsSource, Fills, FillStops, Stops, Uncreated, Unwritten, SourceUnread, SourceTooLong, output_path, source_limit}
 use Rattle.lif_top.specs.Words.{Send}
 use Rattle.lif_top.specs.declared.status.Status.{Status}
 use Rattle.lif_top.specs.declared.status.Status.TheVariants.{Done, Usage, CodeRefused, ReadFault, WriteFault, TooLong, OutOfMemory}
+
+-- the source, read after the output was made
+pub reads_source : (old : StoreView) (made : Option Files) (source output bytes : List ℕ) → length bytes ≤ source_limit
+    → Becomes old.files made (Writes output []) → Told made (λ files. files source ≡ Some bytes) → ReadsSource source output old bytes
+reads_source old made source output bytes short emptied read = record {
+  short = short;
+  held = λ apart. before_written old.files made output [] source (λ file. file ≡ Some bytes) apart emptied read;
+}
 
 -- what is done after a stage that changes no file
 module _ (source output : List ℕ) (old mid new : StoreView) (same : SameStore old mid)
