@@ -1,8 +1,9 @@
 //! Code files of the examples.
-ghost use Rattle.std.specs.Prelude.{◌≡◌, slice_set};
+ghost use Rattle.std.specs.Prelude.{◌≡◌, [], ◌∷◌, ◌++◌, take, drop, slice_range, slice_set, codes};
 ghost use Rattle.code_file.specs.Items.{bytes_of};
 ghost use Rattle.worked_rows.specs.OneLink.{one_link, wide_one_link};
 ghost use Rattle.worked_rows.specs.Butterfly.{butterfly, changed_butterfly};
+ghost use Rattle.worked_rows.specs.CutButterfly.{cut_butterfly};
 
 /// One link, over the field of 256 elements.
 pub const ONE_LINK: &[u8] = b"LIFC\x01\x08\x01\
@@ -70,4 +71,12 @@ pub fn butterfly_is_spelled()
 /// The file of the butterfly with the first entry of the second decoder changed differs in that byte.
 pub fn changed_butterfly_is_spelled()
     ensures { bytes_of changed_butterfly ≡ slice_set BUTTERFLY.now 173 2 }
+{}
+
+/// The file of the butterfly with the pattern `cut` of the link 0: where the number of listed patterns stands,
+/// the pattern too, and each decoder once more.
+pub fn cut_butterfly_is_spelled()
+    ensures { bytes_of cut_butterfly
+        ≡ take 111 BUTTERFLY.now ++ (0 ∷ 1 ∷ 3 ∷ codes "cut") ++ (0 ∷ 1 ∷ 0 ∷ 0 ∷ [])
+        ++ slice_range BUTTERFLY.now 113 169 ++ drop 161 BUTTERFLY.now ++ drop 169 BUTTERFLY.now }
 {}

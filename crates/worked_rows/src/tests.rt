@@ -41,8 +41,8 @@ const ONE_BYTE: Row<'static> = Row {
 // The letters from `A` on, again and again.
 fn letters(alloc: Global, count: usize) -> Result<Vec<u8>, AllocError> {
     let mut bytes = Vec::with_capacity(alloc, count)?;
-    for letter in (b'A'..=b'Z').cycle().take(count) {
-        bytes.push(letter)?;
+    for place in 0..count {
+        bytes.push(b'A' + (place % 26) as u8)?;
     }
     Ok(bytes)
 }
@@ -53,6 +53,17 @@ fn words_of(alloc: Global, words: &[&str]) -> Result<Vec<String>, AllocError> {
         owned.push(String::from_str(alloc, word)?)?;
     }
     Ok(owned)
+}
+
+// The top call alone: what it promises is proved, and the tests look at what comes of it.
+fn call<R: Threads + Sync>(
+    rt: &R,
+    alloc: Global,
+    words: &[String],
+    store: &mut MemStore,
+    say: &mut MemSink,
+) -> Status {
+    lif(rt, alloc, words, store, say)
 }
 
 // Does the call of a row, and looks at all that comes of it.
@@ -71,7 +82,7 @@ fn check<R: Abort + Threads + Sync>(
         store.put_file(alloc, "src", source.as_slice())?;
     }
     let words = words_of(alloc, row.words)?;
-    let status = lif(rt, alloc, words.as_slice(), &mut store, &mut say);
+    let status = call(rt, alloc, words.as_slice(), &mut store, &mut say);
     assert_eq!(rt; status, row.status, "{}", row.name);
     assert_eq!(rt; say.bytes(), row.line.as_bytes(), "{}", row.name);
     let want = row.kept.and_then(|count| source.get(..count));
@@ -79,16 +90,19 @@ fn check<R: Abort + Threads + Sync>(
     Ok(())
 }
 
+// The length of the source, how many bytes a read gives at most, and the line.
+const LENGTHS: &[(usize, usize, &str)] = &[
+    (1, 65536, "sent 1 bytes in 1 generations to 1 sinks\n"),
+    (0, 65536, "sent 0 bytes in 1 generations to 1 sinks\n"),
+    (1019, 65536, "sent 1019 bytes in 1 generations to 1 sinks\n"),
+    (1020, 65536, "sent 1020 bytes in 2 generations to 1 sinks\n"),
+    (1021, 65536, "sent 1021 bytes in 2 generations to 1 sinks\n"),
+    (1021, 1, "sent 1021 bytes in 2 generations to 1 sinks\n"),
+];
+
 #[test]
 fn a_source_comes_to_the_sink(rt: HostRuntime) -> Result<(), test::Fail> {
-    for (count, most, line) in [
-        (1, 65536, "sent 1 bytes in 1 generations to 1 sinks\n"),
-        (0, 65536, "sent 0 bytes in 1 generations to 1 sinks\n"),
-        (1019, 65536, "sent 1019 bytes in 1 generations to 1 sinks\n"),
-        (1020, 65536, "sent 1020 bytes in 2 generations to 1 sinks\n"),
-        (1021, 65536, "sent 1021 bytes in 2 generations to 1 sinks\n"),
-        (1021, 1, "sent 1021 bytes in 2 generations to 1 sinks\n"),
-    ] {
+    for &(count, most, line) in LENGTHS {
         let row = Row {
             name: line,
             source: Some(count),
@@ -111,7 +125,7 @@ const NO_FORM: Row<'static> = Row {
     ..ONE_BYTE
 };
 
-const WORDS: [Row<'static>; 6] = [
+const WORDS: &[Row<'static>] = &[
     NO_FORM,
     Row {
         name: "a word too few",
@@ -143,7 +157,7 @@ const WORDS: [Row<'static>; 6] = [
 #[test]
 fn words_that_are_no_form_are_refused(rt: HostRuntime) -> Result<(), test::Fail> {
     for row in WORDS {
-        check(&rt, rt.alloc(), &row)?;
+        check(&rt, rt.alloc(), row)?;
     }
     Ok(())
 }
@@ -180,7 +194,7 @@ const WRITE_FAULT: Row<'static> = Row {
     ..ONE_BYTE
 };
 
-const REFUSALS: [Row<'static>; 9] = [
+const REFUSALS: &[Row<'static>] = &[
     UNBUILT,
     READ_FAULT,
     WRITE_FAULT,
@@ -241,7 +255,7 @@ const REFUSALS: [Row<'static>; 9] = [
 #[test]
 fn refusals_say_their_lines(rt: HostRuntime) -> Result<(), test::Fail> {
     for row in REFUSALS {
-        check(&rt, rt.alloc(), &row)?;
+        check(&rt, rt.alloc(), row)?;
     }
     Ok(())
 }
@@ -277,7 +291,7 @@ struct Paths {
     held: &'static [u8],
 }
 
-const PATHS: [Paths; 4] = [
+const PATHS: &[Paths] = &[
     Paths {
         code: "code",
         source: "code",
@@ -316,7 +330,7 @@ fn paths_may_be_one(rt: HostRuntime) -> Result<(), test::Fail> {
             alloc,
             &["send", paths.code, "none", "1", paths.source, "out"],
         )?;
-        let status = lif(&rt, alloc, words.as_slice(), &mut store, &mut say);
+        let status = call(&rt, alloc, words.as_slice(), &mut store, &mut say);
         assert_eq!(rt; status, Status::Done);
         assert_eq!(rt; say.bytes(), paths.line.as_bytes());
         assert!(rt;
