@@ -2,6 +2,7 @@
 use crate::files::{BUTTERFLY, ONE_LINK};
 use lif_outside::{Call, Fail, MemSink, MemStore};
 use lif_top::{CodeRefusal, Status, lif};
+use net_model::{Name, NameFault};
 use std::alloc::{AllocError, Global};
 use std::process::Abort;
 use std::test;
@@ -340,5 +341,21 @@ fn paths_may_be_one(rt: HostRuntime) -> Result<(), test::Fail> {
             paths.source
         );
     }
+    Ok(())
+}
+
+#[test]
+fn names_are_kept(rt: HostRuntime) -> Result<(), test::Fail> {
+    let alloc = rt.alloc();
+    let kept = match Name::of(alloc, "t".as_bytes()) {
+        Ok(name) => name.bytes() == "t".as_bytes(),
+        Err(_) => false,
+    };
+    assert!(rt; kept, "a name is refused, or kept otherwise");
+    let refused = match Name::of(alloc, "a/b".as_bytes()) {
+        Err(NameFault::BadName) => true,
+        _ => false,
+    };
+    assert!(rt; refused, "a slash is taken");
     Ok(())
 }
