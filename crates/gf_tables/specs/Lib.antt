@@ -8,6 +8,7 @@ pub mod PowersLaws
 pub mod TablesTest
 pub mod Poly11D
 pub mod Nibbles
+pub mod Halves
 pub mod NoRoot
 pub mod PairLaws
 pub mod PairNumbers

@@ -3,6 +3,7 @@
 
 mod field;
 mod kind;
+mod lanes;
 mod nibbles;
 mod octet;
 mod quad;

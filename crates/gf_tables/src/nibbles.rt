@@ -1,8 +1,10 @@
 //! Products with one fixed element, by tables of half a byte each.
-ghost use Rattle.std.specs.Prelude.{◌≡◌, ◌≤◌, ℕ};
+ghost use Rattle.std.specs.Prelude.{◌≡◌, ◌≤◌, ℕ, bit_xor, length, map};
+ghost use Rattle.std.specs.Simd.Lanes.{zip2};
 ghost use Rattle.gf_tables.specs.Nibbles.{AreProducts};
 ghost use Rattle.gf_tables.specs.Product.{octet_product};
 
+use crate::lanes::LaneTables;
 use crate::{Field, Generates, Octet};
 use std::marker::Model;
 
@@ -47,6 +49,17 @@ impl<T: Generates> NibbleTables<T> {
         ensures { result ≡ octet_product T.POLY self.now byte }
     {
         self.low[(byte & 15) as usize] ^ self.high[(byte >> 4) as usize]
+    }
+
+    /// Adds to each byte of `into` the product of the element with the byte of `from` at its place.
+    pub fn add_scaled(&self, into: &mut [u8], from: &[u8])
+        requires { length into.old ≡ length from.now }
+        ensures { into.new ≡ zip2 bit_xor into.old (map (octet_product T.POLY self.now) from.now) }
+    {
+        let lanes = LaneTables::new(&self.low, &self.high);
+        for place in lanes.add_blocks(into, from)..from.len() {
+            into[place] ^= self.times(from[place]);
+        }
     }
 }
 

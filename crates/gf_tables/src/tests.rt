@@ -103,6 +103,38 @@ fn by_nibbles(rt: HostRuntime) {
     }
 }
 
+// Bytes from a first one on, each a step above the one before.
+fn in_steps(first: u8, step: u8) -> [u8; 1100] {
+    let mut bytes = [first; 1100];
+    for place in 1..1100 {
+        bytes[place] = bytes[place - 1].wrapping_add(step);
+    }
+    bytes
+}
+
+#[test]
+fn products_added_to_rows(rt: HostRuntime) {
+    let from = in_steps(5, 3);
+    let before = in_steps(1, 2);
+    for multiplier in [0, 1, 2, 0x1D, 0x80, 0xFF] {
+        let element = Gf8::of_number(multiplier);
+        let tables = NibbleTables::new(element);
+        for count in [0, 1, 63, 64, 65, 128, 200, 1024] {
+            let mut into = before;
+            tables.add_scaled(&mut into[..count], &from[..count]);
+            for place in 0..1100 {
+                let product = element.mul(Gf8::of_number(from[place] as u32)).number() as u8;
+                let added = if place < count { product } else { 0 };
+                assert_eq!(rt;
+                    into[place],
+                    before[place] ^ added,
+                    "{multiplier} at {place} of {count}"
+                );
+            }
+        }
+    }
+}
+
 // Threads can share values of the type.
 fn shared<T: Send + Sync>() {}
 

@@ -1,0 +1,3 @@
+pub mod Halves
+pub mod LookUps
+pub mod Added
