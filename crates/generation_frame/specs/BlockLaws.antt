@@ -1,7 +1,9 @@
--- A block gives back its bytes.
-use Rattle.std.specs.Prelude.{◌≡◌, ℕ, ◌≤◌, ◌<◌, ◌^◌, ◌-◌, List, ◌++◌, length, take, replicate}
+-- A block gives back its bytes, has the length of its rows, and is of bytes.
+use Rattle.std.specs.Prelude.{◌≡◌, ℕ, ◌≤◌, ◌<◌, ◌^◌, ◌+◌, ◌-◌, ◌*◌, ◌/◌, ◌%◌, List, [], ◌∷◌, ◌++◌, length, take, replicate}
+use Rattle.std.specs.List.{All}
 use Rattle.std.proofs.Common.{refl, ap, ◌∙◌, arith}
-use Rattle.std.proofs.lemmas.List.{take_at, length-append}
+use Rattle.std.proofs.lemmas.List.{take_at, length-append, length-replicate}
+use Rattle.std.proofs.lemmas.List.Elements.{All-cons, All-append, All-replicate}
 use Rattle.std.proofs.lemmas.Nat.{from_be_bytes-to_be_bytes_4}
 use Rattle.generation_frame.specs.Blocks.{capacity, block_of, counted_bytes}
 
@@ -11,3 +13,22 @@ counted-block rate piece fits =
     let zeros = replicate {A = ℕ} (capacity rate - length piece) 0 in
     let whole : length piece ≤ length (piece ++ zeros) = omega (arith, length-append piece zeros) in
     ap (λ n. take n (piece ++ zeros)) (omega (arith, from_be_bytes-to_be_bytes_4 (length piece) fits)) ∙ take_at piece zeros (length piece) refl
+
+-- a block has as many bytes as its rows
+pub length-block : (rate : ℕ) (piece : List ℕ) → 1 ≤ rate → length piece ≤ capacity rate → length (block_of rate piece) ≡ rate * 1024
+length-block rate piece some fits =
+    let zeros = replicate {A = ℕ} (capacity rate - length piece) 0 in
+    omega (arith, length-append piece zeros, length-replicate {A = ℕ} (capacity rate - length piece) 0)
+
+-- a block of bytes has bytes
+pub block-bytes : (rate : ℕ) (piece : List ℕ) → All (λ byte. byte < 256) piece → All (λ byte. byte < 256) (block_of rate piece)
+block-bytes rate piece bytes =
+    let P : ℕ → Type 0 = λ byte. byte < 256 in
+    let n = length piece in
+    let zeros = replicate {A = ℕ} (capacity rate - length piece) 0 in
+    let body = piece ++ zeros in
+    let whole = All-append P piece zeros bytes (All-replicate P (capacity rate - length piece) 0 (omega arith)) in
+    let one = All-cons P (n % 256) body (omega arith) whole in
+    let two = All-cons P (n / 256 % 256) (n % 256 ∷ body) (omega arith) one in
+    let three = All-cons P (n / 65536 % 256) (n / 256 % 256 ∷ n % 256 ∷ body) (omega arith) two in
+    All-cons P (n / 16777216 % 256) (n / 65536 % 256 ∷ n / 256 % 256 ∷ n % 256 ∷ body) (omega arith) three

@@ -52,6 +52,7 @@ fn each_call<F: Field>(n: u32, m: u32) -> [u32; 7]
 #[test]
 fn through_the_bound(rt: HostRuntime) {
     assert_eq!(rt; each_call::<Gf8>(2, 0x80), [0x82, 0x1D, 0x1B, 1, 256, 1, 8]);
+    assert_eq!(rt; each_call::<Gf8>(3, 2), [1, 6, 0x8E, 1, 256, 1, 8]);
     assert_eq!(rt; each_call::<Gf8>(2, 3), [1, 6, 0xF4, 1, 256, 1, 8]);
     assert_eq!(rt;
         each_call::<Gf16>(3, 0x0100),

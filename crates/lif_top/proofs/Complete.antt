@@ -6,6 +6,7 @@ use Rattle.lif_outside.specs.Files.{Files, bytes_at}
 use Rattle.lif_outside.specs.Told.{Told}
 use Rattle.code_file.specs.Items.{bytes_of}
 use Rattle.node_program.specs.declared.code.Code.{Code}
+use Rattle.node_program.specs.Decoding.{IsAccepted}
 use Rattle.lif_top.specs.OneLink.{IsOneLink}
 use Rattle.lif_top.specs.Program.{HasCode, HasLongCode, HasNoCode, ReadsWell, NoFault, IsOrNoMemory, Answers}
 use Rattle.lif_top.specs.Saying.{SayView}
@@ -24,7 +25,7 @@ module _ (send : Send) (old new : StoreView) (say_old say_new : SayView) where
   -- the code was read, but there is none that is built
   not_read : (none : HasNoCode send old) → (code : Code) → ReadsCode send old code → ⊥
   not_read none code read =
-      none.unbuilt code read.built (known old.files none.files (λ files. files send.code ≡ Some (bytes_of code)) none.told read.held)
+      none.unbuilt code read.built read.accepted (known old.files none.files (λ files. files send.code ≡ Some (bytes_of code)) none.told read.held)
 
   -- the code was found too long, but it isn't
   not_long : (files : Files) → old.files ≡ Some files → length (bytes_at files send.code) ≤ code_limit → CodeTooLong send old new → ⊥
@@ -53,7 +54,7 @@ module _ (send : Send) (old new : StoreView) (say_old say_new : SayView) (has : 
   same_output code read =
       let held = known old.files has.files (λ files. files send.code ≡ Some (bytes_of code)) has.told read.held in
       let same : bytes_of has.code ≡ bytes_of code = ap (λ file. unwrap_or file (bytes_of code)) (sym has.spelled ∙ held) in
-      ap (λ name. send.prefix ++ 46 ∷ name) (same_sink has.code code has.built read.built same)
+      ap (λ name. send.prefix ++ 46 ∷ name) (same_sink has.code code has.built has.accepted read.built read.accepted same)
 
   no_rise_at : (code : Code) → ReadsCode send old code → Rose (old.write_faults (output_path send code)) (new.write_faults (output_path send code)) → ⊥
   no_rise_at code read rose = no_fault.output_written (subst (λ path. Rose (old.write_faults path) (new.write_faults path)) (sym (same_output code read)) rose)
@@ -86,7 +87,7 @@ module _ (send : Send) (old new : StoreView) (say_old say_new : SayView) (has : 
 
   code_is_built : CodeUnbuilt send old new → ⊥
   code_is_built stop =
-      known old.files has.files (λ files. (code : Code) → IsOneLink code → files send.code ≢ Some (bytes_of code)) has.told stop.unbuilt has.code has.built has.spelled
+      known old.files has.files (λ files. (code : Code) → IsOneLink code → IsAccepted code → files send.code ≢ Some (bytes_of code)) has.told stop.unbuilt has.code has.built has.accepted has.spelled
 
   no_read_fault : CodeUnread send old new ⊎ AfterCode send old (λ output. SourceUnread send.source output old new) → ⊥
   no_read_fault = ⊎_elim (λ stop. no_fault.code_read stop.rose) (λ after. no_fault.source_read after.after.rose)

@@ -1,7 +1,14 @@
 -- Exits by `?`.
-use Rattle.std.specs.Prelude.{Result, Ok, Err, OnErr}
+use Rattle.std.specs.Prelude.{◌≡◌, Result, Ok, Err, IfErr, OnErr}
+use Rattle.std.specs.Result.{IsErrAnd}
+use Rattle.std.proofs.Common.{sym, subst}
 
 -- what holds at an exit, said of the error there
 pub on_err : {T E P : Type 0} (r : Result T E) → P → OnErr r P
 on_err (Ok x) p = tt
 on_err (Err e) p = p
+
+-- what holds of the error that an exit is made with
+pub if_err : {T E : Type 0} (P : E → Type 0) (r : Result T E) (made : E) → IsErrAnd r (λ error. error ≡ made) → P made → IfErr r P
+if_err P (Ok x) made is p = tt
+if_err P (Err error) made is p = subst P (sym is) p

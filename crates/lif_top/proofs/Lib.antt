@@ -2,6 +2,7 @@ pub mod Digits
 pub mod Exits
 pub mod FrontLemmas
 pub mod OneLinkCode
+pub mod OneLinkParts
 pub mod OneLinkReading
 pub mod OneLinkSink
 pub mod Complete

@@ -1,19 +1,19 @@
 -- A file of a code with one link, part by part.
-use Rattle.std.proofs.Common.{◌≡◌, ◌≢◌, ℕ, Bool, true, false, not, Option, Some, None, List, ◌++◌, length, take, drop, refl, sym, ap, subst, ◌∙◌}
+use Rattle.std.proofs.Common.{◌≡◌, ◌≢◌, ℕ, Bool, true, false, not, Option, Some, None, List, ◌++◌, length, get_or, take, drop, arith, refl, sym, ap, subst, ◌∙◌}
 use Rattle.std.specs.Bool.{then_some}
 use Rattle.std.specs.Option.{IfNone}
 use Rattle.std.specs.Str.{bytes_eq}
-use Rattle.std.proofs.lemmas.Bool.{not-false, both_ways}
+use Rattle.std.proofs.lemmas.Bool.{not-false}
 use Rattle.std.proofs.lemmas.List.{take_at, drop_at, append_cancel_left}
 use Rattle.std.proofs.lemmas.Slice.Eq.{bytes_eq-Decides}
 use Rattle.net_model.specs.Name.{IsName}
-use Rattle.node_program.specs.declared.code.Code.{Code}
-use Rattle.code_file.specs.Items.{name_item, number_item, bytes_of}
+use Rattle.code_file.specs.Items.{name_item, number_item}
 use Rattle.lif_top.specs.declared.one_link.Direction.{Direction}
 use Rattle.lif_top.specs.declared.one_link.Direction.TheVariants.{Forward, Backward}
-use Rattle.lif_top.specs.OneLink.{IsOneLink, SpellsSink}
-use Rattle.lif_top.specs.OneLinkFile.{front, ending, SpellsNodes, SpellsLink}
-use Rattle.lif_top.proofs.OneLinkCode.{AreNames, IsOneLinkFile, file, sink_of, code_by_names, code_by_names-built, code_by_names-bytes, code_by_names-sink, code_by_names-accepted, file_of}
+use Rattle.lif_top.specs.OneLink.{IsNoFile, SpellsCode}
+use Rattle.lif_top.specs.OneLinkFile.{front, ends, coefficients, SpellsNodes, SpellsLink, SpellsInverse}
+use Rattle.lif_top.proofs.OneLinkCode.{AreParts, file, sink_of, code_of_parts, code_of_parts-built, code_of_parts-carries, code_of_parts-takes, code_of_parts-bytes, code_of_parts-sink, code_of_parts-accepted}
+use Rattle.lif_top.proofs.OneLinkParts.{IsOneLinkFile, file_of}
 
 -- a list begins with a name's item in one way
 pub name_item-cancel : (a b r s : List ℕ) → name_item a ++ r ≡ name_item b ++ s → (a ≡ b) × (r ≡ s)
@@ -23,28 +23,46 @@ name_item-cancel a b r s e =
     let same : a ≡ b = sym (take_at a r (length a) refl) ∙ ap (take (length a)) names ∙ take_at b s (length a) (sym lengths) in
     (same, sym (drop_at a r (length a) refl) ∙ ap (drop (length a)) names ∙ drop_at b s (length a) (sym lengths))
 
+-- which way a link leads, and what follows, in one way
+pub ends-cancel : (way other : Direction) (r s : List ℕ) → ends way ++ r ≡ ends other ++ s → (way ≡ other) × (r ≡ s)
+ends-cancel Forward Forward r s e = (refl, append_cancel_left (ends Forward) r s e)
+ends-cancel Backward Backward r s e = (refl, append_cancel_left (ends Backward) r s e)
+ends-cancel Forward Backward r s e = absurd (omega (arith, ap (λ (bytes : List ℕ). get_or bytes 1 0) e))
+ends-cancel Backward Forward r s e = absurd (omega (arith, ap (λ (bytes : List ℕ). get_or bytes 1 0) e))
+
 -- what follows the names of the nodes, in one way
 pub nodes-cancel : (bytes a b r c d s : List ℕ) → SpellsNodes bytes a b r → SpellsNodes bytes c d s → r ≡ s
 nodes-cancel bytes a b r c d s x y =
     let first = name_item-cancel a c (name_item b ++ r) (name_item d ++ s) (sym x.spelled ∙ y.spelled) in
     (name_item-cancel b d r s first.1).1
 
--- what follows the names of the nodes in a file
-abbrev pub behind_of : {bytes : List ℕ} → IsOneLinkFile bytes → List ℕ
-behind_of is = number_item 1 ++ (name_item is.link ++ ending is.way)
+-- what follows the name of the link, in one way
+link-cancel : (bytes r s : List ℕ) → SpellsLink bytes r → SpellsLink bytes s → r ≡ s
+link-cancel bytes r s x y =
+    (name_item-cancel x.name y.name r s (append_cancel_left (number_item 1) _ _ (sym x.spelled ∙ y.spelled))).1
+
+-- what follows the names of the nodes, and what follows that of the link, in a file
+abbrev pub behind_nodes : {bytes : List ℕ} → IsOneLinkFile bytes → List ℕ
+behind_nodes is = number_item 1 ++ (name_item is.link ++ (ends is.way ++ coefficients is.times is.entry))
+
+abbrev pub behind_link : {bytes : List ℕ} → IsOneLinkFile bytes → List ℕ
+behind_link is = ends is.way ++ coefficients is.times is.entry
 
 -- the parts of a file
-module _ (bytes rest : List ℕ) (stripped : bytes ≡ front ++ rest) (is : IsOneLinkFile bytes) where
-  pub nodes_stand : SpellsNodes rest is.first is.second (behind_of is)
-  nodes_stand = record {
-    first_name = is.names.first;
-    second_name = is.names.second;
-    apart = is.names.apart;
+module _ (bytes : List ℕ) (is : IsOneLinkFile bytes) where
+  pub nodes_stand : (rest : List ℕ) → bytes ≡ front ++ rest → SpellsNodes rest is.first is.second (behind_nodes is)
+  nodes_stand rest stripped = record {
+    first_name = is.parts.first;
+    second_name = is.parts.second;
+    apart = is.parts.apart;
     spelled = append_cancel_left front rest _ (sym stripped ∙ is.spelled);
   }
 
-  pub link_stands : SpellsLink (behind_of is) is.way
-  link_stands = record { name = is.link; valid = is.names.link; spelled = refl }
+  pub link_stands : SpellsLink (behind_nodes is) (behind_link is)
+  link_stands = record { name = is.link; valid = is.parts.link; spelled = refl }
+
+  pub inverse_stands : SpellsInverse (coefficients is.times is.entry) is.times is.entry
+  inverse_stands = record { spelled = refl; times_below = is.parts.times_below; entry_below = is.parts.entry_below; inverse = is.parts.inverse }
 
 -- a name, but no second one behind it
 pub no_second : (bytes a r : List ℕ) → bytes ≡ name_item a ++ r → ((name rest : List ℕ) → IsName name → r ≢ name_item name ++ rest)
@@ -72,44 +90,62 @@ if_not P false x r e h = rw e (h refl)
 pub same_from_ne : (a b : List ℕ) → not (bytes_eq a b) ≡ false → a ≡ b
 same_from_ne a b e = (bytes_eq-Decides a b).0 (not-false (bytes_eq a b) e)
 
--- the number of links, a name, and what follows it
-module _ (bytes name rest behind : List ℕ) (stripped : bytes ≡ number_item 1 ++ behind) (split : IsName name × (behind ≡ name_item name ++ rest)) where
-  pub link_found : (way : Direction) → bytes_eq rest (ending way) ≡ true → SpellsLink bytes way
-  link_found way ends = record {
-    name = name;
-    valid = split.0;
-    spelled = stripped ∙ ap (λ (b : List ℕ). number_item 1 ++ b) (split.1 ∙ ap (λ (r : List ℕ). name_item name ++ r) ((bytes_eq-Decides rest (ending way)).0 ends));
-  }
-
-  ends_so : (way : Direction) → SpellsLink bytes way → bytes_eq rest (ending way) ≡ true
-  ends_so way is =
-      let behind_is = append_cancel_left (number_item 1) behind (name_item is.name ++ ending way) (sym stripped ∙ is.spelled) in
-      (bytes_eq-Decides rest (ending way)).1 (name_item-cancel name is.name rest (ending way) (sym split.1 ∙ behind_is)).1
-
-  pub no_link : bytes_eq rest (ending Forward) ≡ false → bytes_eq rest (ending Backward) ≡ false → (way : Direction) → SpellsLink bytes way → ⊥
-  no_link not_forward not_backward Forward is = both_ways _ not_forward (ends_so Forward is)
-  no_link not_forward not_backward Backward is = both_ways _ not_backward (ends_so Backward is)
+-- no name behind the number of links
+pub no_link : (bytes behind : List ℕ) → bytes ≡ number_item 1 ++ behind → ((name rest : List ℕ) → IsName name → behind ≢ name_item name ++ rest)
+    → (rest : List ℕ) → SpellsLink bytes rest → ⊥
+no_link bytes behind stripped none rest is =
+    none is.name rest is.valid (append_cancel_left (number_item 1) behind _ (sym stripped ∙ is.spelled))
 
 -- bytes that are no such file are the file of no such code
-pub unbuilt : (bytes : List ℕ) → (IsOneLinkFile bytes → ⊥) → (code : Code) → IsOneLink code → bytes ≢ bytes_of code
-unbuilt bytes refuted code built e = refuted (subst IsOneLinkFile (sym e) (file_of code built).file)
+pub no_file : (bytes : List ℕ) → (IsOneLinkFile bytes → ⊥) → IsNoFile bytes
+no_file bytes refuted code built accepted e = refuted (subst IsOneLinkFile (sym e) (file_of code built accepted).file)
 
+-- a file, read as far as the names of the nodes
 module _ (bytes rest first second behind : List ℕ) (stripped : bytes ≡ front ++ rest) (nodes : SpellsNodes rest first second behind) where
-  pub no_file : ((way : Direction) → SpellsLink behind way → ⊥) → IsOneLinkFile bytes → ⊥
-  no_file none is =
-      let same : behind_of is ≡ behind = nodes-cancel rest is.first is.second (behind_of is) first second behind (nodes_stand bytes rest stripped is) nodes in
-      none is.way (subst (λ b. SpellsLink b is.way) same (link_stands bytes rest stripped is))
+  nodes_are : (is : IsOneLinkFile bytes) → behind_nodes is ≡ behind
+  nodes_are is = nodes-cancel rest is.first is.second (behind_nodes is) first second behind (nodes_stand bytes is rest stripped) nodes
 
-  pub spells_sink : (way : Direction) → SpellsLink behind way → SpellsSink bytes (sink_of first second way)
-  spells_sink way link =
-      let names : AreNames first second link.name = record { first = nodes.first_name; second = nodes.second_name; apart = nodes.apart; link = link.valid } in
-      let code = code_by_names first second link.name way names in
-      let whole : bytes ≡ file first second link.name way =
-      stripped ∙ ap (λ (r : List ℕ). front ++ r) (nodes.spelled ∙ ap (λ (r : List ℕ). name_item first ++ (name_item second ++ r)) link.spelled) in
-      record {
-        code = code;
-        built = code_by_names-built first second link.name way names;
-        accepted = code_by_names-accepted first second link.name way names;
-        spelled = whole ∙ sym (code_by_names-bytes first second link.name way names);
-        named = sym (code_by_names-sink first second link.name way names);
-      }
+  pub no_link_behind : ((rest : List ℕ) → SpellsLink behind rest → ⊥) → IsOneLinkFile bytes → ⊥
+  no_link_behind none is = none (behind_link is) (subst (λ b. SpellsLink b (behind_link is)) (nodes_are is) (link_stands bytes is))
+
+  -- as far as the name of the link
+  module _ (tail : List ℕ) (link : SpellsLink behind tail) where
+    link_is : (is : IsOneLinkFile bytes) → behind_link is ≡ tail
+    link_is is = link-cancel behind (behind_link is) tail (subst (λ b. SpellsLink b (behind_link is)) (nodes_are is) (link_stands bytes is)) link
+
+    pub no_direction : ((way : Direction) (rest : List ℕ) → tail ≢ ends way ++ rest) → IsOneLinkFile bytes → ⊥
+    no_direction none is = none is.way (coefficients is.times is.entry) (sym (link_is is))
+
+    -- as far as the operand's row
+    module _ (way : Direction) (pair : List ℕ) (led : tail ≡ ends way ++ pair) where
+      pub no_inverse : ((times entry : ℕ) → SpellsInverse pair times entry → ⊥) → IsOneLinkFile bytes → ⊥
+      no_inverse none is =
+          let same = ends-cancel is.way way (coefficients is.times is.entry) pair (link_is is ∙ led) in
+          none is.times is.entry (subst (λ b. SpellsInverse b is.times is.entry) same.1 (inverse_stands bytes is))
+
+      pub spells_code : (times entry : ℕ) → SpellsInverse pair times entry → SpellsCode bytes (sink_of first second way) times entry
+      spells_code times entry undone =
+          let parts : AreParts first second link.name times entry = record {
+            first = nodes.first_name;
+            second = nodes.second_name;
+            apart = nodes.apart;
+            link = link.valid;
+            times_below = undone.times_below;
+            entry_below = undone.entry_below;
+            inverse = undone.inverse;
+          } in
+          let after_link : tail ≡ ends way ++ coefficients times entry = led ∙ ap (λ (r : List ℕ). ends way ++ r) undone.spelled in
+          let after_nodes : behind ≡ number_item 1 ++ (name_item link.name ++ (ends way ++ coefficients times entry)) =
+          link.spelled ∙ ap (λ (r : List ℕ). number_item 1 ++ (name_item link.name ++ r)) after_link in
+          let whole : bytes ≡ file first second link.name way times entry =
+          stripped ∙ ap (λ (r : List ℕ). front ++ r) (nodes.spelled ∙ ap (λ (r : List ℕ). name_item first ++ (name_item second ++ r)) after_nodes) in
+          record {
+            code = code_of_parts first second link.name way times entry parts;
+            built = code_of_parts-built first second link.name way times entry parts;
+            accepted = code_of_parts-accepted first second link.name way times entry parts;
+            spelled = whole ∙ sym (code_of_parts-bytes first second link.name way times entry parts);
+            named = sym (code_of_parts-sink first second link.name way times entry parts);
+            carries = code_of_parts-carries first second link.name way times entry parts;
+            takes = code_of_parts-takes first second link.name way times entry parts;
+            inverse = undone.inverse;
+          }

@@ -1,10 +1,13 @@
 -- The stages of `send`, one after another.
-use Rattle.std.proofs.Common.{◌≡◌, ◌≤◌, ◌<◌, ℕ, List, [], length, Option, Some, inl, inr, ⊎_elim}
+use Rattle.std.proofs.Common.{◌≡◌, ◌≢◌, ◌≤◌, ◌<◌, ℕ, List, [], length, Option, Some, inl, inr, refl, ⊎_elim}
 use Rattle.std.specs.Prelude.{unwrap_or}
 use Rattle.node_program.specs.declared.code.Code.{Code}
-use Rattle.lif_outside.specs.Counts.{then_rose}
-use Rattle.lif_outside.specs.Files.{Files, Writes, before_same, before_written, same_then_written, same_then_written_prefix, same_then_may_empty}
+use Rattle.lif_outside.specs.Counts.{Rose, then_rose}
+use Rattle.lif_outside.specs.Files.{Files, bytes_at, Writes, before_same, before_written, same_then_written, same_then_written_prefix, same_then_may_empty}
 use Rattle.lif_outside.specs.Told.{Told, Becomes}
+use Rattle.lif_top.specs.Reading.{status_of}
+use Rattle.lif_top.specs.declared.reading.ReadRefusal.{ReadRefusal}
+use Rattle.lif_top.specs.declared.reading.ReadRefusal.TheVariants as read
 use Rattle.lif_top.specs.Sending.{StoreView, SameStore, ReadsCode, ReadsSource, Fills, FillStops, Stops, Uncreated, Unwritten, SourceUnread, SourceTooLong, output_path, source_limit}
 use Rattle.lif_top.specs.Words.{Send}
 use Rattle.lif_top.specs.declared.status.Status.{Status}
@@ -17,6 +20,16 @@ reads_source old made source output bytes short emptied read = record {
   short = short;
   held = λ apart. before_written old.files made output [] source (λ file. file ≡ Some bytes) apart emptied read;
 }
+
+-- how a source that can't be had stops what is to be written, where there was room for it
+pub no_source : (source output : List ℕ) (old new : StoreView) (refusal : ReadRefusal) → Becomes old.files new.files (Writes output [])
+    → (refusal ≡ read.Fault → Rose (old.read_faults source) (new.read_faults source))
+    → (refusal ≡ read.TooLong → output ≢ source → Told old.files (λ files. source_limit < length (bytes_at files source)))
+    → (refusal ≡ read.OutOfMemory → ⊥)
+    → FillStops source output old new (status_of refusal)
+no_source source output old new read.Fault left fault long memory = record { left = left; rose = fault refl }
+no_source source output old new read.TooLong left fault long memory = record { left = left; long = long refl }
+no_source source output old new read.OutOfMemory left fault long memory = memory refl
 
 -- what is done after a stage that changes no file
 module _ (source output : List ℕ) (old mid new : StoreView) (same : SameStore old mid)

@@ -4,9 +4,11 @@ pub mod Lines
 pub mod OneLink
 pub mod OneLinkFile
 pub mod Program
+pub mod Reading
 pub mod Ready
 pub mod Saying
 pub mod Sending
+pub mod Transfer
 pub mod Words
 pub use Rattle.code_file.specs.Items
 pub use Rattle.generation_frame.specs.Blocks

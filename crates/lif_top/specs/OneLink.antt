@@ -1,6 +1,8 @@
--- The codes that are built so far: one link from the source to the one sink, which carries the source unchanged.
-use Rattle.std.specs.Prelude.{◌≡◌, ℕ, List, [], ◌∷◌, length, slice_get, slice_index, unwrap_or}
+-- The codes that are built so far: of the field of 256 elements, at rate 1, with two nodes, one link, one sink and
+-- no listed pattern.
+use Rattle.std.specs.Prelude.{◌≡◌, ◌≢◌, ℕ, List, [], ◌∷◌, length, slice_get, slice_index, unwrap_or}
 use Rattle.gf_tables.specs.declared.kind.FieldKind.TheVariants.{Eight}
+use Rattle.gf_tables.specs.Product.{product}
 use Rattle.code_file.specs.Items.{bytes_of}
 use Rattle.node_program.specs.declared.code.Code.{Code}
 use Rattle.node_program.specs.Decoding.{IsAccepted}
@@ -12,19 +14,23 @@ pub record IsOneLink (code : Code) : Type 0 where
   pub one_link : length code.net.links ≡ 1
   pub one_sink : length code.net.sinks ≡ 1
   pub none_listed : length code.net.patterns ≡ 1
-  -- the link carries the first row, times 1
-  pub carries : code.operands ≡ (record { from = 0; times = 1 } ∷ []) ∷ []
-  -- the sink takes what the link carries, times 1
-  pub takes : code.decoders ≡ record { links = 0 ∷ []; entries = 1 ∷ [] } ∷ []
 
 -- the name of the one sink
 abbrev pub sink_name : Code → List ℕ
 sink_name code = unwrap_or (slice_get code.net.nodes (slice_index code.net.sinks 0)) []
 
--- the bytes are the file of such a code, which is accepted and has a sink of this name
-pub record SpellsSink (bytes sink : List ℕ) : Type 0 where
+-- no accepted code of this kind has the bytes as its file
+abbrev pub IsNoFile : List ℕ → Type 0
+IsNoFile bytes = (code : Code) → IsOneLink code → IsAccepted code → bytes ≢ bytes_of code
+
+-- The bytes are the file of an accepted code of this kind. Its sink has this name, its link carries the first row
+-- times a coefficient, and its sink takes what the link carries times an entry, which undoes the coefficient.
+pub record SpellsCode (bytes sink : List ℕ) (times entry : ℕ) : Type 0 where
   pub code : Code
   pub built : IsOneLink code
   pub accepted : IsAccepted code
   pub spelled : bytes ≡ bytes_of code
   pub named : sink ≡ sink_name code
+  pub carries : code.operands ≡ (record { from = 0; times = times } ∷ []) ∷ []
+  pub takes : code.decoders ≡ record { links = 0 ∷ []; entries = entry ∷ [] } ∷ []
+  pub inverse : product Eight entry times ≡ 1

@@ -4,6 +4,7 @@ use Rattle.lif_outside.specs.Counts.{Rose}
 use Rattle.lif_outside.specs.Files.{Files, bytes_at}
 use Rattle.code_file.specs.Items.{bytes_of}
 use Rattle.node_program.specs.declared.code.Code.{Code}
+use Rattle.node_program.specs.Decoding.{IsAccepted}
 use Rattle.lif_top.specs.OneLink.{IsOneLink}
 use Rattle.lif_top.specs.Saying.{SayView, SaysRefusal}
 use Rattle.lif_top.specs.Sending.{StoreView, SameStore, code_limit, source_limit, output_path}
@@ -17,13 +18,14 @@ pub record Misused (old new : StoreView) (say_old say_new : SayView) : Type 0 wh
   pub unchanged : SameStore old new
   pub says : SaysRefusal Usage say_old say_new
 
--- In a store that tells its files, the path of the code holds the file of a code that is built, within its limit,
--- and the path of the sink's file is neither that of the code nor that of the source.
+-- In a store that tells its files, the path of the code holds the file of an accepted code that is built, within its
+-- limit, and the path of the sink's file is neither that of the code nor that of the source.
 pub record HasCode (send : Send) (old : StoreView) : Type 0 where
   pub files : Files
   pub told : old.files ≡ Some files
   pub code : Code
   pub built : IsOneLink code
+  pub accepted : IsAccepted code
   pub spelled : files send.code ≡ Some (bytes_of code)
   pub short : length (bytes_of code) ≤ code_limit
   pub apart_from_code : output_path send code ≢ send.code
@@ -46,12 +48,12 @@ pub record HasLongCode (send : Send) (old : StoreView) : Type 0 where
   pub told : old.files ≡ Some files
   pub long : code_limit < length (bytes_at files send.code)
 
--- the path of the code holds the file of no code that is built
+-- the path of the code holds the file of no accepted code that is built
 pub record HasNoCode (send : Send) (old : StoreView) : Type 0 where
   pub files : Files
   pub told : old.files ≡ Some files
   pub short : length (bytes_at files send.code) ≤ code_limit
-  pub unbuilt : (code : Code) → IsOneLink code → files send.code ≢ Some (bytes_of code)
+  pub unbuilt : (code : Code) → IsOneLink code → IsAccepted code → files send.code ≢ Some (bytes_of code)
 
 -- the reading of the code didn't fail
 abbrev pub ReadsWell : Send → StoreView → StoreView → Type 0

@@ -78,7 +78,7 @@ FillStops source output old new WriteFault = Uncreated output old new ⊎ Unwrit
 FillStops source output old new TooLong = SourceTooLong source output old new
 FillStops source output old new status = ⊥
 
--- the path of the code holds the file of a code that is built
+-- the path of the code holds the file of an accepted code that is built
 pub record ReadsCode (send : Send) (old : StoreView) (code : Code) : Type 0 where
   pub built : IsOneLink code
   pub accepted : IsAccepted code
@@ -99,11 +99,11 @@ pub record CodeTooLong (send : Send) (old new : StoreView) : Type 0 where
   pub unchanged : SameStore old new
   pub long : Told old.files (λ files. code_limit < length (bytes_at files send.code))
 
--- no code that is built has the bytes as its file
+-- no accepted code that is built has the bytes as its file
 pub record CodeUnbuilt (send : Send) (old new : StoreView) : Type 0 where
   pub unchanged : SameStore old new
   pub short : Told old.files (λ files. length (bytes_at files send.code) ≤ code_limit)
-  pub unbuilt : Told old.files (λ files. (code : Code) → IsOneLink code → files send.code ≢ Some (bytes_of code))
+  pub unbuilt : Told old.files (λ files. (code : Code) → IsOneLink code → IsAccepted code → files send.code ≢ Some (bytes_of code))
 
 -- how a refusal leaves the store
 abbrev pub Stops : Send → StoreView → StoreView → Status → Type 0

@@ -1,6 +1,7 @@
 //! The program: words to commands, and what they do.
 #![tactic(auto)]
 
+mod carrier;
 mod one_link;
 mod output;
 mod program;

@@ -7,7 +7,7 @@ ghost use Rattle.lif_top.specs.Sending.{store_view, Ends};
 ghost use Rattle.lif_top.specs.Words.{send_of};
 
 use crate::Status;
-use crate::saying::say_refusal;
+use crate::saying::refuse;
 use crate::sending::send;
 use crate::words::send_of;
 use lif_outside::{Sink, Store};
@@ -46,9 +46,6 @@ pub fn lif<S: Store, C: Sink, R: Threads + Sync>(
 {
     match send_of(words) {
         Some(paths) => send(alloc, &paths, store, say),
-        None => {
-            say_refusal(Status::Usage, say);
-            Status::Usage
-        }
+        None => refuse(Status::Usage, say),
     }
 }

@@ -5,6 +5,7 @@ ghost use Rattle.lif_outside.specs.Files.{Files, bytes_at, SameFiles};
 ghost use Rattle.lif_outside.specs.Told.{Told, Becomes};
 ghost use Rattle.lif_top.specs.Fronts.{IsFront};
 
+use crate::Status;
 use lif_outside::Store;
 
 /// How many bytes are read at a time.
@@ -19,6 +20,21 @@ pub enum ReadRefusal {
     TooLong,
     /// There was no memory.
     OutOfMemory,
+}
+
+impl From<ReadRefusal> for Status {
+    ghost use Rattle.std.specs.Prelude.{◌≡◌};
+    ghost use Rattle.lif_top.specs.Reading.{status_of};
+
+    ghost from_gives = { λ refusal status. status ≡ status_of refusal };
+
+    fn from(refusal: ReadRefusal) -> Status {
+        match refusal {
+            ReadRefusal::Fault => Status::ReadFault,
+            ReadRefusal::TooLong => Status::TooLong,
+            ReadRefusal::OutOfMemory => Status::OutOfMemory,
+        }
+    }
 }
 
 // Reads more of a file behind its front, and answers whether there was more. At most one byte past the limit

@@ -1,14 +1,13 @@
 //! What the program says.
-ghost use Rattle.std.specs.Prelude.{◌≡◌, ◌≤◌, ◌+◌, ◌/◌, ◌++◌, length, OnOk, OnErr};
+ghost use Rattle.std.specs.Prelude.{◌≡◌, ◌≤◌, ◌+◌, ◌++◌, length, OnOk, OnErr};
 ghost use Rattle.lif_outside.specs.Counts.{Rose};
 ghost use Rattle.lif_outside.specs.Told.{Becomes, Adds, AddsPrefix};
 ghost use Rattle.lif_top.specs.Lines.{refusal_line, sent_line};
-ghost use Rattle.lif_top.specs.Sending.{source_limit};
 ghost use Rattle.lif_top.specs.Saying.{SaysRefusal, say_view};
 
-use crate::{CodeRefusal, RATE, Status};
+use crate::transfer::SentCounts;
+use crate::{CodeRefusal, Status};
 use arrayvec::ArrayString;
-use generation_frame::cap;
 use itoa::Buffer;
 use lif_outside::{Failed, Sink};
 
@@ -58,23 +57,23 @@ fn refusal_line(refusal: Status) -> &'static [u8]
     }
 }
 
-/// Says the line of a refusal. Where that fails, the refusal stands.
-pub fn say_refusal<C: Sink>(refusal: Status, say: &mut C)
+/// Says the line of a refusal, and answers the refusal, which stands also where the line couldn't be said.
+pub fn refuse<C: Sink>(refusal: Status, say: &mut C) -> Status
+    ensures refusal { result ≡ refusal }
     ensures said { SaysRefusal refusal (say_view C.written C.faults say.old) (say_view C.written C.faults say.new) }
     ensures count { C.faults say.old ≤ C.faults say.new }
 {
     let _ = say.put(refusal_line(refusal));
+    refusal
 }
 
-/// Says the line of a source that was sent to one sink, in one block and one more for each full one.
-pub fn say_sent<C: Sink>(bytes: usize, say: &mut C) -> Result<(), Failed>
-    requires { bytes ≤ source_limit }
-    ensures said { OnOk result (Becomes (C.written say.old) (C.written say.new) (Adds (sent_line bytes (bytes / 1020 + 1) 1))) }
-    ensures left { OnErr result (Becomes (C.written say.old) (C.written say.new) (AddsPrefix (sent_line bytes (bytes / 1020 + 1) 1))) }
+/// Says the line of a source that was sent to one sink.
+pub fn say_sent<C: Sink>(counts: &SentCounts, say: &mut C) -> Result<(), Failed>
+    ensures said { OnOk result (Becomes (C.written say.old) (C.written say.new) (Adds (sent_line counts.now.bytes counts.now.generations 1))) }
+    ensures left { OnErr result (Becomes (C.written say.old) (C.written say.new) (AddsPrefix (sent_line counts.now.bytes counts.now.generations 1))) }
     ensures failed { OnErr result (Rose (C.faults say.old) (C.faults say.new)) }
     ensures count { C.faults say.old ≤ C.faults say.new }
 {
-    let generations = bytes / cap(RATE) as usize + 1;
-    let line = sent_line(bytes as u64, generations as u64, 1);
+    let line = sent_line(counts.bytes, counts.generations, 1);
     say.put(line.as_str().as_bytes())
 }

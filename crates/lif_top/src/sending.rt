@@ -7,12 +7,14 @@ ghost use Rattle.lif_top.specs.Ready.{IsReady};
 ghost use Rattle.lif_top.specs.Words.{paths_of};
 ghost use Rattle.lif_top.specs.Sending.{store_view, source_limit, SameStore, Fills, FillStops, Stops, Delivers, Ends};
 ghost use Rattle.lif_top.specs.Saying.{say_view};
+ghost use Rattle.lif_top.specs.Transfer.{AreCounts};
 
-use crate::one_link::sink_of_one_link;
+use crate::carrier::Carrier;
+use crate::one_link::read_one_link;
 use crate::output::output_path;
-use crate::reading::{ReadRefusal, read_whole};
-use crate::saying::{say_refusal, say_sent};
-use crate::transfer::carry_source;
+use crate::reading::read_whole;
+use crate::saying::{refuse, say_sent};
+use crate::transfer::{SentCounts, carry_source};
 use crate::words::SendWords;
 use crate::{CodeRefusal, Status};
 use lif_outside::{Sink, Store};
@@ -25,16 +27,17 @@ const SOURCE_LIMIT: usize = 67_108_864;
 const CODE_LIMIT: usize = 268_435_456;
 
 // Makes the output and writes the source to it, by way of an empty vector with room for the source and one byte
-// more. Answers the length of the source.
+// more.
 fn fill<S: Store>(
+    carrier: &Carrier,
     store: &mut S,
     source: &str,
     output: &str,
     empty: Vec<u8>,
-) -> Result<usize, Status>
+) -> Result<SentCounts, Status>
     requires empty { empty.items ≡ [] }
     requires room { source_limit + 1 ≤ vec_capacity empty }
-    ensures filled { IfOk result (λ count. (bytes : List ℕ) × (count ≡ length bytes)
+    ensures filled { IfOk result (λ counts. (bytes : List ℕ) × AreCounts bytes counts
         × Fills source.now output.now (store_view S.files S.read_faults S.write_faults store.old) (store_view S.files S.read_faults S.write_faults store.new) bytes) }
     ensures stops { IfErr result (FillStops source.now output.now (store_view S.files S.read_faults S.write_faults store.old) (store_view S.files S.read_faults S.write_faults store.new)) }
     ensures counts { KeepsCounts S.read_faults S.write_faults S.made store.old store.new }
@@ -42,20 +45,17 @@ fn fill<S: Store>(
     let Ok(()) = store.create(output) else {
         return Err(Status::WriteFault);
     };
-    let bytes = match read_whole(store, source, SOURCE_LIMIT, empty) {
-        Ok(bytes) => bytes,
-        Err(ReadRefusal::Fault) => return Err(Status::ReadFault),
-        Err(ReadRefusal::TooLong) => return Err(Status::TooLong),
-        Err(ReadRefusal::OutOfMemory) => unreachable!(),
-    };
-    let Ok(()) = carry_source(store, output, &bytes) else {
+    let bytes = read_whole(store, source, SOURCE_LIMIT, empty)?;
+    let Ok(counts) = carry_source(carrier, store, output, &bytes) else {
         return Err(Status::WriteFault);
     };
-    Ok(bytes.len())
+    Ok(counts)
 }
 
-// What is had before anything is made: the path of the sink's file, and room for the source and one byte more.
+// What is had before anything is made: the code at work, the path of the sink's file, and room for the source and
+// one byte more.
 struct Prepared {
+    carrier: Carrier,
     output: String,
     room: Vec<u8>,
 }
@@ -71,29 +71,37 @@ fn prepare<S: Store>(
     ensures unchanged { Becomes (S.files store.old) (S.files store.new) SameFiles }
     ensures counts { KeepsCounts S.read_faults S.write_faults S.made store.old store.new }
 {
-    let bytes = match read_whole(store, words.code, CODE_LIMIT, Vec::new(alloc)) {
-        Ok(bytes) => bytes,
-        Err(ReadRefusal::Fault) => return Err(Status::ReadFault),
-        Err(ReadRefusal::TooLong) => return Err(Status::TooLong),
-        Err(ReadRefusal::OutOfMemory) => return Err(Status::OutOfMemory),
-    };
-    let Some(sink) = sink_of_one_link(&bytes) else {
+    let bytes = read_whole(store, words.code, CODE_LIMIT, Vec::new(alloc))?;
+    let Some(link) = read_one_link(&bytes) else {
         return Err(Status::CodeRefused(CodeRefusal::Unbuilt));
     };
-    let output = output_path(alloc, words.prefix, sink)?;
+    let output = output_path(alloc, words.prefix, link.sink)?;
     let room = Vec::with_capacity(alloc, SOURCE_LIMIT + 1)?;
-    Ok(Prepared { output, room })
+    let carrier = Carrier::of(link.times, link.entry);
+    Ok(Prepared {
+        carrier,
+        output,
+        room,
+    })
 }
 
-// Delivers the source to the sink's file, and answers its length.
-fn deliver<S: Store>(alloc: Global, words: &SendWords<'_>, store: &mut S) -> Result<usize, Status>
-    ensures delivered { IfOk result (λ count. (bytes : List ℕ) × (count ≡ length bytes)
+// Delivers the source to the sink's file.
+fn deliver<S: Store>(
+    alloc: Global,
+    words: &SendWords<'_>,
+    store: &mut S,
+) -> Result<SentCounts, Status>
+    ensures delivered { IfOk result (λ counts. (bytes : List ℕ) × AreCounts bytes counts
         × Delivers (paths_of words.now) (store_view S.files S.read_faults S.write_faults store.old) (store_view S.files S.read_faults S.write_faults store.new) bytes) }
     ensures stops { IfErr result (Stops (paths_of words.now) (store_view S.files S.read_faults S.write_faults store.old) (store_view S.files S.read_faults S.write_faults store.new)) }
     ensures counts { KeepsCounts S.read_faults S.write_faults S.made store.old store.new }
 {
-    let Prepared { output, room } = prepare(alloc, words, store)?;
-    fill(store, words.source, output.as_str(), room)
+    let Prepared {
+        carrier,
+        output,
+        room,
+    } = prepare(alloc, words, store)?;
+    fill(&carrier, store, words.source, output.as_str(), room)
 }
 
 /// Delivers the source of the command to the sink's file, and says so.
@@ -110,13 +118,10 @@ pub fn send<S: Store, C: Sink>(
     ensures say_count { C.faults say.old ≤ C.faults say.new }
 {
     match deliver(alloc, words, store) {
-        Ok(count) => match say_sent(count, say) {
+        Ok(counts) => match say_sent(&counts, say) {
             Ok(()) => Status::Done,
             Err(_) => Status::WriteFault,
         },
-        Err(refusal) => {
-            say_refusal(refusal, say);
-            refusal
-        }
+        Err(refusal) => refuse(refusal, say),
     }
 }

@@ -1,14 +1,13 @@
 -- Rows of elements, by their numbers, and sums of their multiples.
 use Rattle.std.specs.Prelude.{ℕ, ◌*◌, bit_xor, List, [], ◌∷◌, map, take, drop, replicate}
 use Rattle.std.specs.List.{range_with_len}
+use Rattle.std.specs.Simd.Lanes.{zip2}
 use Rattle.gf_tables.specs.declared.kind.FieldKind.{FieldKind}
 use Rattle.gf_tables.specs.Product.{product}
 
 -- the sum of two rows of one length
 abbrev pub add_rows : List ℕ → List ℕ → List ℕ
-add_rows [] ys = []
-add_rows (x ∷ xs) [] = []
-add_rows (x ∷ xs) (y ∷ ys) = bit_xor x y ∷ add_rows xs ys
+add_rows xs ys = zip2 bit_xor xs ys
 
 -- an element times a row
 abbrev pub scale_row : FieldKind → ℕ → List ℕ → List ℕ

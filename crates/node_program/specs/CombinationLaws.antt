@@ -1,7 +1,7 @@
 -- Laws of rows. Addition associates and commutes, zeros add nothing, and a row plus itself is zeros. 1 times a row
--- is the row, and 0 times a row is zeros.
-use Rattle.std.specs.Prelude.{◌≡◌, ℕ, ◌/◌, ◌%◌, ◌<◌, bit_xor, List, [], ◌∷◌, length}
-use Rattle.std.proofs.Common.{arith, refl}
+-- is the row, and 0 times a row is zeros. An element's inverse takes back what the element makes of a row.
+use Rattle.std.specs.Prelude.{◌≡◌, ℕ, suc, ◌/◌, ◌%◌, ◌<◌, bit_xor, List, [], ◌∷◌, length}
+use Rattle.std.proofs.Common.{arith, refl, sym, ap, ◌∙◌}
 use Rattle.std.specs.Int.Bits.{xor_zero_l, xor_zero_r, xor_self, xor_assoc}
 use Rattle.std.specs.List.{All}
 use Rattle.std.proofs.lemmas.List.Elements.{All-nil, All-cons, All-head, All-tail}
@@ -10,7 +10,7 @@ use Rattle.gf_tables.specs.declared.kind.FieldKind.{FieldKind}
 use Rattle.gf_tables.specs.declared.kind.FieldKind.TheVariants.{Eight, Sixteen}
 use Rattle.gf_tables.specs.Product.{octet_product, octet_polynomial, pair_product, pair_constant, product, size_of}
 use Rattle.gf_tables.specs.ShiftLaws.{IsOctic}
-use Rattle.gf_tables.specs.ProductLaws.{product_one_left, product_zero_left, product_zero_right}
+use Rattle.gf_tables.specs.ProductLaws.{product_one_left, product_zero_left, product_zero_right, product_assoc}
 use Rattle.node_program.specs.Combination.{add_rows, scale_row, zero_row, combination}
 
 octic : IsOctic octet_polynomial
@@ -121,11 +121,46 @@ scale_row-one field (x ∷ xs) h =
     let P : ℕ → Type 0 = λ element. element < size_of field in
     rw (product_one field x (All-head P x xs h), scale_row-one field xs (All-tail P x xs h)) refl
 
--- a combination of one row, with the coefficient 1
+-- the length of a multiple of a row
+pub length-scale_row : (field : FieldKind) (times : ℕ) (row : List ℕ) → length (scale_row field times row) ≡ length row
+length-scale_row field times [] = refl
+length-scale_row field times (x ∷ xs) = ap suc (length-scale_row field times xs)
+
+-- a combination of one row
+pub combination-single : (field : FieldKind) (width times : ℕ) (row : List ℕ) → length row ≡ width
+    → combination field width (times ∷ []) (row ∷ []) ≡ scale_row field times row
+combination-single field width times row e =
+    rw (← e, ← length-scale_row field times row) (add_rows-zero_row (scale_row field times row))
+
+-- the same with the coefficient 1
 pub combination-one : (field : FieldKind) (width : ℕ) (row : List ℕ) → length row ≡ width → All (λ element. element < size_of field) row
     → combination field width (1 ∷ []) (row ∷ []) ≡ row
-combination-one field width row e h =
-    rw (scale_row-one field row h, ← e) (add_rows-zero_row row)
+combination-one field width row e h = combination-single field width 1 row e ∙ scale_row-one field row h
+
+-- a multiple of a multiple of an octet, where the product of the coefficients is 1
+times_inverse : (a b x : ℕ) → a < 256 → b < 256 → x < 256 → product Eight a b ≡ 1 → product Eight a (product Eight b x) ≡ x
+unfolding product
+times_inverse a b x below_a below_b below inverse =
+    sym (product_assoc octet_polynomial octic a b x below_a below_b below)
+    ∙ ap (λ c. octet_product octet_polynomial c x) inverse
+    ∙ product_one_left octet_polynomial octic x below
+
+-- the same of a row
+pub scale_row-inverse : (a b : ℕ) (row : List ℕ) → a < 256 → b < 256 → product Eight a b ≡ 1 → All (λ element. element < 256) row
+    → scale_row Eight a (scale_row Eight b row) ≡ row
+scale_row-inverse a b [] below_a below_b inverse h = refl
+scale_row-inverse a b (x ∷ xs) below_a below_b inverse h =
+    let P : ℕ → Type 0 = λ element. element < 256 in
+    rw (times_inverse a b x below_a below_b (All-head P x xs h) inverse, scale_row-inverse a b xs below_a below_b inverse (All-tail P x xs h)) refl
+
+-- the same of combinations of one row
+pub combination-inverse : (width a b : ℕ) (row : List ℕ) → a < 256 → b < 256 → product Eight a b ≡ 1 → length row ≡ width → All (λ element. element < 256) row
+    → combination Eight width (a ∷ []) (combination Eight width (b ∷ []) (row ∷ []) ∷ []) ≡ row
+combination-inverse width a b row below_a below_b inverse e h =
+    let carried = combination-single Eight width b row e in
+    ap (λ (r : List ℕ). combination Eight width (a ∷ []) (r ∷ [])) carried
+    ∙ combination-single Eight width a (scale_row Eight b row) (length-scale_row Eight b row ∙ e)
+    ∙ scale_row-inverse a b row below_a below_b inverse h
 
 -- 0 times a row
 pub scale_row-zero : (field : FieldKind) (row : List ℕ) → scale_row field 0 row ≡ zero_row (length row)

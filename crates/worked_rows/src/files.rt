@@ -1,7 +1,7 @@
 //! Code files of the examples.
 ghost use Rattle.std.specs.Prelude.{◌≡◌, [], ◌∷◌, ◌++◌, take, drop, slice_range, slice_set, codes};
 ghost use Rattle.code_file.specs.Items.{bytes_of};
-ghost use Rattle.worked_rows.specs.OneLink.{one_link, wide_one_link};
+ghost use Rattle.worked_rows.specs.OneLink.{one_link, wide_one_link, doubled_one_link};
 ghost use Rattle.worked_rows.specs.Butterfly.{butterfly, changed_butterfly};
 ghost use Rattle.worked_rows.specs.CutButterfly.{cut_butterfly};
 
@@ -14,6 +14,16 @@ pub const ONE_LINK: &[u8] = b"LIFC\x01\x08\x01\
     \x00\x00\
     \x00\x01\x00\x00\x01\
     \x00\x00\x01";
+
+/// The same with the coefficient 2, and the entry that undoes it.
+pub const DOUBLED_ONE_LINK: &[u8] = b"LIFC\x01\x08\x01\
+    \x00\x02\x01s\x01t\
+    \x00\x01\x01l\x00\x00\x00\x01\
+    \x00\x00\
+    \x00\x01\x00\x01\
+    \x00\x00\
+    \x00\x01\x00\x00\x02\
+    \x00\x00\x8e";
 
 /// One link, over the field of 65,536 elements.
 pub const WIDE_ONE_LINK: &[u8] = b"LIFC\x01\x10\x01\
@@ -61,6 +71,11 @@ pub fn one_link_is_spelled()
 /// The file of the same code over the field of 65,536 elements.
 pub fn wide_one_link_is_spelled()
     ensures { bytes_of wide_one_link ≡ WIDE_ONE_LINK.now }
+{}
+
+/// The file of the code of one link with the coefficient 2.
+pub fn doubled_one_link_is_spelled()
+    ensures { bytes_of doubled_one_link ≡ DOUBLED_ONE_LINK.now }
 {}
 
 /// The file of the butterfly.

@@ -1,9 +1,11 @@
-//! What the links of the butterfly carry, and which of them are live.
+//! What the links of the examples carry, and which of them are live.
 ghost use Rattle.std.specs.Prelude.{◌≡◌, ℕ, List, [], ◌∷◌, map, true, false};
 ghost use Rattle.std.specs.List.{range_with_len};
-ghost use Rattle.node_program.specs.Value.{global_vector, is_live};
+ghost use Rattle.node_program.specs.Decoding.{decoded};
+ghost use Rattle.node_program.specs.Value.{global_vector, is_live, value};
 ghost use Rattle.worked_rows.specs.Butterfly.{butterfly};
 ghost use Rattle.worked_rows.specs.CutButterfly.{cut_butterfly};
+ghost use Rattle.worked_rows.specs.OneLink.{doubled_one_link};
 
 /// Where no link fails, the link from `c` to `d` and those behind it carry the sum of the two rows, and
 /// each other link one of them.
@@ -26,4 +28,11 @@ pub fn cut_vectors()
 pub fn live_links()
     ensures { map (is_live cut_butterfly 1) (range_with_len 0 9)
         ≡ false ∷ true ∷ false ∷ true ∷ false ∷ true ∷ true ∷ true ∷ true ∷ [] }
+{}
+
+/// With the coefficient 2 the link carries each byte of a block doubled, and the sink gets the block back: here
+/// the front of the block of a file of one byte.
+pub fn doubled_value()
+    ensures carried { value doubled_one_link 0 ((0 ∷ 0 ∷ 0 ∷ 1 ∷ 0x41 ∷ 0 ∷ []) ∷ []) 0 ≡ 0 ∷ 0 ∷ 0 ∷ 2 ∷ 0x82 ∷ 0 ∷ [] }
+    ensures taken { decoded doubled_one_link 0 ((0 ∷ 0 ∷ 0 ∷ 1 ∷ 0x41 ∷ 0 ∷ []) ∷ []) ≡ (0 ∷ 0 ∷ 0 ∷ 1 ∷ 0x41 ∷ 0 ∷ []) ∷ [] }
 {}

@@ -1,5 +1,8 @@
 //! The top call over objects in memory: how it ends, what is said, and what the sink's file holds.
-use crate::files::{BUTTERFLY, ONE_LINK};
+mod coefficients;
+mod faults;
+
+use crate::files::{BUTTERFLY, DOUBLED_ONE_LINK, ONE_LINK, WIDE_ONE_LINK};
 use lif_outside::{Call, Fail, MemSink, MemStore};
 use lif_top::{CodeRefusal, Status, lif};
 use net_model::{Name, NameFault};
@@ -129,6 +132,11 @@ const NO_FORM: Row<'static> = Row {
 const WORDS: &[Row<'static>] = &[
     NO_FORM,
     Row {
+        name: "a command that isn't built",
+        words: &["demo", "0", "0", "1"],
+        ..NO_FORM
+    },
+    Row {
         name: "a word too few",
         words: &["send", "code", "none", "1", "src"],
         ..NO_FORM
@@ -172,6 +180,63 @@ const UNBUILT: Row<'static> = Row {
     ..ONE_BYTE
 };
 
+// The one link from the second node to the first, which is the sink.
+const BACKWARD_ONE_LINK: &[u8] = b"LIFC\x01\x08\x01\
+    \x00\x02\x01t\x01s\
+    \x00\x01\x01l\x00\x01\x00\x00\
+    \x00\x01\
+    \x00\x01\x00\x00\
+    \x00\x00\
+    \x00\x01\x00\x00\x01\
+    \x00\x00\x01";
+
+// The one link without operands: it carries zeros.
+const DEAD_ONE_LINK: &[u8] = b"LIFC\x01\x08\x01\
+    \x00\x02\x01s\x01t\
+    \x00\x01\x01l\x00\x00\x00\x01\
+    \x00\x00\
+    \x00\x01\x00\x01\
+    \x00\x00\
+    \x00\x00\
+    \x00\x00\x01";
+
+const CODES: &[Row<'static>] = &[
+    Row {
+        name: "the coefficient 2",
+        code: Some(DOUBLED_ONE_LINK),
+        ..ONE_BYTE
+    },
+    Row {
+        name: "the sink stands first",
+        code: Some(BACKWARD_ONE_LINK),
+        ..ONE_BYTE
+    },
+    UNBUILT,
+    Row {
+        name: "a larger field",
+        code: Some(WIDE_ONE_LINK),
+        ..UNBUILT
+    },
+    Row {
+        name: "a link that carries zeros",
+        code: Some(DEAD_ONE_LINK),
+        ..UNBUILT
+    },
+    Row {
+        name: "no bytes",
+        code: Some(b""),
+        ..UNBUILT
+    },
+];
+
+#[test]
+fn codes_are_taken_or_refused(rt: HostRuntime) -> Result<(), test::Fail> {
+    for row in CODES {
+        check(&rt, rt.alloc(), row)?;
+    }
+    Ok(())
+}
+
 const READ_FAULT: Row<'static> = Row {
     name: "no code",
     code: None,
@@ -196,7 +261,6 @@ const WRITE_FAULT: Row<'static> = Row {
 };
 
 const REFUSALS: &[Row<'static>] = &[
-    UNBUILT,
     READ_FAULT,
     WRITE_FAULT,
     Row {
@@ -207,45 +271,6 @@ const REFUSALS: &[Row<'static>] = &[
         ..READ_FAULT
     },
     Row {
-        name: "the third read, which is the first of the source",
-        code: Some(ONE_LINK),
-        fails: &[Fail {
-            call: Call::Read,
-            nth: 3,
-            keep: 0,
-        }],
-        kept: Some(0),
-        ..READ_FAULT
-    },
-    Row {
-        name: "the first block isn't kept",
-        fails: &[Fail {
-            call: Call::Append,
-            nth: 1,
-            keep: 0,
-        }],
-        kept: Some(0),
-        ..WRITE_FAULT
-    },
-    Row {
-        name: "the second block is kept in part",
-        fails: &[Fail {
-            call: Call::Append,
-            nth: 2,
-            keep: 7,
-        }],
-        kept: Some(1027),
-        ..WRITE_FAULT
-    },
-    Row {
-        name: "delivered, and not said",
-        fails: &[],
-        say_fails: &[1],
-        line: "",
-        kept: Some(2000),
-        ..WRITE_FAULT
-    },
-    Row {
         name: "refused, and not said",
         say_fails: &[1],
         line: "",
@@ -253,6 +278,7 @@ const REFUSALS: &[Row<'static>] = &[
     },
 ];
 
+// Each call that fails stands in a table of its own.
 #[test]
 fn refusals_say_their_lines(rt: HostRuntime) -> Result<(), test::Fail> {
     for row in REFUSALS {

@@ -9,7 +9,7 @@ pub returns-clause-delivered : goal.returns-clause-delivered
 returns-clause-delivered g c =
     let store = g.S.Store in
     let view = store_view store.files store.read_faults store.write_faults in
-    let ready = c.in_ok-output.ensures.ready in
+    let ready = c.in_ok-carrier.ensures.ready in
     let path : c.as_str.result.now ≡ output_path (paths_of c.args.words.now) ready.code = c.as_str.ensures.value ∙ ready.path in
     IfOk-weaker c.fill.result _ _ (λ count filled. (
       filled.0,
@@ -26,7 +26,7 @@ pub returns-clause-stops : goal.returns-clause-stops
 returns-clause-stops g c =
     let store = g.S.Store in
     let view = store_view store.files store.read_faults store.write_faults in
-    let ready = c.in_ok-output.ensures.ready in
+    let ready = c.in_ok-carrier.ensures.ready in
     let path : c.as_str.result.now ≡ output_path (paths_of c.args.words.now) ready.code = c.as_str.ensures.value ∙ ready.path in
     IfErr-weaker c.fill.result _ _ (λ status stop. stops_after_code (paths_of c.args.words.now) (view c.args.store.now) (view c.fill.new.store) ready.code ready.reads_code status
     (subst (λ output. FillStops c.args.words.now.source.now output (view c.args.store.now) (view c.fill.new.store) status) path
