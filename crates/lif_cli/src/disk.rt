@@ -6,10 +6,11 @@ ghost use Rattle.lif_outside.specs.Told.{Told, Becomes};
 ghost use Rattle.lif_cli.specs.Disk.{read_faults_of, write_faults_of, path_read_faults, path_write_faults, any_path, no_files};
 ghost use Rattle.lif_cli.specs.Faults.{one_more};
 
+use crate::appending::{Appending, append_to};
 use crate::faults::counted;
-use crate::pieces::{read_full, write_full};
+use crate::pieces::read_full;
 use lif_outside::{Failed, Store};
-use std::fs::{File, OpenOptions};
+use std::fs::File;
 use std::io::{Seek, SeekFrom};
 use std::rt::Files;
 use std::{fs, io};
@@ -19,6 +20,8 @@ use std::{fs, io};
 #[derive(Drop)]
 pub struct DiskStore<'r> {
     rt: &'r HostRuntime,
+    // The file that was appended to last.
+    last: Option<Appending<File>>,
     read_faults: u64,
     write_faults: u64,
 }
@@ -31,6 +34,7 @@ impl<'r> DiskStore<'r> {
     {
         DiskStore {
             rt,
+            last: None,
             read_faults: 0,
             write_faults: 0,
         }
@@ -51,12 +55,6 @@ fn read_at<R: Files>(rt: &R, path: &str, at: u64, into: &mut [u8]) -> io::Result
 fn create_empty<R: Files>(rt: &R, path: &str) -> io::Result<()> {
     File::create(rt, path)?;
     Ok(())
-}
-
-// Adds bytes at the end of a file that is there.
-fn append_to<R: Files>(rt: &R, path: &str, bytes: &[u8]) -> io::Result<()> {
-    let mut file = OpenOptions::new().append(true).open(rt, path)?;
-    write_full(&mut file, bytes)
 }
 
 impl<'r> Store for DiskStore<'r> {
@@ -98,6 +96,7 @@ impl<'r> Store for DiskStore<'r> {
         ensures faults_err { OnErr result (write_faults_of self.new ≡ one_more (write_faults_of self.old)) }
         ensures reads { read_faults_of self.new ≡ read_faults_of self.old }
     {
+        self.last = None;
         counted(create_empty(self.rt, path), &mut self.write_faults)
     }
 
@@ -113,7 +112,8 @@ impl<'r> Store for DiskStore<'r> {
         ensures faults_err { OnErr result (write_faults_of self.new ≡ one_more (write_faults_of self.old)) }
         ensures reads { read_faults_of self.new ≡ read_faults_of self.old }
     {
-        counted(append_to(self.rt, path, bytes), &mut self.write_faults)
+        let outcome = append_to(self.rt, &mut self.last, path, bytes);
+        counted(outcome, &mut self.write_faults)
     }
 }
 
@@ -129,7 +129,10 @@ mod tests {
         let path = "disk-store-test";
         let mut store = DiskStore::new(&rt);
         assert_eq!(rt; store.create(path), Ok(()));
-        assert_eq!(rt; store.append(path, b"abc"), Ok(()));
+        assert_eq!(rt; store.create("another"), Ok(()));
+        assert_eq!(rt; store.append(path, b"ab"), Ok(()));
+        assert_eq!(rt; store.append(path, b"c"), Ok(()));
+        assert_eq!(rt; store.append("another", b"z"), Ok(()));
         assert_eq!(rt; store.append(path, b"de"), Ok(()));
         for (at, count, found) in [
             (0, 4, *b"abcd"),
@@ -149,6 +152,7 @@ mod tests {
         assert_eq!(rt; store.read(path, 0, &mut into), Ok(0));
         assert_eq!(rt; (store.read_faults, store.write_faults), (0, 0));
         fs::remove_file(&rt, path)?;
+        fs::remove_file(&rt, "another")?;
         assert_eq!(rt; store.read(path, 0, &mut into), Err(Failed));
         assert_eq!(rt; store.append(path, b"f"), Err(Failed));
         assert_eq!(rt; store.create("no-such-folder/file"), Err(Failed));
