@@ -6,7 +6,7 @@ use std::io;
 use std::io::{ErrorKind, Read, Write};
 
 /// How many bytes are read at a time.
-const PIECE: usize = 4096;
+const PIECE: usize = 65536;
 
 /// How often a call that a signal interrupts is tried.
 const TRIES: u32 = 1000;

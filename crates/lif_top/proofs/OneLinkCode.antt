@@ -16,16 +16,17 @@ use Rattle.net_model.specs.declared.Link.{Link}
 use Rattle.net_model.specs.declared.Pattern.{Pattern}
 use Rattle.net_model.specs.declared.net.FieldChoice.TheVariants as choice
 use Rattle.node_program.specs.Code.{IsCode, are_in_order, are_operands_of, are_decoders}
+use Rattle.node_program.specs.Combination.{combination}
 use Rattle.node_program.specs.CombinationLaws.{combination-inverse}
 use Rattle.node_program.specs.Decoding.{IsBlock, IsAccepted, decoded}
-use Rattle.node_program.specs.Value.{value_within}
+use Rattle.node_program.specs.Value.{value, value_within}
 use Rattle.node_program.specs.declared.Operand.{Operand}
 use Rattle.node_program.specs.declared.Decoder.{Decoder}
 use Rattle.node_program.specs.declared.code.Code.{Code}
 use Rattle.code_file.specs.Items.{name_item, number_item, items_of, bytes_of}
 use Rattle.lif_top.specs.declared.one_link.Direction.{Direction}
 use Rattle.lif_top.specs.declared.one_link.Direction.TheVariants.{Forward, Backward}
-use Rattle.lif_top.specs.OneLink.{IsOneLink, sink_name}
+use Rattle.lif_top.specs.OneLink.{IsOneLink, Carries, sink_name}
 use Rattle.lif_top.specs.OneLinkFile.{tail_of, head_of, front, ends, coefficients}
 
 -- the names of the two nodes and of the link, the coefficient, and the entry that undoes it
@@ -166,13 +167,14 @@ module _ (a b l : List ℕ) (way : Direction) (times entry : ℕ) (h : AreParts 
     none_listed = refl;
   }
 
-  pub code_of_parts-carries : (code_of_parts a b l way times entry h).operands ≡ operands_of times
-  unfolding code_of_parts
-  code_of_parts-carries = refl
-
-  pub code_of_parts-takes : (code_of_parts a b l way times entry h).decoders ≡ decoders_of entry
-  unfolding code_of_parts
-  code_of_parts-takes = refl
+  pub code_of_parts-carries : Carries (code_of_parts a b l way times entry h) times entry
+  unfolding code_of_parts network value_within
+  code_of_parts-carries = record {
+    carried = λ row. elim way as (λ v. value (code_of_parts a b l v times entry h) 0 (row ∷ []) 0 ≡ combination Eight (length row) (times ∷ []) (row ∷ []))
+        [ Forward ↦ refl | Backward ↦ refl ];
+    taken = λ row. refl;
+    inverse = h.inverse;
+  }
 
   -- the sink decodes a row
   decoded_row : (row : List ℕ) → All (λ element. element < 256) row → decoded (code_of_parts a b l way times entry h) 0 (row ∷ []) ≡ row ∷ []

@@ -12,7 +12,7 @@ use Rattle.lif_top.specs.declared.one_link.Direction.{Direction}
 use Rattle.lif_top.specs.declared.one_link.Direction.TheVariants.{Forward, Backward}
 use Rattle.lif_top.specs.OneLink.{IsNoFile, SpellsCode}
 use Rattle.lif_top.specs.OneLinkFile.{front, ends, coefficients, SpellsNodes, SpellsLink, SpellsInverse}
-use Rattle.lif_top.proofs.OneLinkCode.{AreParts, file, sink_of, code_of_parts, code_of_parts-built, code_of_parts-carries, code_of_parts-takes, code_of_parts-bytes, code_of_parts-sink, code_of_parts-accepted}
+use Rattle.lif_top.proofs.OneLinkCode.{AreParts, file, sink_of, code_of_parts, code_of_parts-built, code_of_parts-carries, code_of_parts-bytes, code_of_parts-sink, code_of_parts-accepted}
 use Rattle.lif_top.proofs.OneLinkParts.{IsOneLinkFile, file_of}
 
 -- a list begins with a name's item in one way
@@ -146,6 +146,4 @@ module _ (bytes rest first second behind : List ℕ) (stripped : bytes ≡ front
             spelled = whole ∙ sym (code_of_parts-bytes first second link.name way times entry parts);
             named = sym (code_of_parts-sink first second link.name way times entry parts);
             carries = code_of_parts-carries first second link.name way times entry parts;
-            takes = code_of_parts-takes first second link.name way times entry parts;
-            inverse = undone.inverse;
           }

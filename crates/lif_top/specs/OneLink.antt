@@ -5,7 +5,9 @@ use Rattle.gf_tables.specs.declared.kind.FieldKind.TheVariants.{Eight}
 use Rattle.gf_tables.specs.Product.{product}
 use Rattle.code_file.specs.Items.{bytes_of}
 use Rattle.node_program.specs.declared.code.Code.{Code}
-use Rattle.node_program.specs.Decoding.{IsAccepted}
+use Rattle.node_program.specs.Combination.{combination}
+use Rattle.node_program.specs.Decoding.{IsAccepted, decoded}
+use Rattle.node_program.specs.Value.{value}
 
 pub record IsOneLink (code : Code) : Type 0 where
   pub field : code.field ≡ Eight
@@ -23,14 +25,18 @@ sink_name code = unwrap_or (slice_get code.net.nodes (slice_index code.net.sinks
 abbrev pub IsNoFile : List ℕ → Type 0
 IsNoFile bytes = (code : Code) → IsOneLink code → IsAccepted code → bytes ≢ bytes_of code
 
--- The bytes are the file of an accepted code of this kind. Its sink has this name, its link carries the first row
--- times a coefficient, and its sink takes what the link carries times an entry, which undoes the coefficient.
+-- The one link and its sink, on a block of one row: the link carries the row times a coefficient, and the sink
+-- decodes what the link carries times an entry, which undoes the coefficient.
+pub record Carries (code : Code) (times entry : ℕ) : Type 0 where
+  pub carried : (row : List ℕ) → value code 0 (row ∷ []) 0 ≡ combination Eight (length row) (times ∷ []) (row ∷ [])
+  pub taken : (row : List ℕ) → decoded code 0 (row ∷ []) ≡ combination Eight (length row) (entry ∷ []) (value code 0 (row ∷ []) 0 ∷ []) ∷ []
+  pub inverse : product Eight entry times ≡ 1
+
+-- The bytes are the file of an accepted code of this kind, whose sink has this name, and which carries so.
 pub record SpellsCode (bytes sink : List ℕ) (times entry : ℕ) : Type 0 where
   pub code : Code
   pub built : IsOneLink code
   pub accepted : IsAccepted code
   pub spelled : bytes ≡ bytes_of code
   pub named : sink ≡ sink_name code
-  pub carries : code.operands ≡ (record { from = 0; times = times } ∷ []) ∷ []
-  pub takes : code.decoders ≡ record { links = 0 ∷ []; entries = entry ∷ [] } ∷ []
-  pub inverse : product Eight entry times ≡ 1
+  pub carries : Carries code times entry

@@ -9,7 +9,7 @@ use crate::Status;
 use lif_outside::Store;
 
 /// How many bytes are read at a time.
-const CHUNK: usize = 16384;
+const CHUNK: usize = 65536;
 
 /// Why a whole file can't be had.
 #[derive(Clone, Copy, Debug, PartialEq, Eq)]

@@ -1,4 +1,4 @@
-use Rattle.std.proofs.Common.{◌<◌, ◌++◌, [], ◌∷◌, length, Some, sym, ap, subst, ◌∙◌, arith}
+use Rattle.std.proofs.Common.{◌<◌, ◌++◌, ◌∷◌, length, Some, sym, ap, subst, ◌∙◌, arith}
 use Rattle.net_model.specs.Name.{IsName}
 use Rattle.net_model.specs.NetworkLaws.{sink_named}
 use Rattle.lif_outside.specs.Told.{told_weaker}
@@ -21,8 +21,7 @@ returns-clause-ready g c =
         short = omega (arith, c.in_ok-bytes.ensures.short, ap length (sym c.deref.ensures.value ∙ spelled.spelled));
         held = told_weaker (g.S.Store.files c.args.store.now) _ _ c.in_ok-bytes.ensures.whole (λ files held. held ∙ ap Some (sym c.deref.ensures.value ∙ spelled.spelled));
       };
-      carries = spelled.carries ∙ ap (λ n. (record { from = 0; times = n } ∷ []) ∷ []) (sym c.of-carrier.ensures.times);
-      takes = spelled.takes ∙ ap (λ n. record { links = 0 ∷ []; entries = n ∷ [] } ∷ []) (sym c.of-carrier.ensures.entry);
+      carries = rw (c.of-carrier.ensures.times, c.of-carrier.ensures.entry) spelled.carries;
       path = c.in_ok-output.ensures ∙ ap (λ name. c.args.words.now.prefix.now ++ 46 ∷ name) spelled.named;
       empty = c.in_ok-room.ensures.items;
       room = c.in_ok-room.ensures.capacity;
