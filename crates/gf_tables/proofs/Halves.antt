@@ -4,9 +4,8 @@ use Rattle.std.specs.Int.Bits.{xor_zero_r}
 use Rattle.std.proofs.lemmas.Nat.{xor_block}
 use Rattle.gf_tables.specs.Halves.{by_halves}
 use Rattle.gf_tables.specs.Nibbles.{AreProducts}
-use Rattle.gf_tables.specs.Product.{octet_product}
+use Rattle.gf_tables.specs.Product.{IsOctic, octet_product}
 use Rattle.gf_tables.specs.ProductLaws.{product_xor_right}
-use Rattle.gf_tables.specs.ShiftLaws.{IsOctic}
 
 -- a byte is the sum of its low half and a multiple of 16
 xor_halves : (byte : ℕ) → bit_xor (byte % 16) (byte / 16 * 16) ≡ byte

@@ -1,5 +1,5 @@
--- What a field is.
-use Rattle.std.specs.Prelude.{◌≡◌, ◌≢◌}
+-- What a field is, and what numbers its elements have.
+use Rattle.std.specs.Prelude.{◌≡◌, ◌≢◌, ◌<◌, ◌⊎◌, ℕ, bit_xor}
 
 -- a field in which each element is its own opposite, of the values that are elements
 pub record IsField {A : Type 0} (is_element : A → Type 0) (zero one : A) (add mul : A → A → A) (inv : A → A) : Type 0 where
@@ -18,3 +18,19 @@ pub record IsField {A : Type 0} (is_element : A → Type 0) (zero one : A) (add 
   pub mul_add : (x y z : A) → is_element x → is_element y → is_element z → mul x (add y z) ≡ add (mul x y) (mul x z)
   pub mul_nonzero : (x y : A) → is_element x → is_element y → x ≢ zero → y ≢ zero → mul x y ≢ zero
   pub mul_inv : (x : A) → is_element x → x ≢ zero → mul x (inv x) ≡ one
+
+-- the two sizes that fields have
+abbrev pub AreSizes : ℕ → ℕ → Type 0
+AreSizes bytes size = ((bytes ≡ 1) × (size ≡ 256)) ⊎ ((bytes ≡ 2) × (size ≡ 65536))
+
+-- Each number below the size is that of one element. On numbers the sum is the exclusive or.
+pub record IsNumbering {A : Type 0} (is_element : A → Type 0) (zero one : A) (add mul : A → A → A)
+    (number : A → ℕ) (of_number : ℕ → A) (size : ℕ) (product : ℕ → ℕ → ℕ) : Type 0 where
+  pub number_below : (x : A) → is_element x → number x < size
+  pub element_of_number : (n : ℕ) → n < size → is_element (of_number n)
+  pub number_of_number : (n : ℕ) → n < size → number (of_number n) ≡ n
+  pub of_number_number : (x : A) → is_element x → of_number (number x) ≡ x
+  pub number_zero : number zero ≡ 0
+  pub number_one : number one ≡ 1
+  pub number_add : (x y : A) → is_element x → is_element y → number (add x y) ≡ bit_xor (number x) (number y)
+  pub number_mul : (x y : A) → is_element x → is_element y → number (mul x y) ≡ product (number x) (number y)

@@ -10,7 +10,13 @@ pub mod Poly11D
 pub mod Nibbles
 pub mod Halves
 pub mod NoRoot
+pub mod Field
+pub mod FieldLaws
+pub mod NumberField
+pub mod OctetField
+pub mod Pairs
 pub mod PairLaws
 pub mod PairNumbers
-pub mod Field
+pub mod Inverse
 pub mod Kind
+pub mod KindField

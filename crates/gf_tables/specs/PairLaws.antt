@@ -1,38 +1,12 @@
--- The field of pairs over a smaller field: its operations, and why they keep the laws.
+-- The pairs over a field are a field.
 use Rattle.std.specs.Prelude.{◌≡◌, ◌≢◌, ◌↔◌, ◌&&◌, Bool, true, false, IsTrue, refl}
 use Rattle.std.proofs.Common.{sym, ◌∙◌, ap}
 use Rattle.std.proofs.Math.Logic.{∥∥₁_elim, ∥∥₁_prop, ∥∥₁_map₂}
 use Rattle.std.proofs.lemmas.Bool.Decides.{Decides-and, Decides-like}
 use mathlib.Core.HLevel.{Σ_prop_path, hedberg}
 use Rattle.gf_tables.specs.Field.{IsField}
+use Rattle.gf_tables.specs.Pairs.{pair, AreElements, pair_add, pair_mul, norm, pair_inv}
 use Rattle.gf_tables.specs.declared.quad.Quad.{Quad}
-
--- low + high*y
-abbrev pub pair : {A : Type 0} → A → A → Quad A
-pair a b = record { low = a; high = b }
-
--- both parts of a pair are elements
-abbrev pub AreElements : {A : Type 0} → (A → Type 0) → Quad A → Type 0
-AreElements is_element x = is_element x.low × is_element x.high
-
--- the sum of two pairs
-abbrev pub pair_add : {A : Type 0} → (A → A → A) → Quad A → Quad A → Quad A
-pair_add add x y = pair (add x.low y.low) (add x.high y.high)
-
-module _ {A : Type 0} (add mul : A → A → A) (root : A) where
-  -- the product of two pairs
-  abbrev pub pair_mul : Quad A → Quad A → Quad A
-  pair_mul x y =
-      let top = mul x.high y.high in
-      pair (add (mul x.low y.low) (mul root top)) (add (add (mul x.low y.high) (mul x.high y.low)) top)
-
-  -- the product of a + b*y and its conjugate, which has no high part
-  abbrev pub norm : A → A → A
-  norm a b = add (add (mul a a) (mul a b)) (mul root (mul b b))
-
-  -- the conjugate of a pair, divided by the norm
-  abbrev pub pair_inv : (A → A) → Quad A → Quad A
-  pair_inv inv x = let d = inv (norm x.low x.high) in pair (mul (add x.low x.high) d) (mul x.high d)
 
 -- a commutative ring in which each element is its own opposite
 record IsRing {E : Type 0} (zero one : E) (add mul : E → E → E) : Type 0 where
@@ -111,9 +85,9 @@ module _ {E : Type 0} {zero one : E} {add mul : E → E → E} (R : IsRing zero 
       ap (λ w. norm add mul root w b) whole ∙ simp (mul_add, mul_assoc, mul_comm, mul_left_comm, add_assoc, add_comm, add_left_comm)
 
 -- a test that tells whether P holds decides P
-decided : {P : Type 0} (test : Bool) → IsTrue test ↔ P → Dec P
-decided true e = yes (e.0 refl)
-decided false e = no (λ p. let absurd_test : IsTrue false = e.1 p in cc)
+decision : {P : Type 0} (test : Bool) → IsTrue test ↔ P → Dec P
+decision true e = yes (e.0 refl)
+decision false e = no (λ p. let absurd_test : IsTrue false = e.1 p in cc)
 
 -- pairs are equal where both parts are
 pub equal_pairs : {A : Type 0} (eq : A → A → Bool) → ((x y : A) → IsTrue (eq x y) ↔ (x ≡ y))
@@ -156,7 +130,7 @@ module _ {A : Type 0} {is_element : A → Type 0} {zero one : A} {add mul : A �
     (F : IsField is_element zero one add mul inv) (eq : A → A → Bool) (equal : (x y : A) → IsTrue (eq x y) ↔ (x ≡ y)) where
   -- two values are equal or not
   decide : (x y : A) → Dec (x ≡ y)
-  decide x y = decided (eq x y) (equal x y)
+  decide x y = decision (eq x y) (equal x y)
 
   -- an equation that holds where three are elements
   from_elements : (x y z : Element is_element) {a b : A} → (is_element x.0 → is_element y.0 → is_element z.0 → a ≡ b) → a ≡ b

@@ -1,11 +1,15 @@
 -- The tables of powers and logarithms of a generator.
-use Rattle.std.specs.Prelude.{◌≡◌, ◌≢◌, ◌<◌, ◌≤◌, ℕ, List, zero, suc, length, slice_index}
-use Rattle.gf_tables.specs.Product.{octet_product}
+use Rattle.std.specs.Prelude.{◌≡◌, ◌≢◌, ◌<◌, ℕ, List, zero, suc, ◌-◌, length, slice_index}
+use Rattle.gf_tables.specs.Product.{IsOctic, octet_product}
 
 -- a generator to the power k
 unfoldable pub power : ℕ → ℕ → ℕ → ℕ
 power poly gen zero = 1
 power poly gen (suc k) = octet_product poly (power poly gen k) gen
+
+-- one divided by a nonzero octet, by the table of logarithms
+abbrev pub octet_inverse : ℕ → ℕ → List ℕ → ℕ → ℕ
+octet_inverse poly gen log x = power poly gen (255 - slice_index log x)
 
 -- place k of the table is the generator to the power k
 pub record ArePowers (poly gen : ℕ) (exp : List ℕ) : Type 0 where
@@ -21,7 +25,7 @@ pub record AreLogarithms (exp log : List ℕ) : Type 0 where
 
 -- the tables of a generator, modulo a polynomial of degree 8
 pub record AreTables (poly gen : ℕ) (exp log : List ℕ) : Type 0 where
-  pub degree : (256 ≤ poly) × (poly < 512)
+  pub degree : IsOctic poly
   pub generator : gen < 256
   pub powers : ArePowers poly gen exp
   pub logarithms : AreLogarithms exp log

@@ -1,9 +1,8 @@
 -- The laws of powers, and products by the tables of powers and logarithms.
 use Rattle.std.specs.Prelude.{◌≡◌, ◌≢◌, ◌<◌, ◌≤◌, ℕ, List, zero, suc, ◌+◌, ◌-◌, slice_index}
 use Rattle.std.proofs.Common.{arith, refl, ap, sym, ◌∙◌, add-suc}
-use Rattle.gf_tables.specs.Product.{octet_product}
+use Rattle.gf_tables.specs.Product.{IsOctic, octet_product}
 use Rattle.gf_tables.specs.Powers.{power, AreTables}
-use Rattle.gf_tables.specs.ShiftLaws.{IsOctic}
 use Rattle.gf_tables.specs.ProductLaws.{product_lt, product_one_left, product_one_right, product_zero_left, product_assoc}
 
 -- a power is a byte

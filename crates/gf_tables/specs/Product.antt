@@ -1,22 +1,30 @@
 -- The products of the fields, on the numbers of their elements.
-use Rattle.std.specs.Prelude.{ℕ, zero, suc, ◌+◌, ◌*◌, ◌/◌, ◌%◌, ◌==◌, nat_lt, bit_xor, if◌then◌else◌}
+use Rattle.std.specs.Prelude.{ℕ, zero, suc, ◌<◌, ◌≤◌, ◌+◌, ◌*◌, ◌/◌, ◌%◌, ◌==◌, nat_lt, bit_xor, if◌then◌else◌}
 use Rattle.std.specs.Int.{bit_at}
 use Rattle.gf_tables.specs.declared.kind.FieldKind.{FieldKind}
 use Rattle.gf_tables.specs.declared.kind.FieldKind.TheVariants.{Eight, Sixteen}
+
+-- a polynomial of degree 8
+abbrev pub IsOctic : ℕ → Type 0
+IsOctic poly = (256 ≤ poly) × (poly < 512)
 
 -- twice a, reduced by the polynomial where it doesn't fit a byte
 unfoldable pub shift : ℕ → ℕ → ℕ
 shift poly a = if nat_lt (2 * a) 256 then 2 * a else bit_xor (2 * a) poly
 
--- a, shifted k times
-unfoldable pub shifted : ℕ → ℕ → ℕ → ℕ
-shifted poly zero a = a
-shifted poly (suc k) a = shift poly (shifted poly k a)
+-- `shift`, k times
+unfoldable pub repeated_shift : ℕ → ℕ → ℕ → ℕ
+repeated_shift poly zero a = a
+repeated_shift poly (suc k) a = shift poly (repeated_shift poly k a)
 
--- over the bits below k that are set in b, the exclusive or of a shifted as often as the bit's place
+-- x where the bit is 1, and 0 where it is 0
+abbrev pub bit_times : ℕ → ℕ → ℕ
+bit_times bit x = if bit == 1 then x else 0
+
+-- over the bits below k that are set in b, the exclusive or of the shifts of a, each as often as the bit's place
 unfoldable pub sum_of_shifts : ℕ → ℕ → ℕ → ℕ → ℕ
 sum_of_shifts poly a b zero = 0
-sum_of_shifts poly a b (suc k) = bit_xor (sum_of_shifts poly a b k) (if bit_at b k == 1 then shifted poly k a else 0)
+sum_of_shifts poly a b (suc k) = bit_xor (sum_of_shifts poly a b k) (bit_times (bit_at b k) (repeated_shift poly k a))
 
 -- the product of two octets, modulo a polynomial of degree 8
 unfoldable pub octet_product : ℕ → ℕ → ℕ → ℕ

@@ -1,14 +1,10 @@
--- The laws of `shift` and `shifted`, for a polynomial of degree 8.
+-- The laws of `shift` and `repeated_shift`, for a polynomial of degree 8.
 use Rattle.std.specs.Prelude.{◌≡◌, ◌<◌, ◌≤◌, ℕ, zero, suc, ◌+◌, ◌*◌, ◌/◌, ◌^◌, bit_xor, nat_lt}
 use Rattle.std.proofs.Common.{arith, refl, ap, sym, ◌∙◌, inl, inr}
 use Rattle.std.proofs.lemmas.Nat.{xor_lt, xor_comm, xor_shr, xor_block, pow_below}
 use Rattle.std.specs.Int.Bits.{xor_assoc, xor_self, xor_zero_r}
 use Rattle.std.proofs.lemmas.Bool.{cases_lt, lt-ltb, le-ltb}
-use Rattle.gf_tables.specs.Product.{shift, shifted}
-
--- a polynomial of degree 8
-abbrev pub IsOctic : ℕ → Type 0
-IsOctic poly = (256 ≤ poly) × (poly < 512)
+use Rattle.gf_tables.specs.Product.{IsOctic, shift, repeated_shift}
 
 -- a small byte is doubled
 shift-small : (poly a : ℕ) → a < 128 → shift poly a ≡ 2 * a
@@ -98,28 +94,28 @@ unfolding shift
 shift_zero poly = refl
 
 -- shifts can be done in any order
-pub shifted_shift : (poly k a : ℕ) → shifted poly k (shift poly a) ≡ shift poly (shifted poly k a)
-unfolding shifted
-shifted_shift poly zero a = refl
-shifted_shift poly (suc k) a = ap (shift poly) (shifted_shift poly k a)
+pub repeated_shift_shift : (poly k a : ℕ) → repeated_shift poly k (shift poly a) ≡ shift poly (repeated_shift poly k a)
+unfolding repeated_shift
+repeated_shift_shift poly zero a = refl
+repeated_shift_shift poly (suc k) a = ap (shift poly) (repeated_shift_shift poly k a)
 
 -- bytes are shifted to bytes, any number of times
-pub shifted_lt : (poly k a : ℕ) → IsOctic poly → a < 256 → shifted poly k a < 256
-unfolding shifted
-shifted_lt poly zero a d h = h
-shifted_lt poly (suc k) a d h = shift_lt poly (shifted poly k a) d (shifted_lt poly k a d h)
+pub repeated_shift_lt : (poly k a : ℕ) → IsOctic poly → a < 256 → repeated_shift poly k a < 256
+unfolding repeated_shift
+repeated_shift_lt poly zero a d h = h
+repeated_shift_lt poly (suc k) a d h = shift_lt poly (repeated_shift poly k a) d (repeated_shift_lt poly k a d h)
 
 -- the shifts of a sum of bytes are the sum of their shifts
-pub shifted_xor : (poly k a b : ℕ) → IsOctic poly → a < 256 → b < 256 → shifted poly k (bit_xor a b) ≡ bit_xor (shifted poly k a) (shifted poly k b)
-unfolding shifted
-shifted_xor poly zero a b d h m = refl
-shifted_xor poly (suc k) a b d h m =
-    ap (shift poly) (shifted_xor poly k a b d h m)
-    ∙ shift_xor poly (shifted poly k a) (shifted poly k b) (shifted_lt poly k a d h) (shifted_lt poly k b d m)
+pub repeated_shift_xor : (poly k a b : ℕ) → IsOctic poly → a < 256 → b < 256 → repeated_shift poly k (bit_xor a b) ≡ bit_xor (repeated_shift poly k a) (repeated_shift poly k b)
+unfolding repeated_shift
+repeated_shift_xor poly zero a b d h m = refl
+repeated_shift_xor poly (suc k) a b d h m =
+    ap (shift poly) (repeated_shift_xor poly k a b d h m)
+    ∙ shift_xor poly (repeated_shift poly k a) (repeated_shift poly k b) (repeated_shift_lt poly k a d h) (repeated_shift_lt poly k b d m)
 
 -- the powers of two below 256 are shifts of one
-pub shifted_one : (poly k : ℕ) → k < 8 → shifted poly k 1 ≡ 2 ^ k
-unfolding shifted
-shifted_one poly zero h = refl
-shifted_one poly (suc k) h =
-    rw (shifted_one poly k (omega arith)) (shift-small poly (2 ^ k) (pow_below k 7 (omega arith)) ∙ omega arith)
+pub repeated_shift_one : (poly k : ℕ) → k < 8 → repeated_shift poly k 1 ≡ 2 ^ k
+unfolding repeated_shift
+repeated_shift_one poly zero h = refl
+repeated_shift_one poly (suc k) h =
+    rw (repeated_shift_one poly k (omega arith)) (shift-small poly (2 ^ k) (pow_below k 7 (omega arith)) ∙ omega arith)

@@ -1,6 +1,7 @@
 //! What every field gives: its operations, and the laws that they keep.
-ghost use Rattle.std.specs.Prelude.{◌≡◌, ◌≢◌, ◌⊎◌, ◌<◌, ◌↔◌, ℕ, IsTrue, bit_xor};
-ghost use Rattle.gf_tables.specs.Field.{IsField};
+ghost use Rattle.std.specs.Prelude.{◌≡◌, ◌≢◌, ◌<◌, ◌↔◌, ℕ, IsTrue, bit_xor};
+ghost use Rattle.gf_tables.specs.Field.{AreSizes, IsField, IsNumbering};
+ghost use Rattle.gf_tables.specs.NumberField.{number_field};
 
 /// A finite field of characteristic 2. An element has a number below `SIZE`: the sum of two elements
 /// has the exclusive or of their numbers, and 0 and 1 are the numbers of zero and one.
@@ -84,30 +85,34 @@ pub trait Field: Copy + Eq {
         ensures value { result ≡ inv self };
 
     /// The two sizes that fields have.
-    ghost sizes: { ((BYTES ≡ 1) × (SIZE ≡ 256)) ⊎ ((BYTES ≡ 2) × (SIZE ≡ 65536)) };
+    ghost sizes: { AreSizes BYTES SIZE };
 
     /// `==` tells elements apart.
     ghost equal: { (x y : Self) → IsTrue (Self.eq x y) ↔ (x ≡ y) };
 
-    ghost number_below: { (x : Self) → is_element x → number x < SIZE };
+    /// The elements have the numbers below `SIZE`. Each law below, up to `number_mul`, is a part of
+    /// this one.
+    ghost numbering: { IsNumbering is_element zero one add mul number of_number SIZE product };
 
-    ghost element_of_number: { (n : ℕ) → n < SIZE → is_element (of_number n) };
+    ghost number_below: { (x : Self) → is_element x → number x < SIZE } = { numbering.number_below };
 
-    ghost number_of_number: { (n : ℕ) → n < SIZE → number (of_number n) ≡ n };
+    ghost element_of_number: { (n : ℕ) → n < SIZE → is_element (of_number n) } = { numbering.element_of_number };
 
-    ghost of_number_number: { (x : Self) → is_element x → of_number (number x) ≡ x };
+    ghost number_of_number: { (n : ℕ) → n < SIZE → number (of_number n) ≡ n } = { numbering.number_of_number };
 
-    ghost number_zero: { number zero ≡ 0 };
+    ghost of_number_number: { (x : Self) → is_element x → of_number (number x) ≡ x } = { numbering.of_number_number };
 
-    ghost number_one: { number one ≡ 1 };
+    ghost number_zero: { number zero ≡ 0 } = { numbering.number_zero };
+
+    ghost number_one: { number one ≡ 1 } = { numbering.number_one };
 
     /// The number of a sum is the exclusive or of the numbers.
-    ghost number_add: { (x y : Self) → is_element x → is_element y → number (add x y) ≡ bit_xor (number x) (number y) };
+    ghost number_add: { (x y : Self) → is_element x → is_element y → number (add x y) ≡ bit_xor (number x) (number y) } = { numbering.number_add };
 
     /// The number of a product is the product of the numbers.
-    ghost number_mul: { (x y : Self) → is_element x → is_element y → number (mul x y) ≡ product (number x) (number y) };
+    ghost number_mul: { (x y : Self) → is_element x → is_element y → number (mul x y) ≡ product (number x) (number y) } = { numbering.number_mul };
 
-    /// The elements are a field. Each law below is a part of this one.
+    /// The elements are a field. Each law below, up to `mul_inv`, is a part of this one.
     ghost field: { IsField is_element zero one add mul inv };
 
     ghost zero_element: { is_element zero } = { field.zero_element };
@@ -140,4 +145,7 @@ pub trait Field: Copy + Eq {
     ghost mul_nonzero: { (x y : Self) → is_element x → is_element y → x ≢ zero → y ≢ zero → mul x y ≢ zero } = { field.mul_nonzero };
 
     ghost mul_inv: { (x : Self) → is_element x → x ≢ zero → mul x (inv x) ≡ one } = { field.mul_inv };
+
+    /// The numbers of elements are a field too.
+    ghost numbers: { IsField (λ n. n < SIZE) 0 1 bit_xor product (λ n. number (inv (of_number n))) } = { number_field field numbering };
 }

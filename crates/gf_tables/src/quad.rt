@@ -1,8 +1,9 @@
 //! A field of pairs over a smaller one.
-ghost use Rattle.std.specs.Prelude.{◌≡◌, ◌≢◌, ◌≤◌, ◌<◌, ◌+◌, ◌*◌, ◌%◌, ◌/◌, ℕ};
+ghost use Rattle.std.specs.Prelude.{◌≡◌, ◌≢◌, ◌≤◌, ◌<◌, ◌*◌, ℕ};
+ghost use Rattle.gf_tables.specs.PairLaws.{equal_pairs, pair_field};
+ghost use Rattle.gf_tables.specs.PairNumbers.{is_256, pair_sizes, pairs_numbering};
+ghost use Rattle.gf_tables.specs.Pairs.{AreElements, pair, pair_add, pair_mul, pair_inv, norm, pair_number, pair_of_number};
 ghost use Rattle.gf_tables.specs.Product.{pair_product};
-ghost use Rattle.gf_tables.specs.PairLaws.{AreElements, pair, pair_add, pair_mul, pair_inv, norm, equal_pairs, pair_field};
-ghost use Rattle.gf_tables.specs.PairNumbers.{is_256, pair_sizes, pair_below, parts_below, number_of_parts, number_of_constant, pair_of_number, number-pair_add, number-pair_mul};
 
 use crate::{Field, Gf8};
 
@@ -66,9 +67,9 @@ impl<F: NoRoot> Field for Quad<F> {
 
     ghost is_element = { AreElements F.is_element };
 
-    ghost number = { λ x. F.number x.low + F.SIZE * F.number x.high };
+    ghost number = { pair_number F.number F.SIZE };
 
-    ghost of_number = { λ n. pair (F.of_number (n % F.SIZE)) (F.of_number (n / F.SIZE)) };
+    ghost of_number = { pair_of_number F.of_number F.SIZE };
 
     ghost zero = { pair F.zero F.zero };
 
@@ -137,21 +138,7 @@ impl<F: NoRoot> Field for Quad<F> {
 
     ghost equal = { equal_pairs F.eq F.equal };
 
-    ghost number_below = { λ x p. pair_below F.pair_size (F.number_below x.low p.0) (F.number_below x.high p.1) };
-
-    ghost element_of_number = { λ n h. let below = parts_below F.pair_size h in (F.element_of_number _ below.0, F.element_of_number _ below.1) };
-
-    ghost number_of_number = { λ n h. let below = parts_below F.pair_size h in number_of_parts F.SIZE n (F.number_of_number _ below.0) (F.number_of_number _ below.1) };
-
-    ghost of_number_number = { pair_of_number F.of_number F.number_below F.of_number_number };
-
-    ghost number_zero = { number_of_constant F.SIZE F.number_zero F.number_zero };
-
-    ghost number_one = { number_of_constant F.SIZE F.number_one F.number_zero };
-
-    ghost number_add = { number-pair_add F.field F.number_below F.number_add (is_256 F.sizes F.small) };
-
-    ghost number_mul = { number-pair_mul F.field F.number_below F.number_add F.product F.number_mul (F.element_of_number F.C F.constant) (F.number_of_number F.C F.constant) };
+    ghost numbering = { pairs_numbering F.field F.numbering (is_256 F.sizes F.small) F.pair_size F.constant };
 
     ghost field = { pair_field F.field F.eq F.equal (F.element_of_number F.C F.constant) F.no_root };
 }
@@ -168,8 +155,7 @@ impl<F: NoRoot> Quad<F> {
 
 impl NoRoot for Gf8 {
     ghost use Rattle.std.proofs.Common.{refl, lit<, lit≤};
-    ghost use Rattle.gf_tables.specs.NoRoot.{no_root_from_test};
-    ghost use Rattle.gf_tables.specs.Product.{octet_product, shift, shifted, sum_of_shifts};
+    ghost use Rattle.gf_tables.specs.Poly11D.{poly11D-no_root};
 
     const C: u32 = 0x20;
 
@@ -197,7 +183,7 @@ impl NoRoot for Gf8 {
 
     ghost pair_mark = { refl };
 
-    ghost no_root = { unfold shift shifted sum_of_shifts octet_product in no_root_from_test _ _ refl };
+    ghost no_root = { poly11D-no_root };
 }
 
 /// The field of 65,536 elements.

@@ -2,7 +2,7 @@
 use Rattle.std.proofs.Common.{◌≡◌, ◌<◌, ℕ, zero, suc, List, [], ◌∷◌, length, slice_index, refl, sym, ap, ◌∙◌, arith}
 use Rattle.std.specs.List.{All}
 use Rattle.std.proofs.lemmas.List.Elements.{All-nil, All-cons, All-head, All-tail}
-use Rattle.gf_tables.specs.Product.{shift, shifted, sum_of_shifts, octet_product, product}
+use Rattle.gf_tables.specs.Product.{shift, repeated_shift, sum_of_shifts, octet_product, product}
 use Rattle.gf_tables.specs.declared.kind.FieldKind.TheVariants.{Eight}
 use Rattle.node_program.specs.Combination.{add_rows, zero_row, combination}
 use Rattle.node_program.specs.CombinationLaws.{combination-one, scale_row-one, scale_row-zero, add_rows-zero_row, add_rows-comm, add_rows-twice, add_rows-elements, length-add_rows}
@@ -109,7 +109,7 @@ block_is =
 
 -- its first row comes back as 3
 changed_decoded : decoded changed_butterfly 1 block ≡ (3 ∷ []) ∷ (1 ∷ []) ∷ []
-unfolding changed_butterfly value_within product octet_product sum_of_shifts shifted shift
+unfolding changed_butterfly value_within product octet_product sum_of_shifts repeated_shift shift
 changed_decoded = refl
 
 pub changed_butterfly_refused : IsAccepted changed_butterfly → ⊥
