@@ -1,5 +1,5 @@
 -- Each kind of field is a field, on the numbers of its elements.
-use Rattle.std.specs.Prelude.{◌<◌, ◌==◌, ◌&&◌, true, refl, bit_xor}
+use Rattle.std.specs.Prelude.{◌≢◌, ◌<◌, ◌==◌, ◌&&◌, ℕ, List, true, refl, bit_xor}
 use Rattle.std.proofs.Common.{lit<}
 use Rattle.gf_tables.specs.Field.{IsField}
 use Rattle.gf_tables.specs.Inverse.{pair_inverse, inverse}
@@ -8,15 +8,22 @@ use Rattle.gf_tables.specs.OctetField.{octets_field, equal_octets}
 use Rattle.gf_tables.specs.PairLaws.{pair_field}
 use Rattle.gf_tables.specs.PairNumbers.{pairs_numbering}
 use Rattle.gf_tables.specs.Poly11D.{poly11D-tables, poly11D-no_root}
-use Rattle.gf_tables.specs.Product.{octet_product, octet_polynomial, product, size_of}
+use Rattle.gf_tables.specs.Powers.{octet_inverse, AreTables}
+use Rattle.gf_tables.specs.Product.{octet_product, pair_product, product, size_of}
 use Rattle.gf_tables.specs.declared.kind.FieldKind.{FieldKind}
 use Rattle.gf_tables.specs.declared.kind.FieldKind.TheVariants.{Eight, Sixteen}
 
+-- the numbers of pairs of octets are a field, where t*t + t + c has no root
+pub octet_pairs_field : {poly gen c : ℕ} {exp log : List ℕ} → AreTables poly gen exp log → c < 256 → ((t : ℕ) → t < 256 → bit_xor (bit_xor (octet_product poly t t) t) c ≢ 0)
+    → IsField (λ n. n < 65536) 0 1 bit_xor (pair_product (octet_product poly) 256 c) (pair_inverse (octet_product poly) (octet_inverse poly gen log) 256 c)
+unfolding pair_inverse
+octet_pairs_field {poly} t small no_root =
+    let octets = octets_field t in
+    let numbering = own_numbering 256 (octet_product poly) in
+    number_field (pair_field octets (λ x y. x == y && true) equal_octets small no_root) (pairs_numbering octets numbering refl refl small)
+
 -- the numbers of a kind's elements are a field
 pub kind_field : (kind : FieldKind) → IsField (λ n. n < size_of kind) 0 1 bit_xor (product kind) (inverse kind)
-unfolding product inverse pair_inverse
+unfolding product inverse
 kind_field Eight = octets_field poly11D-tables
-kind_field Sixteen =
-    let octets = octets_field poly11D-tables in
-    let numbering = own_numbering 256 (octet_product octet_polynomial) in
-    number_field (pair_field octets (λ x y. x == y && true) equal_octets (lit< tt) poly11D-no_root) (pairs_numbering octets numbering refl refl (lit< tt))
+kind_field Sixteen = octet_pairs_field poly11D-tables (lit< tt) poly11D-no_root

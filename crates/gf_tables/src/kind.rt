@@ -15,7 +15,7 @@ pub enum FieldKind {
 }
 
 /// The number of the product of the elements with the numbers `a` and `b`, in the field of a kind.
-#[tactic(auto, using(crate::specs::Kind::eight, crate::specs::Kind::sixteen))]
+#[tactic(auto, unfolding(crate::specs::Product::product))]
 pub fn product(kind: FieldKind, a: u32, b: u32) -> u32
     requires left { a < size_of kind }
     requires right { b < size_of kind }
