@@ -1,5 +1,5 @@
 -- Each kind of field is a field, on the numbers of its elements.
-use Rattle.std.specs.Prelude.{◌≢◌, ◌<◌, ◌==◌, ◌&&◌, ℕ, List, true, refl, bit_xor}
+use Rattle.std.specs.Prelude.{◌≡◌, ◌≢◌, ◌<◌, ◌/◌, ◌%◌, ◌==◌, ◌&&◌, ℕ, List, true, refl, bit_xor}
 use Rattle.std.proofs.Common.{lit<}
 use Rattle.gf_tables.specs.Field.{IsField}
 use Rattle.gf_tables.specs.Inverse.{pair_inverse, inverse}
@@ -7,9 +7,10 @@ use Rattle.gf_tables.specs.NumberField.{own_numbering, number_field}
 use Rattle.gf_tables.specs.OctetField.{octets_field, equal_octets}
 use Rattle.gf_tables.specs.PairLaws.{pair_field}
 use Rattle.gf_tables.specs.PairNumbers.{pairs_numbering}
-use Rattle.gf_tables.specs.Poly11D.{poly11D-tables, poly11D-no_root}
+use Rattle.gf_tables.specs.Poly11D.{octic, poly11D-tables, poly11D-no_root}
 use Rattle.gf_tables.specs.Powers.{octet_inverse, AreTables}
-use Rattle.gf_tables.specs.Product.{octet_product, pair_product, product, size_of}
+use Rattle.gf_tables.specs.Product.{octet_product, octet_polynomial, pair_product, pair_constant, product, size_of}
+use Rattle.gf_tables.specs.ProductLaws.{product_zero_left, product_zero_right}
 use Rattle.gf_tables.specs.declared.kind.FieldKind.{FieldKind}
 use Rattle.gf_tables.specs.declared.kind.FieldKind.TheVariants.{Eight, Sixteen}
 
@@ -27,3 +28,11 @@ pub kind_field : (kind : FieldKind) → IsField (λ n. n < size_of kind) 0 1 bit
 unfolding product inverse
 kind_field Eight = octets_field poly11D-tables
 kind_field Sixteen = octet_pairs_field poly11D-tables (lit< tt) poly11D-no_root
+
+-- 0 times any number is 0, whether it is an element's or not
+pub product_zero : (kind : FieldKind) (n : ℕ) → product kind 0 n ≡ 0
+unfolding product pair_product
+product_zero Eight n = product_zero_left octet_polynomial octic n
+product_zero Sixteen n =
+    let zero_times = product_zero_left octet_polynomial octic in
+    rw (zero_times (n / 256), zero_times (n % 256), product_zero_right octet_polynomial octic pair_constant) refl

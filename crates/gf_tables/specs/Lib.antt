@@ -11,7 +11,6 @@ pub mod Nibbles
 pub mod Halves
 pub mod NoRoot
 pub mod Field
-pub mod FieldLaws
 pub mod NumberField
 pub mod OctetField
 pub mod Pairs

@@ -43,7 +43,7 @@ xor_above m r h =
     rw (p, q) at (xor_block m 1 0 0 r (pow_pos m) h)
 
 -- the low bits of x, and one more
-pub low_bits-suc : (x m : ℕ) → x % 2 ^ suc m ≡ bit_xor (x % 2 ^ m) (bit_times (bit_at x m) (2 ^ m))
+low_bits-suc : (x m : ℕ) → x % 2 ^ suc m ≡ bit_xor (x % 2 ^ m) (bit_times (bit_at x m) (2 ^ m))
 low_bits-suc x m =
     let low : x % 2 ^ m < 2 ^ m = mod_below x (2 ^ m) (pow_pos m) in
     let e : x % 2 ^ suc m ≡ bit_at x m * 2 ^ m + x % 2 ^ m =

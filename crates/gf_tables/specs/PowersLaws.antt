@@ -12,7 +12,7 @@ power_lt poly gen zero d = omega arith
 power_lt poly gen (suc k) d = product_lt poly d (power poly gen k) gen (power_lt poly gen k d)
 
 -- the power of a sum is the product of the powers
-pub power_add : (poly gen i j : ℕ) → IsOctic poly → gen < 256 → power poly gen (i + j) ≡ octet_product poly (power poly gen i) (power poly gen j)
+power_add : (poly gen i j : ℕ) → IsOctic poly → gen < 256 → power poly gen (i + j) ≡ octet_product poly (power poly gen i) (power poly gen j)
 unfolding power
 power_add poly gen i zero d g = ap (power poly gen) (omega arith) ∙ sym (product_one_right poly d (power poly gen i))
 power_add poly gen i (suc j) d g =

@@ -18,7 +18,7 @@ module _ (poly : ℕ) (d : IsOctic poly) where
   product_xor_right a b c = sum_xor_right poly d a b c 8
 
   -- the product distributes over a sum of bytes on its left
-  pub product_xor_left : (a b c : ℕ) → a < 256 → b < 256 → octet_product poly (bit_xor a b) c ≡ bit_xor (octet_product poly a c) (octet_product poly b c)
+  product_xor_left : (a b c : ℕ) → a < 256 → b < 256 → octet_product poly (bit_xor a b) c ≡ bit_xor (octet_product poly a c) (octet_product poly b c)
   unfolding octet_product
   product_xor_left a b c h k = sum_xor_left poly d a b c 8 h k
 

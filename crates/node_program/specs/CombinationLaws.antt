@@ -1,64 +1,16 @@
 -- Laws of rows. Addition associates and commutes, zeros add nothing, and a row plus itself is zeros. 1 times a row
 -- is the row, and 0 times a row is zeros. An element's inverse takes back what the element makes of a row.
-use Rattle.std.specs.Prelude.{◌≡◌, ℕ, suc, ◌/◌, ◌%◌, ◌<◌, bit_xor, List, [], ◌∷◌, length}
+use Rattle.std.specs.Prelude.{◌≡◌, ℕ, suc, ◌<◌, bit_xor, List, [], ◌∷◌, length}
 use Rattle.std.proofs.Common.{arith, refl, sym, ap, ◌∙◌}
 use Rattle.std.specs.Int.Bits.{xor_zero_l, xor_zero_r, xor_self, xor_assoc}
 use Rattle.std.specs.List.{All}
 use Rattle.std.proofs.lemmas.List.Elements.{All-nil, All-cons, All-head, All-tail}
-use Rattle.std.proofs.lemmas.Nat.{xor_comm, xor_lt}
+use Rattle.std.proofs.lemmas.Nat.{xor_comm}
+use Rattle.gf_tables.specs.KindField.{kind_field, product_zero}
+use Rattle.gf_tables.specs.Product.{product, size_of}
 use Rattle.gf_tables.specs.declared.kind.FieldKind.{FieldKind}
-use Rattle.gf_tables.specs.declared.kind.FieldKind.TheVariants.{Eight, Sixteen}
-use Rattle.gf_tables.specs.Product.{octet_product, octet_polynomial, pair_product, pair_constant, product, size_of}
-use Rattle.gf_tables.specs.ShiftLaws.{IsOctic}
-use Rattle.gf_tables.specs.ProductLaws.{product_one_left, product_zero_left, product_zero_right, product_assoc}
+use Rattle.gf_tables.specs.declared.kind.FieldKind.TheVariants.{Eight}
 use Rattle.node_program.specs.Combination.{add_rows, scale_row, zero_row, combination}
-
-octic : IsOctic octet_polynomial
-octic = (omega arith, omega arith)
-
--- 1 times a pair is the pair
-pair_one : (n : ℕ) → n < 65536 → pair_product (octet_product octet_polynomial) 256 pair_constant 1 n ≡ n
-unfolding pair_product
-pair_one n h =
-    let P = octet_product octet_polynomial in
-    let a = n % 256 in
-    let b = n / 256 in
-    let small : b < 256 = omega arith in
-    let one_a : P 1 a ≡ a = product_one_left octet_polynomial octic a (omega arith) in
-    let one_b : P 1 b ≡ b = product_one_left octet_polynomial octic b small in
-    let zero_a : P 0 a ≡ 0 = product_zero_left octet_polynomial octic a in
-    let zero_b : P 0 b ≡ 0 = product_zero_left octet_polynomial octic b in
-    let root : P pair_constant 0 ≡ 0 = product_zero_right octet_polynomial octic pair_constant in
-    rw (zero_b, zero_a, one_a, one_b, root, xor_zero_r a, xor_zero_r b, xor_zero_r b) (omega arith)
-
--- 1 times an element is the element
-pub product_one : (field : FieldKind) (n : ℕ) → n < size_of field → product field 1 n ≡ n
-unfolding product
-product_one Eight n h = product_one_left octet_polynomial octic n h
-product_one Sixteen n h = pair_one n h
-
--- 0 times a pair is 0
-pair_zero : (n : ℕ) → pair_product (octet_product octet_polynomial) 256 pair_constant 0 n ≡ 0
-unfolding pair_product
-pair_zero n =
-    let P = octet_product octet_polynomial in
-    let a = n % 256 in
-    let b = n / 256 in
-    let zero_a : P 0 a ≡ 0 = product_zero_left octet_polynomial octic a in
-    let zero_b : P 0 b ≡ 0 = product_zero_left octet_polynomial octic b in
-    let root : P pair_constant 0 ≡ 0 = product_zero_right octet_polynomial octic pair_constant in
-    rw (zero_b, zero_a, root) refl
-
--- 0 times an element is 0
-pub product_zero : (field : FieldKind) (n : ℕ) → product field 0 n ≡ 0
-unfolding product
-product_zero Eight n = product_zero_left octet_polynomial octic n
-product_zero Sixteen n = pair_zero n
-
--- the sum of two elements is an element
-xor-element : (field : FieldKind) (a b : ℕ) → a < size_of field → b < size_of field → bit_xor a b < size_of field
-xor-element Eight a b h k = xor_lt 8 a b h k
-xor-element Sixteen a b h k = xor_lt 16 a b h k
 
 -- a sum of rows may be bracketed either way
 pub add_rows-assoc : (xs ys zs : List ℕ) → add_rows (add_rows xs ys) zs ≡ add_rows xs (add_rows ys zs)
@@ -106,7 +58,7 @@ add_rows-elements field [] ys h k = All-nil (λ element. element < size_of field
 add_rows-elements field (x ∷ xs) [] h k = All-nil (λ element. element < size_of field)
 add_rows-elements field (x ∷ xs) (y ∷ ys) h k =
     let P : ℕ → Type 0 = λ element. element < size_of field in
-    All-cons P (bit_xor x y) (add_rows xs ys) (xor-element field x y (All-head P x xs h) (All-head P y ys k))
+    All-cons P (bit_xor x y) (add_rows xs ys) ((kind_field field).add_element x y (All-head P x xs h) (All-head P y ys k))
     (add_rows-elements field xs ys (All-tail P x xs h) (All-tail P y ys k))
 
 -- a row plus the row of zeros
@@ -119,7 +71,7 @@ pub scale_row-one : (field : FieldKind) (row : List ℕ) → All (λ element. el
 scale_row-one field [] h = refl
 scale_row-one field (x ∷ xs) h =
     let P : ℕ → Type 0 = λ element. element < size_of field in
-    rw (product_one field x (All-head P x xs h), scale_row-one field xs (All-tail P x xs h)) refl
+    rw ((kind_field field).one_mul x (All-head P x xs h), scale_row-one field xs (All-tail P x xs h)) refl
 
 -- the length of a multiple of a row
 pub length-scale_row : (field : FieldKind) (times : ℕ) (row : List ℕ) → length (scale_row field times row) ≡ length row
@@ -137,30 +89,29 @@ pub combination-one : (field : FieldKind) (width : ℕ) (row : List ℕ) → len
     → combination field width (1 ∷ []) (row ∷ []) ≡ row
 combination-one field width row e h = combination-single field width 1 row e ∙ scale_row-one field row h
 
--- a multiple of a multiple of an octet, where the product of the coefficients is 1
-times_inverse : (a b x : ℕ) → a < 256 → b < 256 → x < 256 → product Eight a b ≡ 1 → product Eight a (product Eight b x) ≡ x
-unfolding product
-times_inverse a b x below_a below_b below inverse =
-    sym (product_assoc octet_polynomial octic a b x below_a below_b below)
-    ∙ ap (λ c. octet_product octet_polynomial c x) inverse
-    ∙ product_one_left octet_polynomial octic x below
+-- a multiple of a multiple of an element, where the product of the coefficients is 1
+times_inverse : (field : FieldKind) (a b x : ℕ) → a < size_of field → b < size_of field → x < size_of field → product field a b ≡ 1
+    → product field a (product field b x) ≡ x
+times_inverse field a b x below_a below_b below inverse =
+    let laws = kind_field field in
+    sym (laws.mul_assoc a b x below_a below_b below) ∙ ap (λ c. product field c x) inverse ∙ laws.one_mul x below
 
 -- the same of a row
-pub scale_row-inverse : (a b : ℕ) (row : List ℕ) → a < 256 → b < 256 → product Eight a b ≡ 1 → All (λ element. element < 256) row
-    → scale_row Eight a (scale_row Eight b row) ≡ row
-scale_row-inverse a b [] below_a below_b inverse h = refl
-scale_row-inverse a b (x ∷ xs) below_a below_b inverse h =
-    let P : ℕ → Type 0 = λ element. element < 256 in
-    rw (times_inverse a b x below_a below_b (All-head P x xs h) inverse, scale_row-inverse a b xs below_a below_b inverse (All-tail P x xs h)) refl
+scale_row-inverse : (field : FieldKind) (a b : ℕ) (row : List ℕ) → a < size_of field → b < size_of field → product field a b ≡ 1 → All (λ element. element < size_of field) row
+    → scale_row field a (scale_row field b row) ≡ row
+scale_row-inverse field a b [] below_a below_b inverse h = refl
+scale_row-inverse field a b (x ∷ xs) below_a below_b inverse h =
+    let P : ℕ → Type 0 = λ element. element < size_of field in
+    rw (times_inverse field a b x below_a below_b (All-head P x xs h) inverse, scale_row-inverse field a b xs below_a below_b inverse (All-tail P x xs h)) refl
 
--- the same of combinations of one row
+-- the same of combinations of one row, over octets
 pub combination-inverse : (width a b : ℕ) (row : List ℕ) → a < 256 → b < 256 → product Eight a b ≡ 1 → length row ≡ width → All (λ element. element < 256) row
     → combination Eight width (a ∷ []) (combination Eight width (b ∷ []) (row ∷ []) ∷ []) ≡ row
 combination-inverse width a b row below_a below_b inverse e h =
     let carried = combination-single Eight width b row e in
     ap (λ (r : List ℕ). combination Eight width (a ∷ []) (r ∷ [])) carried
     ∙ combination-single Eight width a (scale_row Eight b row) (length-scale_row Eight b row ∙ e)
-    ∙ scale_row-inverse a b row below_a below_b inverse h
+    ∙ scale_row-inverse Eight a b row below_a below_b inverse h
 
 -- 0 times a row
 pub scale_row-zero : (field : FieldKind) (row : List ℕ) → scale_row field 0 row ≡ zero_row (length row)
