@@ -3,6 +3,7 @@ ghost use Rattle.std.specs.Prelude.{◌<◌};
 use crate::{
     Field, FieldKind, Generates, Gf8, Gf16, NibbleTables, NoRoot, Octet, Poly11D, Quad, product,
 };
+use std::thread::join;
 
 // The product of bytes by its definition: a is doubled for each bit of b, and reduced where it has nine bits.
 fn product_by_shifts(a: u32, b: u32) -> u32 {
@@ -136,6 +137,41 @@ fn products_added_to_rows(rt: HostRuntime) {
     }
 }
 
+// The numbers of the first powers of an element.
+fn powers_of<F: Field>(element: F) -> [u32; 100] {
+    let mut numbers = [0; 100];
+    let mut power = F::one();
+    for place in 0..100 {
+        power = power.mul(element);
+        numbers[place] = power.number();
+    }
+    numbers
+}
+
+// Products with both fields and by tables.
+fn products_of(
+    octet: &Gf8,
+    pair: &Gf16,
+    tables: &NibbleTables<Poly11D>,
+) -> ([u32; 100], [u32; 100], u8) {
+    (powers_of(*octet), powers_of(*pair), tables.times(0x53))
+}
+
+#[test]
+fn threads_share_fields(rt: HostRuntime) {
+    let octet = Gf8::of_number(3);
+    let pair = Gf16::of_number(0x0203);
+    let tables = NibbleTables::new(octet);
+    let (first, second) = join(
+        &rt,
+        || products_of(&octet, &pair, &tables),
+        || products_of(&octet, &pair, &tables),
+    );
+    let alone = products_of(&octet, &pair, &tables);
+    assert_eq!(rt; first, alone);
+    assert_eq!(rt; second, alone);
+}
+
 // Threads can share values of the type.
 fn shared<T: Send + Sync>() {}
 
@@ -149,7 +185,7 @@ fn shared_over<T: Generates + Send + Sync, F: NoRoot + Send + Sync>() {
 }
 
 #[test]
-fn threads_share_fields() {
+fn threads_may_share_every_type() {
     shared_values::<Poly11D>();
     shared_values::<Gf8>();
     shared_values::<Gf16>();
