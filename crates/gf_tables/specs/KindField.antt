@@ -7,9 +7,9 @@ use Rattle.gf_tables.specs.NumberField.{own_numbering, number_field}
 use Rattle.gf_tables.specs.OctetField.{octets_field, equal_octets}
 use Rattle.gf_tables.specs.PairLaws.{pair_field}
 use Rattle.gf_tables.specs.PairNumbers.{pairs_numbering}
-use Rattle.gf_tables.specs.Poly11D.{octic, poly11D-tables, poly11D-no_root}
+use Rattle.gf_tables.specs.Poly11D.{poly11D-octic, poly11D-tables, poly11D-no_root}
 use Rattle.gf_tables.specs.Powers.{octet_inverse, AreTables}
-use Rattle.gf_tables.specs.Product.{octet_product, octet_polynomial, pair_product, pair_constant, product, size_of}
+use Rattle.gf_tables.specs.Product.{IsOctic, octet_product, octet_polynomial, pair_product, pair_constant, product, size_of}
 use Rattle.gf_tables.specs.ProductLaws.{product_zero_left, product_zero_right}
 use Rattle.gf_tables.specs.declared.kind.FieldKind.{FieldKind}
 use Rattle.gf_tables.specs.declared.kind.FieldKind.TheVariants.{Eight, Sixteen}
@@ -29,10 +29,13 @@ unfolding product inverse
 kind_field Eight = octets_field poly11D-tables
 kind_field Sixteen = octet_pairs_field poly11D-tables (lit< tt) poly11D-no_root
 
+-- 0 times a number is 0 over pairs of octets
+pair_product-zero : {poly : ℕ} → IsOctic poly → (c n : ℕ) → pair_product (octet_product poly) 256 c 0 n ≡ 0
+unfolding pair_product
+pair_product-zero {poly} d c n = rw (product_zero_left poly d (n / 256), product_zero_left poly d (n % 256), product_zero_right poly d c) refl
+
 -- 0 times any number is 0, whether it is an element's or not
 pub product_zero : (kind : FieldKind) (n : ℕ) → product kind 0 n ≡ 0
-unfolding product pair_product
-product_zero Eight n = product_zero_left octet_polynomial octic n
-product_zero Sixteen n =
-    let zero_times = product_zero_left octet_polynomial octic in
-    rw (zero_times (n / 256), zero_times (n % 256), product_zero_right octet_polynomial octic pair_constant) refl
+unfolding product
+product_zero Eight = product_zero_left octet_polynomial poly11D-octic
+product_zero Sixteen = pair_product-zero poly11D-octic pair_constant

@@ -12,8 +12,8 @@ unfolding shift repeated_shift sum_of_shifts octet_product
 poly11D-tables = tables_from_test octet_polynomial 2 EXP_11D LOG_11D refl
 
 -- the polynomial has degree 8
-pub octic : IsOctic octet_polynomial
-octic = poly11D-tables.degree
+pub poly11D-octic : IsOctic octet_polynomial
+poly11D-octic = poly11D-tables.degree
 
 -- t*t + t + C is never zero: the test of each byte computes
 pub poly11D-no_root : (t : ℕ) → t < 256 → bit_xor (bit_xor (octet_product octet_polynomial t t) t) pair_constant ≢ 0
