@@ -7,7 +7,7 @@ use Rattle.gf_tables.specs.NumberField.{own_numbering, number_field}
 use Rattle.gf_tables.specs.OctetField.{octets_field, equal_octets}
 use Rattle.gf_tables.specs.PairLaws.{pair_field}
 use Rattle.gf_tables.specs.PairNumbers.{pairs_numbering}
-use Rattle.gf_tables.specs.Poly11D.{poly11D-octic, poly11D-tables, poly11D-no_root}
+use Rattle.gf_tables.specs.Poly11D.{poly11D-tables, poly11D-no_root}
 use Rattle.gf_tables.specs.Powers.{octet_inverse, AreTables}
 use Rattle.gf_tables.specs.Product.{IsOctic, octet_product, octet_polynomial, pair_product, pair_constant, product, size_of}
 use Rattle.gf_tables.specs.ProductLaws.{product_zero_left, product_zero_right}
@@ -34,8 +34,12 @@ pair_product-zero : {poly : ℕ} → IsOctic poly → (c n : ℕ) → pair_produ
 unfolding pair_product
 pair_product-zero {poly} d c n = rw (product_zero_left poly d (n / 256), product_zero_left poly d (n % 256), product_zero_right poly d c) refl
 
+-- the polynomial has degree 8
+pub octic : IsOctic octet_polynomial
+octic = poly11D-tables.degree
+
 -- 0 times any number is 0, whether it is an element's or not
 pub product_zero : (kind : FieldKind) (n : ℕ) → product kind 0 n ≡ 0
 unfolding product
-product_zero Eight = product_zero_left octet_polynomial poly11D-octic
-product_zero Sixteen = pair_product-zero poly11D-octic pair_constant
+product_zero Eight = product_zero_left octet_polynomial octic
+product_zero Sixteen = pair_product-zero octic pair_constant
