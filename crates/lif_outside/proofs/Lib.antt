@@ -1,1 +1,2 @@
-pub mod Contents
+mod Contents
+mod MemoryCalls

@@ -1,15 +1,18 @@
 //! A store and a sink in memory. They tell their content, and fail where they are told to.
-ghost use Rattle.std.specs.Prelude.{◌≡◌, ◌⊎◌, ◌↔◌, ◌≤◌, ◌<◌, ◌-◌, ◌^◌, [], ℕ, List, min, length, drop, option_map, Contains, IfOk, IfSome, OnOk, OnErr, IsErr, IsSome};
-ghost use Rattle.lif_outside.specs.Counts.{KeepsCounts, Rose};
-ghost use Rattle.lif_outside.specs.Files.{SameFiles, Reads, Writes, MayEmpty, Appends, AppendsPrefix, bytes_at};
-ghost use Rattle.lif_outside.specs.Told.{Told, Becomes, Adds, AddsPrefix};
+ghost use Rattle.std.specs.Prelude.{◌≡◌, ◌⊎◌, ◌↔◌, ◌≤◌, ◌<◌, ◌-◌, ◌^◌, ◌∷◌, [], ℕ, List, min, length, drop, option_map, unwrap_or, Contains, IfOk, IfSome, OnOk, OnErr, IsErr, IsSome};
+ghost use Rattle.lif_outside.specs.AccountLaws.{accounts_none, accounts_then, puts_none, puts_then};
+ghost use Rattle.lif_outside.specs.Accounts.{StoreAccounts, SinkAccounts};
+ghost use Rattle.lif_outside.specs.Counts.{one_more};
+ghost use Rattle.lif_outside.specs.Events.{read_event, create_event, append_event};
+ghost use Rattle.lif_outside.specs.Files.{SameFiles};
+ghost use Rattle.lif_outside.specs.Puts.{put_event};
 
 mod parts;
 #[cfg(test)]
 mod tests;
 
 use crate::{Failed, Sink, Store};
-use parts::{add_bytes, count_one, empty_file, failed, kept_by, read_part};
+use parts::{add_bytes, count_one, empty_file, failed, keep_of, read_part};
 use std::alloc::{AllocError, Global};
 use std::collections::BTreeMap;
 
@@ -55,7 +58,7 @@ pub struct MemSink {
 
 impl MemStore {
     ghost use Rattle.lif_outside.specs.declared.memory.Call.{Call};
-    ghost use Rattle.lif_outside.specs.Memory.{files_in, most_of, fails_of, calls_of, faults_of, listed, CountsCall, SameCalls};
+    ghost use Rattle.lif_outside.specs.Memory.{files_in, most_of, fails_of, calls_of, faults_of, listing, CountsCall, SameCalls, SetsFile};
 
     /// A store without files. A read gives at most `most` bytes, and the calls of `fails` fail. It takes
     /// no memory.
@@ -82,7 +85,7 @@ impl MemStore {
     /// Sets a file. It counts as no call. It fails where memory runs out, and then leaves all files as
     /// they were.
     pub fn put_file(&mut self, alloc: Global, path: &str, bytes: &[u8]) -> Result<(), AllocError>
-        ensures ok { OnOk result (Writes path.now bytes.now (files_in self.old) (files_in self.new)) }
+        ensures ok { OnOk result (SetsFile path.now bytes.now (files_in self.old) (files_in self.new)) }
         ensures err { OnErr result (SameFiles (files_in self.old) (files_in self.new)) }
         ensures calls { SameCalls self.old self.new }
     {
@@ -100,7 +103,7 @@ impl MemStore {
 
     // Counts a call. Where it is listed to fail, says how many bytes it keeps.
     fn count_call(&mut self, call: Call) -> Option<usize>
-        ensures listed { result ≡ listed self.old call }
+        ensures listed { result ≡ listing self.old call }
         ensures call { CountsCall call self.old self.new }
         ensures files { SameFiles (files_in self.old) (files_in self.new) }
         ensures faults { faults_of self.new ≡ faults_of self.old }
@@ -110,13 +113,13 @@ impl MemStore {
             Call::Create => count_one(&mut self.creates),
             Call::Append => count_one(&mut self.appends),
         };
-        kept_by(&self.fails, call, nth)
+        keep_of(&self.fails, call, nth)
     }
 }
 
 impl Store for MemStore {
     ghost use Rattle.std.specs.Prelude.{Some};
-    ghost use Rattle.lif_outside.specs.Memory.{files_in, HasFile, path_faults, most_of, faults_of, next_call, listed, CountsCall, KeepsListed};
+    ghost use Rattle.lif_outside.specs.Memory.{files_in, HasFile, path_faults, most_of, faults_of, listing, CountsCall, KeepsAsListed, SetsFile, calls_in};
 
     ghost files = { λ store. Some (files_in store) };
 
@@ -126,25 +129,29 @@ impl Store for MemStore {
 
     ghost made = { HasFile };
 
+    ghost calls = { calls_in };
+
+    ghost no_calls = { accounts_none (λ store. Some (files_in store)) path_faults path_faults HasFile };
+
+    ghost more_calls = { accounts_then (λ store. Some (files_in store)) path_faults path_faults HasFile };
+
+    ghost accounts = { λ _ _ _ h. h };
+
     fn read(&mut self, path: &str, at: u64, into: &mut [u8]) -> Result<usize, Failed>
         requires { at ≤ 2 ^ 41 }
         ensures count { IfOk result (λ n. n ≤ length into.old) }
         ensures rest { IfOk result (λ n. drop n into.new ≡ drop n into.old) }
-        ensures bytes { IfOk result (λ n. Told (Some (files_in self.old))
-            (λ files. Reads files path.now at n into.old into.new)) }
-        ensures failed { OnErr result (Rose (path_faults self.old path.now) (path_faults self.new path.now)) }
-        ensures unchanged { Becomes (Some (files_in self.old)) (Some (files_in self.new)) SameFiles }
-        ensures counts { KeepsCounts path_faults path_faults HasFile self.old self.new }
+        ensures call { calls_in (read_event path.now at (length into.old) result into.new ∷ []) self.old self.new }
 
         // How many bytes come, and when it fails.
         ensures given { IfOk result (λ n. n ≡ min (most_of self.old) (min (length into.old)
-            (length (bytes_at (files_in self.old) path.now) - at))) }
+            (length (unwrap_or (files_in self.old path.now) []) - at))) }
         ensures fails { IsErr result
-            ↔ (IsSome (listed self.old Call.Read) ⊎ (files_in self.old path.now ≡ None)) }
+            ↔ (IsSome (listing self.old Call.Read) ⊎ (files_in self.old path.now ≡ None)) }
         ensures err { OnErr result (into.new ≡ into.old) }
-        ensures call { CountsCall Call.Read self.old self.new }
+        ensures counted { CountsCall Call.Read self.old self.new }
         ensures faults_ok { OnOk result (faults_of self.new ≡ faults_of self.old) }
-        ensures faults_err { OnErr result (faults_of self.new ≡ next_call (faults_of self.old)) }
+        ensures faults_err { OnErr result (faults_of self.new ≡ one_more (faults_of self.old)) }
     {
         if self.count_call(Call::Read).is_some() {
             return Err(failed(&mut self.faults));
@@ -156,22 +163,16 @@ impl Store for MemStore {
     }
 
     fn create(&mut self, path: &str) -> Result<(), Failed>
-        ensures created { OnOk result (Becomes (Some (files_in self.old)) (Some (files_in self.new))
-            (Writes path.now [])) }
-        ensures made { OnOk result (HasFile self.new path.now) }
-        ensures failed { OnErr result (Rose (path_faults self.old path.now) (path_faults self.new path.now)) }
-        ensures left { OnErr result (Becomes (Some (files_in self.old)) (Some (files_in self.new))
-            (MayEmpty path.now)) }
-        ensures counts { KeepsCounts path_faults path_faults HasFile self.old self.new }
+        ensures call { calls_in (create_event path.now result ∷ []) self.old self.new }
 
         // When it fails: only a new path takes memory.
-        ensures listed { IsSome (listed self.old Call.Create) → IsErr result }
+        ensures listed { IsSome (listing self.old Call.Create) → IsErr result }
         ensures memory { IsErr result
-            → IsSome (listed self.old Call.Create) ⊎ (files_in self.old path.now ≡ None) }
+            → IsSome (listing self.old Call.Create) ⊎ (files_in self.old path.now ≡ None) }
         ensures err { OnErr result (SameFiles (files_in self.old) (files_in self.new)) }
-        ensures call { CountsCall Call.Create self.old self.new }
+        ensures counted { CountsCall Call.Create self.old self.new }
         ensures faults_ok { OnOk result (faults_of self.new ≡ faults_of self.old) }
-        ensures faults_err { OnErr result (faults_of self.new ≡ next_call (faults_of self.old)) }
+        ensures faults_err { OnErr result (faults_of self.new ≡ one_more (faults_of self.old)) }
     {
         if self.count_call(Call::Create).is_some()
             || empty_file(self.alloc, &mut self.files, path).is_err()
@@ -183,22 +184,17 @@ impl Store for MemStore {
 
     fn append(&mut self, path: &str, bytes: &[u8]) -> Result<(), Failed>
         requires { HasFile self.old path.now }
-        ensures appended { OnOk result (Becomes (Some (files_in self.old)) (Some (files_in self.new))
-            (Appends path.now bytes.now)) }
-        ensures failed { OnErr result (Rose (path_faults self.old path.now) (path_faults self.new path.now)) }
-        ensures left { OnErr result (Becomes (Some (files_in self.old)) (Some (files_in self.new))
-            (AppendsPrefix path.now bytes.now)) }
-        ensures counts { KeepsCounts path_faults path_faults HasFile self.old self.new }
+        ensures call { calls_in (append_event path.now bytes.now result ∷ []) self.old self.new }
 
         // When it fails, and what it keeps: no bytes take no memory.
-        ensures listed { IfSome (listed self.old Call.Append) (λ keep. IsErr result) }
+        ensures listed { IfSome (listing self.old Call.Append) (λ keep. IsErr result) }
         ensures memory { IsErr result
-            → IsSome (listed self.old Call.Append) ⊎ (0 < length bytes.now) }
-        ensures kept { OnErr result (KeepsListed (listed self.old Call.Append) path.now bytes.now
+            → IsSome (listing self.old Call.Append) ⊎ (0 < length bytes.now) }
+        ensures kept { OnErr result (KeepsAsListed (listing self.old Call.Append) path.now bytes.now
             (files_in self.old) (files_in self.new)) }
-        ensures call { CountsCall Call.Append self.old self.new }
+        ensures counted { CountsCall Call.Append self.old self.new }
         ensures faults_ok { OnOk result (faults_of self.new ≡ faults_of self.old) }
-        ensures faults_err { OnErr result (faults_of self.new ≡ next_call (faults_of self.old)) }
+        ensures faults_err { OnErr result (faults_of self.new ≡ one_more (faults_of self.old)) }
     {
         let listed = self.count_call(Call::Append);
         let Some(file) = self.files.get_mut(path) else {
@@ -213,11 +209,11 @@ impl Store for MemStore {
 }
 
 impl MemSink {
-    ghost use Rattle.lif_outside.specs.Memory.{written_to, put_fails_of, puts_of, put_faults_of};
+    ghost use Rattle.lif_outside.specs.Memory.{bytes_in, put_fails_of, puts_of, put_faults_of};
 
     /// A sink without bytes. The puts of `fails` fail, counted from 1. It takes no memory.
     pub fn new(alloc: Global, fails: Vec<u64>) -> MemSink
-        ensures empty { written_to result ≡ [] }
+        ensures empty { bytes_in result ≡ [] }
         ensures fails { put_fails_of result ≡ fails.items }
         ensures puts { puts_of result ≡ 0 }
         ensures faults { put_faults_of result ≡ 0 }
@@ -232,7 +228,7 @@ impl MemSink {
 
     /// The bytes that were put.
     pub fn bytes(&self) -> &[u8]
-        ensures { result.now ≡ written_to self.now }
+        ensures { result.now ≡ bytes_in self.now }
     {
         self.bytes.as_slice()
     }
@@ -240,29 +236,32 @@ impl MemSink {
 
 impl Sink for MemSink {
     ghost use Rattle.std.specs.Prelude.{Some};
-    ghost use Rattle.lif_outside.specs.Memory.{written_to, put_fails_of, puts_of, put_faults_of, next_call};
+    ghost use Rattle.lif_outside.specs.Memory.{bytes_in, put_fails_of, puts_of, put_faults_of, puts_in};
 
-    ghost written = { λ sink. Some (written_to sink) };
+    ghost written = { λ sink. Some (bytes_in sink) };
 
     ghost faults = { put_faults_of };
 
+    ghost puts = { puts_in };
+
+    ghost no_puts = { puts_none (λ sink. Some (bytes_in sink)) put_faults_of };
+
+    ghost more_puts = { puts_then (λ sink. Some (bytes_in sink)) put_faults_of };
+
+    ghost accounts = { λ _ _ _ h. h };
+
     fn put(&mut self, bytes: &[u8]) -> Result<(), Failed>
-        ensures added { OnOk result (Becomes (Some (written_to self.old)) (Some (written_to self.new))
-            (Adds bytes.now)) }
-        ensures failed { OnErr result (Rose (put_faults_of self.old) (put_faults_of self.new)) }
-        ensures left { OnErr result (Becomes (Some (written_to self.old)) (Some (written_to self.new))
-            (AddsPrefix bytes.now)) }
-        ensures count { put_faults_of self.old ≤ put_faults_of self.new }
+        ensures put { puts_in (put_event bytes.now result ∷ []) self.old self.new }
 
         // When it fails: no bytes take no memory. Nothing is kept then.
-        ensures listed { Contains (put_fails_of self.old) (next_call (puts_of self.old)) → IsErr result }
+        ensures listed { Contains (put_fails_of self.old) (one_more (puts_of self.old)) → IsErr result }
         ensures memory { IsErr result
-            → Contains (put_fails_of self.old) (next_call (puts_of self.old)) ⊎ (0 < length bytes.now) }
-        ensures err { OnErr result (written_to self.new ≡ written_to self.old) }
-        ensures call { puts_of self.new ≡ next_call (puts_of self.old) }
+            → Contains (put_fails_of self.old) (one_more (puts_of self.old)) ⊎ (0 < length bytes.now) }
+        ensures err { OnErr result (bytes_in self.new ≡ bytes_in self.old) }
+        ensures counted { puts_of self.new ≡ one_more (puts_of self.old) }
         ensures fails { put_fails_of self.new ≡ put_fails_of self.old }
         ensures faults_ok { OnOk result (put_faults_of self.new ≡ put_faults_of self.old) }
-        ensures faults_err { OnErr result (put_faults_of self.new ≡ next_call (put_faults_of self.old)) }
+        ensures faults_err { OnErr result (put_faults_of self.new ≡ one_more (put_faults_of self.old)) }
     {
         let nth = count_one(&mut self.puts);
         if self.fails.contains(&nth) || self.bytes.extend_from_slice(bytes).is_err() {

@@ -1,8 +1,8 @@
 //! A store of files, as the program sees it.
-ghost use Rattle.std.specs.Prelude.{◌≡◌, ◌≤◌, ◌^◌, ◌++◌, [], ℕ, List, Option, length, drop, IfOk, OnOk, OnErr};
-ghost use Rattle.lif_outside.specs.Counts.{KeepsCounts, Rose};
-ghost use Rattle.lif_outside.specs.Files.{Files, SameFiles, Reads, Writes, MayEmpty, Appends, AppendsPrefix};
-ghost use Rattle.lif_outside.specs.Told.{Told, Becomes};
+ghost use Rattle.std.specs.Prelude.{◌≡◌, ◌≤◌, ◌^◌, ◌++◌, ◌∷◌, [], ℕ, List, Option, length, drop, IfOk};
+ghost use Rattle.lif_outside.specs.Accounts.{StoreAccounts};
+ghost use Rattle.lif_outside.specs.Events.{Event, read_event, create_event, append_event};
+ghost use Rattle.lif_outside.specs.Files.{Files};
 
 use crate::Failed;
 
@@ -21,30 +21,34 @@ pub trait Store {
     /// Holds of a path once a `create` of it has answered `Ok`.
     ghost made: { Self → List ℕ → Type 0 };
 
+    /// These calls with their answers, in this order, lead from one state to the other. A store that doesn't
+    /// tell its files may let any calls lead from any state to any other whose counts they account for.
+    ghost calls: { List Event → Self → Self → Type 0 };
+
     /// Reads bytes of a file, from a place on, to the front of a buffer, and answers how many. It reads
     /// at least one where there is room and the file isn't at its end. A missing file is a fault.
     fn read(&mut self, path: &str, at: u64, into: &mut [u8]) -> Result<usize, Failed>
         requires { at ≤ 2 ^ 41 }
         ensures count { IfOk result (λ n. n ≤ length into.old) }
         ensures rest { IfOk result (λ n. drop n into.new ≡ drop n into.old) }
-        ensures bytes { IfOk result (λ n. Told (files self.old) (λ files. Reads files path.now at n into.old into.new)) }
-        ensures failed { OnErr result (Rose (read_faults self.old path.now) (read_faults self.new path.now)) }
-        ensures unchanged { Becomes (files self.old) (files self.new) SameFiles }
-        ensures counts { KeepsCounts read_faults write_faults made self.old self.new };
+        ensures call { calls (read_event path.now at (length into.old) result into.new ∷ []) self.old self.new };
 
-    /// Makes an empty file, in place of one that is there.
+    /// Makes an empty file, in place of one that is there. Where it fails, the path is as before or empty.
     fn create(&mut self, path: &str) -> Result<(), Failed>
-        ensures created { OnOk result (Becomes (files self.old) (files self.new) (Writes path.now [])) }
-        ensures made { OnOk result (made self.new path.now) }
-        ensures failed { OnErr result (Rose (write_faults self.old path.now) (write_faults self.new path.now)) }
-        ensures left { OnErr result (Becomes (files self.old) (files self.new) (MayEmpty path.now)) }
-        ensures counts { KeepsCounts read_faults write_faults made self.old self.new };
+        ensures { calls (create_event path.now result ∷ []) self.old self.new };
 
-    /// Adds bytes at the end of a file.
+    /// Adds bytes at the end of a file. Where it fails, the file is as before, or a prefix of them was added.
     fn append(&mut self, path: &str, bytes: &[u8]) -> Result<(), Failed>
         requires { made self.old path.now }
-        ensures appended { OnOk result (Becomes (files self.old) (files self.new) (Appends path.now bytes.now)) }
-        ensures failed { OnErr result (Rose (write_faults self.old path.now) (write_faults self.new path.now)) }
-        ensures left { OnErr result (Becomes (files self.old) (files self.new) (AppendsPrefix path.now bytes.now)) }
-        ensures counts { KeepsCounts read_faults write_faults made self.old self.new };
+        ensures { calls (append_event path.now bytes.now result ∷ []) self.old self.new };
+
+    /// No call leads from a state to itself.
+    ghost no_calls: { (at : Self) → calls [] at at };
+
+    /// Calls and then more calls are the calls of both lists.
+    ghost more_calls: { (first later : List Event) (a b c : Self) → calls first a b → calls later b c → calls (first ++ later) a c };
+
+    /// Where files are told, they end as the calls say, and every read gave what the file held. No count falls, a
+    /// call that failed has raised its path's count, and a path whose create was done is made.
+    ghost accounts: { (events : List Event) (old new : Self) → calls events old new → StoreAccounts files read_faults write_faults made events old new };
 }

@@ -1,10 +1,12 @@
 pub mod Digits
 pub mod Exits
-pub mod FrontLemmas
 pub mod OneLinkCode
 pub mod OneLinkParts
 pub mod OneLinkReading
 pub mod OneLinkSink
-pub mod Complete
 pub mod Pieces
-pub mod Stages
+pub mod Causing
+pub mod Complete
+pub mod Leaving
+pub mod ReadingLaws
+pub mod SendCalls

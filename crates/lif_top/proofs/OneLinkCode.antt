@@ -27,7 +27,7 @@ use Rattle.code_file.specs.Items.{name_item, number_item, items_of, bytes_of}
 use Rattle.lif_top.specs.declared.one_link.Direction.{Direction}
 use Rattle.lif_top.specs.declared.one_link.Direction.TheVariants.{Forward, Backward}
 use Rattle.lif_top.specs.OneLink.{IsOneLink, Carries, sink_name}
-use Rattle.lif_top.specs.OneLinkFile.{tail_of, head_of, front, ends, coefficients}
+use Rattle.lif_top.specs.OneLinkFile.{tail_of, head_of, front, middle, coefficients}
 
 -- the names of the two nodes and of the link, the coefficient, and the entry that undoes it
 pub record AreParts (a b l : List ℕ) (times entry : ℕ) : Type 0 where
@@ -41,7 +41,7 @@ pub record AreParts (a b l : List ℕ) (times entry : ℕ) : Type 0 where
 
 -- the file of the code with these parts, whose link leads this way
 abbrev pub file : List ℕ → List ℕ → List ℕ → Direction → ℕ → ℕ → List ℕ
-file a b l way times entry = front ++ (name_item a ++ (name_item b ++ (number_item 1 ++ (name_item l ++ (ends way ++ coefficients times entry)))))
+file a b l way times entry = front ++ (name_item a ++ (name_item b ++ (number_item 1 ++ (name_item l ++ (middle way ++ coefficients times entry)))))
 
 one_name : (l : List ℕ) → IsName l → IsTrue (are_names (l ∷ []))
 one_name l h = rw h refl

@@ -11,7 +11,7 @@ use Rattle.code_file.specs.Items.{name_item, number_item}
 use Rattle.lif_top.specs.declared.one_link.Direction.{Direction}
 use Rattle.lif_top.specs.declared.one_link.Direction.TheVariants.{Forward, Backward}
 use Rattle.lif_top.specs.OneLink.{IsNoFile, SpellsCode}
-use Rattle.lif_top.specs.OneLinkFile.{front, ends, coefficients, SpellsNodes, SpellsLink, SpellsInverse}
+use Rattle.lif_top.specs.OneLinkFile.{front, middle, coefficients, SpellsNodes, SpellsLink, SpellsInverse}
 use Rattle.lif_top.proofs.OneLinkCode.{AreParts, file, sink_of, code_of_parts, code_of_parts-built, code_of_parts-carries, code_of_parts-bytes, code_of_parts-sink, code_of_parts-accepted}
 use Rattle.lif_top.proofs.OneLinkParts.{IsOneLinkFile, file_of}
 
@@ -24,11 +24,11 @@ name_item-cancel a b r s e =
     (same, sym (drop_at a r (length a) refl) ∙ ap (drop (length a)) names ∙ drop_at b s (length a) (sym lengths))
 
 -- which way a link leads, and what follows, in one way
-pub ends-cancel : (way other : Direction) (r s : List ℕ) → ends way ++ r ≡ ends other ++ s → (way ≡ other) × (r ≡ s)
-ends-cancel Forward Forward r s e = (refl, append_cancel_left (ends Forward) r s e)
-ends-cancel Backward Backward r s e = (refl, append_cancel_left (ends Backward) r s e)
-ends-cancel Forward Backward r s e = absurd (omega (arith, ap (λ (bytes : List ℕ). get_or bytes 1 0) e))
-ends-cancel Backward Forward r s e = absurd (omega (arith, ap (λ (bytes : List ℕ). get_or bytes 1 0) e))
+pub middle-cancel : (way other : Direction) (r s : List ℕ) → middle way ++ r ≡ middle other ++ s → (way ≡ other) × (r ≡ s)
+middle-cancel Forward Forward r s e = (refl, append_cancel_left (middle Forward) r s e)
+middle-cancel Backward Backward r s e = (refl, append_cancel_left (middle Backward) r s e)
+middle-cancel Forward Backward r s e = absurd (omega (arith, ap (λ (bytes : List ℕ). get_or bytes 1 0) e))
+middle-cancel Backward Forward r s e = absurd (omega (arith, ap (λ (bytes : List ℕ). get_or bytes 1 0) e))
 
 -- what follows the names of the nodes, in one way
 pub nodes-cancel : (bytes a b r c d s : List ℕ) → SpellsNodes bytes a b r → SpellsNodes bytes c d s → r ≡ s
@@ -43,10 +43,10 @@ link-cancel bytes r s x y =
 
 -- what follows the names of the nodes, and what follows that of the link, in a file
 abbrev pub behind_nodes : {bytes : List ℕ} → IsOneLinkFile bytes → List ℕ
-behind_nodes is = number_item 1 ++ (name_item is.link ++ (ends is.way ++ coefficients is.times is.entry))
+behind_nodes is = number_item 1 ++ (name_item is.link ++ (middle is.way ++ coefficients is.times is.entry))
 
 abbrev pub behind_link : {bytes : List ℕ} → IsOneLinkFile bytes → List ℕ
-behind_link is = ends is.way ++ coefficients is.times is.entry
+behind_link is = middle is.way ++ coefficients is.times is.entry
 
 -- the parts of a file
 module _ (bytes : List ℕ) (is : IsOneLinkFile bytes) where
@@ -113,14 +113,14 @@ module _ (bytes rest first second behind : List ℕ) (stripped : bytes ≡ front
     link_is : (is : IsOneLinkFile bytes) → behind_link is ≡ tail
     link_is is = link-cancel behind (behind_link is) tail (subst (λ b. SpellsLink b (behind_link is)) (nodes_are is) (link_stands bytes is)) link
 
-    pub no_direction : ((way : Direction) (rest : List ℕ) → tail ≢ ends way ++ rest) → IsOneLinkFile bytes → ⊥
+    pub no_direction : ((way : Direction) (rest : List ℕ) → tail ≢ middle way ++ rest) → IsOneLinkFile bytes → ⊥
     no_direction none is = none is.way (coefficients is.times is.entry) (sym (link_is is))
 
     -- as far as the operand's row
-    module _ (way : Direction) (pair : List ℕ) (led : tail ≡ ends way ++ pair) where
+    module _ (way : Direction) (pair : List ℕ) (led : tail ≡ middle way ++ pair) where
       pub no_inverse : ((times entry : ℕ) → SpellsInverse pair times entry → ⊥) → IsOneLinkFile bytes → ⊥
       no_inverse none is =
-          let same = ends-cancel is.way way (coefficients is.times is.entry) pair (link_is is ∙ led) in
+          let same = middle-cancel is.way way (coefficients is.times is.entry) pair (link_is is ∙ led) in
           none is.times is.entry (subst (λ b. SpellsInverse b is.times is.entry) same.1 (inverse_stands bytes is))
 
       pub spells_code : (times entry : ℕ) → SpellsInverse pair times entry → SpellsCode bytes (sink_of first second way) times entry
@@ -134,8 +134,8 @@ module _ (bytes rest first second behind : List ℕ) (stripped : bytes ≡ front
             entry_below = undone.entry_below;
             inverse = undone.inverse;
           } in
-          let after_link : tail ≡ ends way ++ coefficients times entry = led ∙ ap (λ (r : List ℕ). ends way ++ r) undone.spelled in
-          let after_nodes : behind ≡ number_item 1 ++ (name_item link.name ++ (ends way ++ coefficients times entry)) =
+          let after_link : tail ≡ middle way ++ coefficients times entry = led ∙ ap (λ (r : List ℕ). middle way ++ r) undone.spelled in
+          let after_nodes : behind ≡ number_item 1 ++ (name_item link.name ++ (middle way ++ coefficients times entry)) =
           link.spelled ∙ ap (λ (r : List ℕ). number_item 1 ++ (name_item link.name ++ r)) after_link in
           let whole : bytes ≡ file first second link.name way times entry =
           stripped ∙ ap (λ (r : List ℕ). front ++ r) (nodes.spelled ∙ ap (λ (r : List ℕ). name_item first ++ (name_item second ++ r)) after_nodes) in

@@ -9,7 +9,7 @@ use Rattle.lif_top.specs.OneLink.{IsOneLink, sink_name}
 use Rattle.lif_top.specs.OneLinkFile.{front}
 use Rattle.lif_top.proofs.OneLinkCode.{file, sink_of}
 use Rattle.lif_top.proofs.OneLinkParts.{file_of}
-use Rattle.lif_top.proofs.OneLinkReading.{name_item-cancel, ends-cancel}
+use Rattle.lif_top.proofs.OneLinkReading.{name_item-cancel, middle-cancel}
 
 -- the sink's name by the parts of a file
 same_parts : (a b l c d m : List ℕ) (way other : Direction) (times entry more last : ℕ) → file a b l way times entry ≡ file c d m other more last
@@ -19,7 +19,7 @@ same_parts a b l c d m way other times entry more last e =
     let first = name_item-cancel a c _ _ behind in
     let second = name_item-cancel b d _ _ first.1 in
     let link = name_item-cancel l m _ _ (append_cancel_left (number_item 1) _ _ second.1) in
-    let ways = ends-cancel way other _ _ link.1 in
+    let ways = middle-cancel way other _ _ link.1 in
     rw (first.0, second.0, ways.0) refl
 
 pub same_sink : (code other : Code) → IsOneLink code → IsAccepted code → IsOneLink other → IsAccepted other → bytes_of code ≡ bytes_of other → sink_name code ≡ sink_name other

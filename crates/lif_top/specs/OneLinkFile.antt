@@ -23,8 +23,8 @@ abbrev pub front : List ℕ
 front = codes "LIFC" ++ (1 ∷ 8 ∷ 1 ∷ number_item 2)
 
 -- the link's ends, the source, the sinks, the listed patterns, and the number of operands with the operand's row
-abbrev pub ends : Direction → List ℕ
-ends way =
+abbrev pub middle : Direction → List ℕ
+middle way =
     concat (number_item (tail_of way) ∷ number_item (head_of way) ∷ number_item (tail_of way) ∷ number_item 1 ∷ number_item (head_of way)
     ∷ number_item 0 ∷ number_item 1 ∷ number_item 0 ∷ [])
 

@@ -4,7 +4,7 @@ ghost use Rattle.gf_tables.specs.Product.{product};
 ghost use Rattle.net_model.specs.Name.{IsName};
 ghost use Rattle.code_file.specs.Items.{name_item};
 ghost use Rattle.lif_top.specs.OneLink.{IsNoFile, SpellsCode};
-ghost use Rattle.lif_top.specs.OneLinkFile.{ends, SpellsNodes, SpellsLink, SpellsInverse};
+ghost use Rattle.lif_top.specs.OneLinkFile.{middle, SpellsNodes, SpellsLink, SpellsInverse};
 
 use gf_tables::{FieldKind, product};
 use net_model::is_name;
@@ -79,8 +79,8 @@ fn split_link(bytes: &[u8]) -> Option<&[u8]>
 
 // Which way the link leads, and what follows its operand's row.
 fn split_direction(bytes: &[u8]) -> Option<(Direction, &[u8])>
-    ensures found { IfSome result (λ parts. bytes.now ≡ ends parts.0 ++ parts.1.now) }
-    ensures none { IfNone result ((way : Direction) (rest : List ℕ) → bytes.now ≢ ends way ++ rest) }
+    ensures found { IfSome result (λ parts. bytes.now ≡ middle parts.0 ++ parts.1.now) }
+    ensures none { IfNone result ((way : Direction) (rest : List ℕ) → bytes.now ≢ middle way ++ rest) }
 {
     if let Some(rest) = bytes.strip_prefix(FORWARD) {
         return Some((Direction::Forward, rest));

@@ -1,9 +1,11 @@
 //! The top call: words to a command, and what it does.
 ghost use Rattle.std.specs.Prelude.{◌≡◌, ◌≤◌, ◌↔◌, None, IfNone, IfSome, map, string_bytes};
-ghost use Rattle.lif_outside.specs.Counts.{KeepsCounts};
-ghost use Rattle.lif_top.specs.Program.{Misused, Answers};
-ghost use Rattle.lif_top.specs.Saying.{say_view};
-ghost use Rattle.lif_top.specs.Sending.{store_view, Ends};
+ghost use Rattle.lif_outside.specs.Calls.{Does, KeepsStore, outside};
+ghost use Rattle.lif_top.specs.Causes.{HasCauses};
+ghost use Rattle.lif_top.specs.Send.Answers.{Answers};
+ghost use Rattle.lif_top.specs.Send.Ends.{Ends};
+ghost use Rattle.lif_top.specs.Send.Leaves.{LeavesAll, Leaves};
+ghost use Rattle.lif_top.specs.Usage.{IsMisused};
 ghost use Rattle.lif_top.specs.Words.{send_of};
 
 use crate::Status;
@@ -27,21 +29,21 @@ pub fn lif<S: Store, C: Sink, R: Threads + Sync>(
 ) -> Status
     // Words that are no form.
     ensures usage { (result ≡ Status.Usage) ↔ (send_of (map string_bytes words.now) ≡ None) }
-    ensures misused { IfNone (send_of (map string_bytes words.now)) (Misused
-        (store_view S.files S.read_faults S.write_faults store.old) (store_view S.files S.read_faults S.write_faults store.new)
-        (say_view C.written C.faults say.old) (say_view C.written C.faults say.new)) }
+    ensures misused { IfNone (send_of (map string_bytes words.now))
+        (Does S.Store C.Sink store.old store.new say.old say.new IsMisused) }
 
-    // `send`: what stands in the store, what is said, and the cause of each status.
-    ensures send { IfSome (send_of (map string_bytes words.now)) (λ send. Ends send
-        (store_view S.files S.read_faults S.write_faults store.old) (store_view S.files S.read_faults S.write_faults store.new)
-        (say_view C.written C.faults say.old) (say_view C.written C.faults say.new) result) }
+    // `send`: the calls and what is put, by the status, and which calls the statuses of faults come from.
+    ensures send { IfSome (send_of (map string_bytes words.now)) (λ send.
+        Does S.Store C.Sink store.old store.new say.old say.new (λ deeds. Ends send result deeds × HasCauses deeds result)) }
+    // What the files hold and what is said by the status, where that is told.
+    ensures send_leaves { IfSome (send_of (map string_bytes words.now)) (λ send.
+        Leaves send result (outside S.Store C.Sink store.old say.old) (outside S.Store C.Sink store.new say.new)) }
     // Which status comes, memory and faults aside.
-    ensures send_answers { IfSome (send_of (map string_bytes words.now)) (λ send. Answers send
-        (store_view S.files S.read_faults S.write_faults store.old) (store_view S.files S.read_faults S.write_faults store.new)
-        (say_view C.written C.faults say.old) (say_view C.written C.faults say.new) result) }
+    ensures send_answers { IfSome (send_of (map string_bytes words.now)) (λ send.
+        Answers send result (outside S.Store C.Sink store.old say.old) (outside S.Store C.Sink store.new say.new)) }
 
     // No count falls.
-    ensures counts { KeepsCounts S.read_faults S.write_faults S.made store.old store.new }
+    ensures counts { KeepsStore S.Store store.old store.new }
     ensures say_count { C.faults say.old ≤ C.faults say.new }
 {
     match send_of(words) {

@@ -1,9 +1,8 @@
 //! Whole files, read within a limit.
-ghost use Rattle.std.specs.Prelude.{◌≡◌, ◌≤◌, ◌<◌, ◌+◌, ◌^◌, [], Some, length, true, false, IfOk, OnOk, OnErr, IsErrOf, vec_len, vec_capacity};
-ghost use Rattle.lif_outside.specs.Counts.{KeepsCounts, Rose};
-ghost use Rattle.lif_outside.specs.Files.{Files, bytes_at, SameFiles};
-ghost use Rattle.lif_outside.specs.Told.{Told, Becomes};
-ghost use Rattle.lif_top.specs.Fronts.{IsFront};
+ghost use Rattle.std.specs.Prelude.{◌≡◌, ◌≤◌, ◌<◌, ◌+◌, ◌^◌, [], length, true, IfOk, IfErr, IsErrOf, vec_len, vec_capacity};
+ghost use Rattle.lif_outside.specs.Calls.{Calls};
+ghost use Rattle.lif_outside.specs.Runs.{ReadsWhole};
+ghost use Rattle.lif_top.specs.Reading.{ReadsMore, StopsReading};
 
 use crate::Status;
 use lif_outside::Store;
@@ -49,18 +48,11 @@ fn read_more<S: Store>(
     requires limit { limit < 2 ^ 41 }
     requires within { vec_len front.old ≤ limit }
     requires chunk { 0 < length chunk.old }
-    requires front { IsFront (S.files store.old) path.now front.old.items }
-    ensures front { IsFront (S.files store.new) path.now front.new.items }
+    ensures reads { Calls S.Store store.old store.new (ReadsMore path.now limit front.old.items front.new.items result) }
     ensures within { vec_len front.new ≤ limit + 1 }
     ensures more { result ≡ Ok true → vec_len front.old < vec_len front.new }
-    ensures whole { result ≡ Ok false → Told (S.files store.new) (λ files. files path.now ≡ Some front.new.items) }
-    ensures end { result ≡ Ok false → vec_len front.new ≤ limit }
-    ensures fault { IsErrOf result ReadRefusal.Fault → Rose (S.read_faults store.old path.now) (S.read_faults store.new path.now) }
-    ensures short { IsErrOf result ReadRefusal.TooLong → ⊥ }
     ensures memory { IsErrOf result ReadRefusal.OutOfMemory → vec_capacity front.old < limit + 1 }
     ensures room { vec_capacity front.old ≤ vec_capacity front.new }
-    ensures unchanged { Becomes (S.files store.old) (S.files store.new) SameFiles }
-    ensures counts { KeepsCounts S.read_faults S.write_faults S.made store.old store.new }
 {
     let at = front.len();
     let room = chunk.len().min(limit + 1 - at);
@@ -84,13 +76,10 @@ pub fn read_whole<S: Store>(
 ) -> Result<Vec<u8>, ReadRefusal>
     requires empty { empty.items ≡ [] }
     requires limit { limit < 2 ^ 41 }
-    ensures whole { IfOk result (λ bytes. Told (S.files store.old) (λ files. files path.now ≡ Some bytes.items)) }
+    ensures whole { IfOk result (λ bytes. Calls S.Store store.old store.new (ReadsWhole path.now limit bytes.items)) }
+    ensures refused { IfErr result (λ refusal. Calls S.Store store.old store.new (StopsReading path.now limit refusal)) }
     ensures short { IfOk result (λ bytes. length bytes.items ≤ limit) }
-    ensures fault { IsErrOf result ReadRefusal.Fault → Rose (S.read_faults store.old path.now) (S.read_faults store.new path.now) }
-    ensures long { IsErrOf result ReadRefusal.TooLong → Told (S.files store.old) (λ files. limit < length (bytes_at files path.now)) }
     ensures memory { IsErrOf result ReadRefusal.OutOfMemory → vec_capacity empty < limit + 1 }
-    ensures unchanged { Becomes (S.files store.old) (S.files store.new) SameFiles }
-    ensures counts { KeepsCounts S.read_faults S.write_faults S.made store.old store.new }
 {
     let mut bytes = empty;
     let mut chunk = [0; CHUNK];

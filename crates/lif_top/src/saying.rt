@@ -1,9 +1,8 @@
 //! What the program says.
-ghost use Rattle.std.specs.Prelude.{◌≡◌, ◌≤◌, ◌+◌, ◌++◌, length, OnOk, OnErr};
-ghost use Rattle.lif_outside.specs.Counts.{Rose};
-ghost use Rattle.lif_outside.specs.Told.{Becomes, Adds, AddsPrefix};
+ghost use Rattle.std.specs.Prelude.{◌≡◌, ◌≤◌, ◌+◌, ◌++◌, ◌∷◌, [], length};
+ghost use Rattle.lif_outside.specs.Calls.{Puts};
+ghost use Rattle.lif_outside.specs.Puts.{put_event, SaysLine};
 ghost use Rattle.lif_top.specs.Lines.{refusal_line, sent_line};
-ghost use Rattle.lif_top.specs.Saying.{SaysRefusal, say_view};
 
 use crate::transfer::SentCounts;
 use crate::{CodeRefusal, Status};
@@ -60,8 +59,7 @@ fn refusal_line(refusal: Status) -> &'static [u8]
 /// Says the line of a refusal, and answers the refusal, which stands also where the line couldn't be said.
 pub fn refuse<C: Sink>(refusal: Status, say: &mut C) -> Status
     ensures refusal { result ≡ refusal }
-    ensures said { SaysRefusal refusal (say_view C.written C.faults say.old) (say_view C.written C.faults say.new) }
-    ensures count { C.faults say.old ≤ C.faults say.new }
+    ensures said { Puts C.Sink say.old say.new (SaysLine (refusal_line refusal)) }
 {
     let _ = say.put(refusal_line(refusal));
     refusal
@@ -69,10 +67,7 @@ pub fn refuse<C: Sink>(refusal: Status, say: &mut C) -> Status
 
 /// Says the line of a source that was sent to one sink.
 pub fn say_sent<C: Sink>(counts: &SentCounts, say: &mut C) -> Result<(), Failed>
-    ensures said { OnOk result (Becomes (C.written say.old) (C.written say.new) (Adds (sent_line counts.now.bytes counts.now.generations 1))) }
-    ensures left { OnErr result (Becomes (C.written say.old) (C.written say.new) (AddsPrefix (sent_line counts.now.bytes counts.now.generations 1))) }
-    ensures failed { OnErr result (Rose (C.faults say.old) (C.faults say.new)) }
-    ensures count { C.faults say.old ≤ C.faults say.new }
+    ensures { C.puts (put_event (sent_line counts.now.bytes counts.now.generations 1) result ∷ []) say.old say.new }
 {
     let line = sent_line(counts.bytes, counts.generations, 1);
     say.put(line.as_str().as_bytes())

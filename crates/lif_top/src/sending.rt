@@ -1,13 +1,10 @@
 //! The command `send`.
-ghost use Rattle.std.specs.Prelude.{◌≡◌, ◌≤◌, ◌+◌, ℕ, List, [], length, IfOk, IfErr, OnOk, string_bytes, vec_capacity};
-ghost use Rattle.lif_outside.specs.Counts.{KeepsCounts};
-ghost use Rattle.lif_outside.specs.Files.{SameFiles};
-ghost use Rattle.lif_outside.specs.Told.{Becomes};
-ghost use Rattle.lif_top.specs.Ready.{IsReady};
-ghost use Rattle.lif_top.specs.Words.{paths_of};
-ghost use Rattle.lif_top.specs.Sending.{store_view, source_limit, SameStore, Fills, FillStops, Stops, Delivers, Ends};
-ghost use Rattle.lif_top.specs.Saying.{say_view};
+ghost use Rattle.std.specs.Prelude.{◌≡◌, ◌≤◌, ◌+◌, ℕ, List, [], IfOk, IfErr, string_bytes, vec_capacity};
+ghost use Rattle.lif_outside.specs.Calls.{Calls, Does};
+ghost use Rattle.lif_top.specs.Send.Ends.{source_limit, Fills, FillStops, Delivers, Stops, Ends};
+ghost use Rattle.lif_top.specs.Send.Ready.{IsReady};
 ghost use Rattle.lif_top.specs.Transfer.{AreCounts};
+ghost use Rattle.lif_top.specs.Words.{paths_of};
 
 use crate::carrier::Carrier;
 use crate::one_link::read_one_link;
@@ -38,9 +35,8 @@ fn fill<S: Store>(
     requires empty { empty.items ≡ [] }
     requires room { source_limit + 1 ≤ vec_capacity empty }
     ensures filled { IfOk result (λ counts. (bytes : List ℕ) × AreCounts bytes counts
-        × Fills source.now output.now (store_view S.files S.read_faults S.write_faults store.old) (store_view S.files S.read_faults S.write_faults store.new) bytes) }
-    ensures stops { IfErr result (FillStops source.now output.now (store_view S.files S.read_faults S.write_faults store.old) (store_view S.files S.read_faults S.write_faults store.new)) }
-    ensures counts { KeepsCounts S.read_faults S.write_faults S.made store.old store.new }
+        × Calls S.Store store.old store.new (Fills source.now output.now bytes)) }
+    ensures stops { IfErr result (λ status. Calls S.Store store.old store.new (FillStops source.now output.now status)) }
 {
     let Ok(()) = store.create(output) else {
         return Err(Status::WriteFault);
@@ -66,10 +62,8 @@ fn prepare<S: Store>(
     words: &SendWords<'_>,
     store: &mut S,
 ) -> Result<Prepared, Status>
-    ensures ready { IfOk result (λ ready. IsReady (paths_of words.now) (store_view S.files S.read_faults S.write_faults store.old) ready) }
-    ensures stops { IfErr result (Stops (paths_of words.now) (store_view S.files S.read_faults S.write_faults store.old) (store_view S.files S.read_faults S.write_faults store.new)) }
-    ensures unchanged { Becomes (S.files store.old) (S.files store.new) SameFiles }
-    ensures counts { KeepsCounts S.read_faults S.write_faults S.made store.old store.new }
+    ensures ready { IfOk result (λ ready. Calls S.Store store.old store.new (IsReady (paths_of words.now) ready)) }
+    ensures stops { IfErr result (λ status. Calls S.Store store.old store.new (Stops (paths_of words.now) status)) }
 {
     let bytes = read_whole(store, words.code, CODE_LIMIT, Vec::new(alloc))?;
     let Some(link) = read_one_link(&bytes) else {
@@ -92,9 +86,8 @@ fn deliver<S: Store>(
     store: &mut S,
 ) -> Result<SentCounts, Status>
     ensures delivered { IfOk result (λ counts. (bytes : List ℕ) × AreCounts bytes counts
-        × Delivers (paths_of words.now) (store_view S.files S.read_faults S.write_faults store.old) (store_view S.files S.read_faults S.write_faults store.new) bytes) }
-    ensures stops { IfErr result (Stops (paths_of words.now) (store_view S.files S.read_faults S.write_faults store.old) (store_view S.files S.read_faults S.write_faults store.new)) }
-    ensures counts { KeepsCounts S.read_faults S.write_faults S.made store.old store.new }
+        × Calls S.Store store.old store.new (Delivers (paths_of words.now) bytes)) }
+    ensures stops { IfErr result (λ status. Calls S.Store store.old store.new (Stops (paths_of words.now) status)) }
 {
     let Prepared {
         carrier,
@@ -111,11 +104,7 @@ pub fn send<S: Store, C: Sink>(
     store: &mut S,
     say: &mut C,
 ) -> Status
-    ensures ends { Ends (paths_of words.now)
-        (store_view S.files S.read_faults S.write_faults store.old) (store_view S.files S.read_faults S.write_faults store.new)
-        (say_view C.written C.faults say.old) (say_view C.written C.faults say.new) result }
-    ensures counts { KeepsCounts S.read_faults S.write_faults S.made store.old store.new }
-    ensures say_count { C.faults say.old ≤ C.faults say.new }
+    ensures { Does S.Store C.Sink store.old store.new say.old say.new (Ends (paths_of words.now) result) }
 {
     match deliver(alloc, words, store) {
         Ok(counts) => match say_sent(&counts, say) {

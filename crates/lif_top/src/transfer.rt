@@ -1,8 +1,8 @@
 //! A source that goes over the one link, generation by generation, to the sink's file.
-ghost use Rattle.std.specs.Prelude.{◌≡◌, ◌≤◌, [], Some, IsSome, length, IfOk, OnOk, OnErr};
-ghost use Rattle.lif_outside.specs.Counts.{KeepsCounts, Rose};
-ghost use Rattle.lif_outside.specs.Files.{Appends, AppendsPrefix, Writes, WritesPrefix};
-ghost use Rattle.lif_outside.specs.Told.{Told, Becomes};
+ghost use Rattle.std.specs.Prelude.{◌≡◌, ◌≤◌, ◌∷◌, [], length, IfOk, OnOk, OnErr};
+ghost use Rattle.lif_outside.specs.Calls.{Calls};
+ghost use Rattle.lif_outside.specs.Events.{append_failed};
+ghost use Rattle.lif_top.specs.Send.Ends.{AppendsAll, AppendsPart};
 ghost use Rattle.lif_top.specs.Transfer.{AreCounts};
 
 use crate::RATE;
@@ -30,14 +30,11 @@ fn carry_block<S: Store>(
     row: &mut [u8],
 ) -> Result<(), Failed>
     requires made { S.made store.old output.now }
-    requires there { Told (S.files store.old) (λ files. IsSome (files output.now)) }
     requires fits { length piece.now ≤ 1020 }
     requires block { length block.old ≡ 1024 }
     requires row { length row.old ≡ 1024 }
-    ensures appended { OnOk result (Becomes (S.files store.old) (S.files store.new) (Appends output.now piece.now)) }
-    ensures left { OnErr result (Becomes (S.files store.old) (S.files store.new) (AppendsPrefix output.now piece.now)) }
-    ensures failed { OnErr result (Rose (S.write_faults store.old output.now) (S.write_faults store.new output.now)) }
-    ensures counts { KeepsCounts S.read_faults S.write_faults S.made store.old store.new }
+    ensures appended { OnOk result (Calls S.Store store.old store.new (AppendsAll output.now piece.now)) }
+    ensures failed { OnErr result (Calls S.Store store.old store.new (λ calls. calls ≡ append_failed output.now piece.now ∷ [])) }
 {
     carrier.carry(piece, block, row);
     let received = counted(block);
@@ -47,7 +44,7 @@ fn carry_block<S: Store>(
     store.append(output, received)
 }
 
-/// Writes the source to the sink's file, which is empty, generation by generation.
+/// Appends the source to the sink's file, generation by generation.
 pub fn carry_source<S: Store>(
     carrier: &Carrier,
     store: &mut S,
@@ -55,13 +52,10 @@ pub fn carry_source<S: Store>(
     source: &[u8],
 ) -> Result<SentCounts, Failed>
     requires made { S.made store.old output.now }
-    requires empty { Told (S.files store.old) (λ files. files output.now ≡ Some []) }
     requires short { length source.now ≤ 67108864 }
     ensures counted { IfOk result (AreCounts source.now) }
-    ensures written { OnOk result (Becomes (S.files store.old) (S.files store.new) (Writes output.now source.now)) }
-    ensures left { OnErr result (Becomes (S.files store.old) (S.files store.new) (WritesPrefix output.now source.now)) }
-    ensures failed { OnErr result (Rose (S.write_faults store.old output.now) (S.write_faults store.new output.now)) }
-    ensures counts { KeepsCounts S.read_faults S.write_faults S.made store.old store.new }
+    ensures appended { OnOk result (Calls S.Store store.old store.new (AppendsAll output.now source.now)) }
+    ensures failed { OnErr result (Calls S.Store store.old store.new (AppendsPart output.now source.now)) }
 {
     let capacity = cap(RATE) as usize;
     let generations = source.len() / capacity + 1;

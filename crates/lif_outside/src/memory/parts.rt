@@ -1,8 +1,8 @@
 //! Parts of the calls on a store and a sink in memory, over plain lists and maps.
-ghost use Rattle.std.specs.Prelude.{◌≡◌, ◌<◌, ◌≤◌, ◌-◌, ◌++◌, [], min, length, take, drop, unwrap_or, OnOk, OnErr, IsErr};
-ghost use Rattle.lif_outside.specs.Files.{SameFiles, Writes};
-ghost use Rattle.lif_outside.specs.Memory.{next_call, kept_by, contents};
-ghost use Rattle.lif_outside.specs.Told.{AddsPrefix};
+ghost use Rattle.std.specs.Prelude.{◌≡◌, ◌<◌, ◌≤◌, ◌-◌, ◌++◌, [], ℕ, min, length, take, drop, unwrap_or, OnOk, OnErr, IsErr};
+ghost use Rattle.lif_outside.specs.Counts.{one_more};
+ghost use Rattle.lif_outside.specs.Files.{SameFiles};
+ghost use Rattle.lif_outside.specs.Memory.{keep_of, contents, SetsFile};
 
 use super::{Call, Fail};
 use crate::Failed;
@@ -11,8 +11,8 @@ use std::collections::BTreeMap;
 
 // Counts one more, and says how many there are then.
 pub fn count_one(count: &mut u64) -> u64
-    ensures value { result ≡ next_call count.old }
-    ensures after { count.new ≡ next_call count.old }
+    ensures value { result ≡ one_more count.old }
+    ensures after { count.new ≡ one_more count.old }
     ensures later { count.old ≤ count.new }
 {
     *count = count.saturating_add(1);
@@ -21,7 +21,7 @@ pub fn count_one(count: &mut u64) -> u64
 
 // Counts a call that fails.
 pub fn failed(faults: &mut u64) -> Failed
-    ensures after { faults.new ≡ next_call faults.old }
+    ensures after { faults.new ≡ one_more faults.old }
     ensures later { faults.old ≤ faults.new }
 {
     count_one(faults);
@@ -29,8 +29,8 @@ pub fn failed(faults: &mut u64) -> Failed
 }
 
 // How many bytes the `nth` call of a kind keeps, where it is listed to fail.
-pub fn kept_by(fails: &[Fail], call: Call, nth: u64) -> Option<usize>
-    ensures { result ≡ kept_by fails.now call nth }
+pub fn keep_of(fails: &[Fail], call: Call, nth: u64) -> Option<usize>
+    ensures { result ≡ keep_of fails.now call nth }
 {
     fails
         .iter()
@@ -56,7 +56,7 @@ pub fn empty_file(
     files: &mut BTreeMap<String, Vec<u8>>,
     path: &str,
 ) -> Result<(), AllocError>
-    ensures ok { OnOk result (Writes path.now [] (contents files.old) (contents files.new)) }
+    ensures ok { OnOk result (SetsFile path.now [] (contents files.old) (contents files.new)) }
     ensures err { OnErr result (SameFiles (contents files.old) (contents files.new)) }
     ensures memory { IsErr result → contents files.old path.now ≡ None }
 {
@@ -73,7 +73,7 @@ pub fn add_bytes(file: &mut Vec<u8>, bytes: &[u8], keep: Option<usize>) -> Resul
     ensures ok { OnOk result (file.new.items
         ≡ file.old.items ++ take (unwrap_or keep (length bytes.now)) bytes.now) }
     ensures err { OnErr result (file.new.items ≡ file.old.items) }
-    ensures prefix { AddsPrefix bytes.now file.old.items file.new.items }
+    ensures prefix { (kept : ℕ) × (file.new.items ≡ file.old.items ++ take kept bytes.now) }
     ensures memory { OnErr result (0 < length bytes.now) }
 {
     let kept = keep.unwrap_or(bytes.len()).min(bytes.len());

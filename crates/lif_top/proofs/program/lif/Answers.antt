@@ -1,19 +1,54 @@
-use Rattle.std.proofs.Common.{Option, subst}
-use Rattle.std.specs.Prelude.{IfSome}
-use Rattle.lif_top.specs.Program.{Answers}
-use Rattle.lif_top.specs.Saying.{say_view}
-use Rattle.lif_top.specs.Sending.{store_view}
-use Rattle.lif_top.specs.Words.{Send, paths_of}
+use Rattle.std.proofs.Common.{◌≡◌, [], None, IfNone, IfSome, map, string_bytes, refl, sym, subst}
+use Rattle.std.specs.Prelude.{Option}
+use Rattle.lif_outside.specs.Calls.{Does, outside}
+use Rattle.lif_outside.specs.DeedLaws.{accounted}
+use Rattle.lif_top.specs.Causes.{HasCauses}
+use Rattle.lif_top.specs.Send.Answers.{Answers}
+use Rattle.lif_top.specs.Send.Ends.{Ends}
+use Rattle.lif_top.specs.Send.Leaves.{Leaves}
+use Rattle.lif_top.specs.Usage.{IsMisused}
+use Rattle.lif_top.specs.Words.{Send, send_of, paths_of}
+use Rattle.lif_top.proofs.Causing.{causes}
 use Rattle.lif_top.proofs.Complete.{answers}
+use Rattle.lif_top.proofs.Leaving.{leaves}
 use Rattle.lif_top.proofs.program.lif.Goals as goal
+use Rattle.lif_top.proofs.program.lif.Goals.{In-Some}
+
+pub returns-in-Some-clause-send : goal.returns-in-Some-clause-send
+returns-in-Some-clause-send g c =
+    let store = g.S.Store in
+    let say = g.C.Sink in
+    let does = c.send.ensures in
+    subst (λ (words : Option Send). IfSome words (λ send. Does store say c.args.store.now c.send.new.store c.args.say.now c.send.new.say (λ deeds. Ends send c.send.result deeds × HasCauses deeds c.send.result))) c.in-Some.ensures
+    (record { deeds = does.deeds; on_store = does.on_store; on_say = does.on_say; holds = (does.holds, causes (paths_of c.in-Some.paths) does.deeds c.send.result does.holds) })
+
+pub returns-in-Some-clause-send_leaves : goal.returns-in-Some-clause-send_leaves
+returns-in-Some-clause-send_leaves g c =
+    let does = c.send.ensures in
+    let before = outside g.S.Store g.C.Sink c.args.store.now c.args.say.now in
+    let after = outside g.S.Store g.C.Sink c.send.new.store c.send.new.say in
+    let accounts = accounted g.S.Store g.C.Sink does.deeds c.args.store.now c.send.new.store c.args.say.now c.send.new.say
+        (g.met.S.Store.accounts does.deeds.calls _ _ does.on_store) (g.met.C.Sink.accounts does.deeds.puts _ _ does.on_say) in
+    subst (λ (words : Option Send). IfSome words (λ send. Leaves send c.send.result before after)) c.in-Some.ensures
+    (leaves (paths_of c.in-Some.paths) does.deeds before after accounts c.send.result does.holds)
 
 pub returns-in-Some-clause-send_answers : goal.returns-in-Some-clause-send_answers
 returns-in-Some-clause-send_answers g c =
-    let store_at = store_view g.S.Store.files g.S.Store.read_faults g.S.Store.write_faults in
-    let say_at = say_view g.C.Sink.written g.C.Sink.faults in
-    let old = store_at c.args.store.now in
-    let new = store_at c.send.new.store in
-    let say_old = say_at c.args.say.now in
-    let say_new = say_at c.send.new.say in
-    subst (λ (words : Option Send). IfSome words (λ send. Answers send old new say_old say_new c.send.result)) c.in-Some.ensures
-    (answers (paths_of c.in-Some.paths) old new say_old say_new c.send.result c.send.ensures.ends)
+    let does = c.send.ensures in
+    let before = outside g.S.Store g.C.Sink c.args.store.now c.args.say.now in
+    let after = outside g.S.Store g.C.Sink c.send.new.store c.send.new.say in
+    let accounts = accounted g.S.Store g.C.Sink does.deeds c.args.store.now c.send.new.store c.args.say.now c.send.new.say
+        (g.met.S.Store.accounts does.deeds.calls _ _ does.on_store) (g.met.C.Sink.accounts does.deeds.puts _ _ does.on_say) in
+    subst (λ (words : Option Send). IfSome words (λ send. Answers send c.send.result before after)) c.in-Some.ensures
+    (answers (paths_of c.in-Some.paths) before after c.send.result (leaves (paths_of c.in-Some.paths) does.deeds before after accounts c.send.result does.holds))
+
+pub returns-in-None-clause-misused : goal.returns-in-None-clause-misused
+returns-in-None-clause-misused g c =
+    let line = c.refuse.ensures.said in
+    subst (λ (words : Option Send). IfNone words (Does g.S.Store g.C.Sink c.args.store.now c.args.store.now c.args.say.now c.refuse.new.say IsMisused)) c.in-None.ensures
+    (record {
+      deeds = record { calls = []; puts = line.made };
+      on_store = g.met.S.Store.no_calls c.args.store.now;
+      on_say = line.lead;
+      holds = record { no_call = refl; says = line.holds };
+    })

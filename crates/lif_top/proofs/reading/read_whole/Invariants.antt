@@ -1,20 +1,14 @@
-use Rattle.std.proofs.Common.{◌≤◌, ◌+◌, ◌-◌, vec_len, vec_capacity}
-use Rattle.lif_outside.specs.Counts.{KeepsCounts}
-use Rattle.lif_outside.specs.Files.{SameFiles}
-use Rattle.lif_outside.specs.Told.{Becomes}
-use Rattle.lif_top.specs.Fronts.{IsFront}
+use Rattle.std.proofs.Common.{◌≡◌, ◌≤◌, ◌+◌, ◌-◌, vec_len, vec_capacity}
+use Rattle.lif_outside.specs.Calls.{Calls}
+use Rattle.lif_outside.specs.Runs.{AreReadsFrom, bytes_read}
 use Rattle.lif_top.proofs.reading.read_whole.Given as goal
 
 abbrev pub invariant-loop-chunk : goal.invariant-loop-chunk
-invariant-loop-chunk g l =
-    let store = g.S.Store in
-    record {
-      within : vec_len l.bytes ≤ l.limit + 1;
-      front : IsFront (store.files l.store) l.path l.bytes.items;
-      room : vec_capacity l.fn.empty ≤ vec_capacity l.bytes;
-      unchanged : Becomes (store.files l.initial.store) (store.files l.store) SameFiles;
-      counts : KeepsCounts store.read_faults store.write_faults store.made l.initial.store l.store;
-    }
+invariant-loop-chunk g l = record {
+  within : vec_len l.bytes ≤ l.limit + 1;
+  room : vec_capacity l.fn.empty ≤ vec_capacity l.bytes;
+  reads : Calls g.S.Store l.initial.store l.store (λ calls. AreReadsFrom 0 l.path calls × (bytes_read calls ≡ l.bytes.items));
+}
 
 -- each turn but the last reads a byte
 abbrev pub decreases-loop-chunk : goal.decreases-loop-chunk

@@ -1,34 +1,28 @@
-use Rattle.std.proofs.Common.{◌≡◌, subst, ◌∙◌}
+use Rattle.std.proofs.Common.{◌≡◌, ◌∙◌}
 use Rattle.std.proofs.lemmas.Result.{IfOk-weaker, IfErr-weaker}
-use Rattle.lif_top.specs.Sending.{Fills, FillStops, store_view, output_path}
+use Rattle.lif_outside.specs.CallLaws.{calls_then}
+use Rattle.lif_top.specs.Send.Ends.{output_path, Fills, FillStops, Delivers, Stops}
+use Rattle.lif_top.specs.Send.Ready.{IsReady}
 use Rattle.lif_top.specs.Words.{paths_of}
-use Rattle.lif_top.proofs.Stages.{fills_from, fill_stops_from, stops_after_code}
+use Rattle.lif_top.proofs.SendCalls.{after_code, stops_after_code}
 use Rattle.lif_top.proofs.sending.deliver.Goals as goal
 
 pub returns-clause-delivered : goal.returns-clause-delivered
 returns-clause-delivered g c =
-    let store = g.S.Store in
-    let view = store_view store.files store.read_faults store.write_faults in
-    let ready = c.in_ok-carrier.ensures.ready in
-    let path : c.as_str.result.now ≡ output_path (paths_of c.args.words.now) ready.code = c.as_str.ensures.value ∙ ready.path in
+    let send = paths_of c.args.words.now in
+    let output = c.as_str.result.now in
     IfOk-weaker c.fill.result _ _ (λ count filled. (
       filled.0,
       filled.1,
-      record {
-        code = ready.code;
-        reads_code = ready.reads_code;
-        after = subst (λ output. Fills c.args.words.now.source.now output (view c.args.store.now) (view c.fill.new.store) filled.0) path
-            (fills_from c.args.words.now.source.now c.as_str.result.now (view c.args.store.now) (view c.prepare.new.store) (view c.fill.new.store) c.prepare.ensures.unchanged c.prepare.ensures.counts.reads c.prepare.ensures.counts.writes filled.0 filled.2);
-      },
+      calls_then g.met.S.Store.more_calls (IsReady send c.in_ok-carrier.field-0) (Fills send.source output filled.0) (Delivers send filled.0) c.in_ok-carrier.ensures.ready filled.2
+          (λ first later ready fills. after_code send ready.code (λ path. Fills send.source path filled.0) output (c.as_str.ensures.value ∙ ready.path) first later ready.reads_code fills),
     )) c.fill.ensures.filled
 
 pub returns-clause-stops : goal.returns-clause-stops
 returns-clause-stops g c =
-    let store = g.S.Store in
-    let view = store_view store.files store.read_faults store.write_faults in
-    let ready = c.in_ok-carrier.ensures.ready in
-    let path : c.as_str.result.now ≡ output_path (paths_of c.args.words.now) ready.code = c.as_str.ensures.value ∙ ready.path in
-    IfErr-weaker c.fill.result _ _ (λ status stop. stops_after_code (paths_of c.args.words.now) (view c.args.store.now) (view c.fill.new.store) ready.code ready.reads_code status
-    (subst (λ output. FillStops c.args.words.now.source.now output (view c.args.store.now) (view c.fill.new.store) status) path
-    (fill_stops_from c.args.words.now.source.now c.as_str.result.now (view c.args.store.now) (view c.prepare.new.store) (view c.fill.new.store) c.prepare.ensures.unchanged c.prepare.ensures.counts.reads c.prepare.ensures.counts.writes status stop)))
+    let send = paths_of c.args.words.now in
+    let output = c.as_str.result.now in
+    IfErr-weaker c.fill.result _ _ (λ status stop.
+      calls_then g.met.S.Store.more_calls (IsReady send c.in_ok-carrier.field-0) (FillStops send.source output status) (Stops send status) c.in_ok-carrier.ensures.ready stop
+          (λ first later ready fills. stops_after_code send ready.code output (c.as_str.ensures.value ∙ ready.path) status first later ready.reads_code fills))
     c.fill.ensures.stops

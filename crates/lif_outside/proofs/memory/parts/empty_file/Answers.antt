@@ -1,6 +1,5 @@
 use Rattle.std.proofs.Common.{[], subst, rules}
-use Rattle.lif_outside.specs.Files.{Writes}
-use Rattle.lif_outside.specs.Memory.{contents}
+use Rattle.lif_outside.specs.Memory.{contents, SetsFile}
 use Rattle.lif_outside.proofs.Contents.{set_writes, insert_writes}
 use Rattle.lif_outside.proofs.memory.parts.empty_file.Goals as goal
 
@@ -11,4 +10,4 @@ returns-in-Some-clause-ok c =
 
 pub returns-clause-ok : goal.returns-clause-ok
 returns-clause-ok c =
-    subst (λ old. Writes c.args.path.now [] (contents old) (contents c.insert.new.self)) c.get_mut.follows.holds-at-none (insert_writes c.in_ok-from_str.field-0 _ _ c.get_mut.follows.lender-at-none c.insert.new.self c.new.result c.in_ok-from_str.ensures.ok c.new.ensures.items c.in_ok-insert.ensures.updates)
+    subst (λ old. SetsFile c.args.path.now [] (contents old) (contents c.insert.new.self)) c.get_mut.follows.holds-at-none (insert_writes c.in_ok-from_str.field-0 _ _ c.get_mut.follows.lender-at-none c.insert.new.self c.new.result c.in_ok-from_str.ensures.ok c.new.ensures.items c.in_ok-insert.ensures.updates)

@@ -1,0 +1,5 @@
+-- The command `send`.
+pub mod Ends
+pub mod Leaves
+pub mod Answers
+pub mod Ready
