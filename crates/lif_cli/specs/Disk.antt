@@ -1,5 +1,7 @@
 -- What a store over the files of the system shows.
 use Rattle.std.specs.Prelude.{ℕ, List, Option, None}
+use Rattle.lif_outside.specs.Accounts.{StoreAccounts}
+use Rattle.lif_outside.specs.Events.{Event}
 use Rattle.lif_outside.specs.Files.{Files}
 use Rattle.lif_cli.specs.declared.disk.DiskStore.{DiskStore}
 
@@ -25,3 +27,7 @@ any_path store path = Unit {0}
 -- it tells nothing of the files
 abbrev pub no_files : DiskStore → Option Files
 no_files store = None
+
+-- calls lead from one state to another where the counts account for them
+abbrev pub calls_on_disk : List Event → DiskStore → DiskStore → Type 0
+calls_on_disk events old new = StoreAccounts no_files path_read_faults path_write_faults any_path events old new

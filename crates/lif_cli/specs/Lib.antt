@@ -1,3 +1,3 @@
 pub mod Disk
-pub mod Faults
+pub mod Run
 pub mod Say

@@ -1,17 +1,15 @@
 //! A store over the files of the system.
-ghost use Rattle.std.specs.Prelude.{◌≡◌, ◌≤◌, ◌^◌, [], length, drop, IfOk, OnOk, OnErr};
-ghost use Rattle.lif_outside.specs.Counts.{KeepsCounts, Rose};
-ghost use Rattle.lif_outside.specs.Files.{SameFiles, Reads, Writes, MayEmpty, Appends, AppendsPrefix};
-ghost use Rattle.lif_outside.specs.Told.{Told, Becomes};
-ghost use Rattle.lif_cli.specs.Disk.{read_faults_of, write_faults_of, path_read_faults, path_write_faults, any_path, no_files};
-ghost use Rattle.lif_cli.specs.Faults.{one_more};
+ghost use Rattle.std.specs.Prelude.{◌≡◌, ◌≤◌, ◌^◌, ◌∷◌, [], length, drop, IfOk, OnOk, OnErr};
+ghost use Rattle.lif_outside.specs.AccountLaws.{accounts_none, accounts_then};
+ghost use Rattle.lif_outside.specs.Counts.{one_more};
+ghost use Rattle.lif_outside.specs.Events.{read_event, create_event, append_event};
+ghost use Rattle.lif_cli.specs.Disk.{read_faults_of, write_faults_of, path_read_faults, path_write_faults, any_path, no_files, calls_on_disk};
 
 use crate::appending::{Appending, append_to};
 use crate::faults::counted;
-use crate::pieces::read_full;
+use crate::pieces::{move_to, read_full};
 use lif_outside::{Failed, Store};
 use std::fs::File;
-use std::io::{Seek, SeekFrom};
 use std::rt::Files;
 use std::{fs, io};
 
@@ -47,7 +45,7 @@ fn read_at<R: Files>(rt: &R, path: &str, at: u64, into: &mut [u8]) -> io::Result
     ensures rest { IfOk result (λ n. drop n into.new ≡ drop n into.old) }
 {
     let mut file = fs::open(rt, path)?;
-    file.seek(SeekFrom::Start(at))?;
+    move_to(&mut file, at)?;
     read_full(&mut file, into)
 }
 
@@ -66,14 +64,19 @@ impl<'r> Store for DiskStore<'r> {
 
     ghost made = { any_path };
 
+    ghost calls = { calls_on_disk };
+
+    ghost no_calls = { accounts_none no_files path_read_faults path_write_faults any_path };
+
+    ghost more_calls = { accounts_then no_files path_read_faults path_write_faults any_path };
+
+    ghost accounts = { λ _ _ _ h. h };
+
     fn read(&mut self, path: &str, at: u64, into: &mut [u8]) -> Result<usize, Failed>
         requires { at ≤ 2 ^ 41 }
         ensures count { IfOk result (λ n. n ≤ length into.old) }
         ensures rest { IfOk result (λ n. drop n into.new ≡ drop n into.old) }
-        ensures bytes { IfOk result (λ n. Told (no_files self.old) (λ files. Reads files path.now at n into.old into.new)) }
-        ensures failed { OnErr result (Rose (path_read_faults self.old path.now) (path_read_faults self.new path.now)) }
-        ensures unchanged { Becomes (no_files self.old) (no_files self.new) SameFiles }
-        ensures counts { KeepsCounts path_read_faults path_write_faults any_path self.old self.new }
+        ensures call { calls_on_disk (read_event path.now at (length into.old) result into.new ∷ []) self.old self.new }
 
         // A fault is counted exactly where the read fails.
         ensures faults_ok { OnOk result (read_faults_of self.new ≡ read_faults_of self.old) }
@@ -85,11 +88,7 @@ impl<'r> Store for DiskStore<'r> {
     }
 
     fn create(&mut self, path: &str) -> Result<(), Failed>
-        ensures created { OnOk result (Becomes (no_files self.old) (no_files self.new) (Writes path.now [])) }
-        ensures made { OnOk result (any_path self.new path.now) }
-        ensures failed { OnErr result (Rose (path_write_faults self.old path.now) (path_write_faults self.new path.now)) }
-        ensures left { OnErr result (Becomes (no_files self.old) (no_files self.new) (MayEmpty path.now)) }
-        ensures counts { KeepsCounts path_read_faults path_write_faults any_path self.old self.new }
+        ensures call { calls_on_disk (create_event path.now result ∷ []) self.old self.new }
 
         // A fault is counted exactly where the create fails.
         ensures faults_ok { OnOk result (write_faults_of self.new ≡ write_faults_of self.old) }
@@ -102,10 +101,7 @@ impl<'r> Store for DiskStore<'r> {
 
     fn append(&mut self, path: &str, bytes: &[u8]) -> Result<(), Failed>
         requires { any_path self.old path.now }
-        ensures appended { OnOk result (Becomes (no_files self.old) (no_files self.new) (Appends path.now bytes.now)) }
-        ensures failed { OnErr result (Rose (path_write_faults self.old path.now) (path_write_faults self.new path.now)) }
-        ensures left { OnErr result (Becomes (no_files self.old) (no_files self.new) (AppendsPrefix path.now bytes.now)) }
-        ensures counts { KeepsCounts path_read_faults path_write_faults any_path self.old self.new }
+        ensures call { calls_on_disk (append_event path.now bytes.now result ∷ []) self.old self.new }
 
         // A fault is counted exactly where the append fails.
         ensures faults_ok { OnOk result (write_faults_of self.new ≡ write_faults_of self.old) }

@@ -1,6 +1,6 @@
 //! Calls of the system that fail, and how they are counted.
 ghost use Rattle.std.specs.Prelude.{◌≡◌, ◌≤◌, ◌↔◌, OnOk, OnErr, IfOk, IsErr};
-ghost use Rattle.lif_cli.specs.Faults.{one_more};
+ghost use Rattle.lif_outside.specs.Counts.{one_more};
 
 use lif_outside::Failed;
 use std::io;

@@ -5,11 +5,11 @@ mod appending;
 mod disk;
 mod faults;
 mod pieces;
+mod run;
 mod say;
 
 use disk::DiskStore;
-use lif_outside::Sink;
-use lif_top::{Status, lif};
+use run::{Words, run};
 use say::StdSay;
 use std::io::ErrorKind;
 use std::process::ExitCode;
@@ -22,19 +22,18 @@ fn words<R: Env + AllocGlobal>(rt: &R) -> io::Result<Vec<String>> {
     Ok(words)
 }
 
-/// Does what the words say. Words that aren't text are no form. Where there is no memory for the words, nothing
-/// but that is said.
+/// The same, or why they can't be had.
+fn words_or_why<R: Env + AllocGlobal>(rt: &R) -> Words {
+    match words(rt) {
+        Ok(words) => Words::Given(words),
+        Err(error) if error.kind() == ErrorKind::OutOfMemory => Words::NoMemory,
+        Err(_) => Words::NotText,
+    }
+}
+
 fn main(rt: HostRuntime) -> ExitCode {
-    let mut say = StdSay::new(&rt);
-    let words = match words(&rt) {
-        Ok(words) => words,
-        Err(error) if error.kind() == ErrorKind::OutOfMemory => {
-            let _ = say.put(b"out of memory\n");
-            return ExitCode::from(Status::OutOfMemory.code());
-        }
-        Err(_) => Vec::new(rt.alloc()),
-    };
+    let words = words_or_why(&rt);
     let mut store = DiskStore::new(&rt);
-    let status = lif(&rt, rt.alloc(), words.as_slice(), &mut store, &mut say);
-    ExitCode::from(status.code())
+    let mut say = StdSay::new(&rt);
+    run(&rt, rt.alloc(), words, &mut store, &mut say)
 }

@@ -1,15 +1,25 @@
 //! Reads and writes, piece by piece, until all is done.
 ghost use Rattle.std.specs.Prelude.{◌≡◌, ℕ, ◌<◌, ◌≤◌, length, take, drop, OnOk, OnErr, IfOk};
-ghost use Rattle.std.specs.Io.KnownBytes.{Appends, Consumes, IsAtEnd, ReadConsumes, WriteAppends};
+ghost use Rattle.std.specs.Io.KnownBytes.{Appends, Consumes, IsAtEnd, Keeps, ReadConsumes, WriteAppends};
+ghost use Rattle.std.specs.Io.Seek.{MovesTo};
 
 use std::io;
-use std::io::{ErrorKind, Read, Write};
+use std::io::{ErrorKind, Read, Seek, SeekFrom, Write};
 
 /// How many bytes are read at a time.
 const PIECE: usize = 65536;
 
 /// How often a call that a signal interrupts is tried.
 const TRIES: u32 = 1000;
+
+/// Moves to a place, counted from the start.
+pub fn move_to<F: Seek>(file: &mut F, at: u64) -> io::Result<()>
+    ensures moves { MovesTo (F.stream_position file.old) (F.stream_position file.new) at result }
+    ensures bytes { Keeps (F.stream_bytes file.old) (F.stream_bytes file.new) }
+{
+    file.seek(SeekFrom::Start(at))?;
+    Ok(())
+}
 
 // Reads once, and again where a signal interrupts it.
 fn read_once<F: Read>(file: &mut F, into: &mut [u8]) -> io::Result<usize>

@@ -1,14 +1,16 @@
 //! A sink over standard output.
-ghost use Rattle.std.specs.Prelude.{◌≡◌, ◌≤◌, OnOk, OnErr};
-ghost use Rattle.lif_outside.specs.Counts.{Rose};
-ghost use Rattle.lif_outside.specs.Told.{Becomes, Adds, AddsPrefix};
-ghost use Rattle.lif_cli.specs.Faults.{one_more};
-ghost use Rattle.lif_cli.specs.Say.{faults_of, no_bytes};
+ghost use Rattle.std.specs.Prelude.{◌≡◌, ◌≤◌, ℕ, ◌∷◌, [], take, OnOk, OnErr};
+ghost use Rattle.std.specs.Io.KnownBytes.{Appends};
+ghost use Rattle.lif_outside.specs.AccountLaws.{puts_none, puts_then};
+ghost use Rattle.lif_outside.specs.Counts.{one_more};
+ghost use Rattle.lif_outside.specs.Puts.{put_event};
+ghost use Rattle.lif_cli.specs.Say.{faults_of, no_bytes, puts_on_output};
 
 use crate::faults::counted;
 use crate::pieces::write_full;
 use lif_outside::{Failed, Sink};
 use std::io;
+use std::io::Write;
 
 /// Standard output. It tells nothing of what was written.
 #[derive(Drop)]
@@ -26,9 +28,15 @@ impl<'r> StdSay<'r> {
     }
 }
 
-// Writes all bytes to standard output.
-fn print_all<R: Print>(rt: &R, bytes: &[u8]) -> io::Result<()> {
-    write_full(&mut io::writer(rt), bytes)
+/// Writes all bytes to a writer, and counts a fault where that fails. Then a prefix of them was written.
+pub fn put_to<W: Write>(to: &mut W, bytes: &[u8], faults: &mut u64) -> Result<(), Failed>
+    ensures ok { OnOk result (Appends (W.contents to.old) (W.contents to.new) bytes.now) }
+    ensures err { OnErr result ((n : ℕ) × Appends (W.contents to.old) (W.contents to.new) (take n bytes.now)) }
+    ensures faults_ok { OnOk result (faults.new ≡ faults.old) }
+    ensures faults_err { OnErr result (faults.new ≡ one_more faults.old) }
+    ensures later { faults.old ≤ faults.new }
+{
+    counted(write_full(to, bytes), faults)
 }
 
 impl<'r> Sink for StdSay<'r> {
@@ -36,17 +44,22 @@ impl<'r> Sink for StdSay<'r> {
 
     ghost faults = { faults_of };
 
+    ghost puts = { puts_on_output };
+
+    ghost no_puts = { puts_none no_bytes faults_of };
+
+    ghost more_puts = { puts_then no_bytes faults_of };
+
+    ghost accounts = { λ _ _ _ h. h };
+
     fn put(&mut self, bytes: &[u8]) -> Result<(), Failed>
-        ensures added { OnOk result (Becomes (no_bytes self.old) (no_bytes self.new) (Adds bytes.now)) }
-        ensures failed { OnErr result (Rose (faults_of self.old) (faults_of self.new)) }
-        ensures left { OnErr result (Becomes (no_bytes self.old) (no_bytes self.new) (AddsPrefix bytes.now)) }
-        ensures count { faults_of self.old ≤ faults_of self.new }
+        ensures put { puts_on_output (put_event bytes.now result ∷ []) self.old self.new }
 
         // A fault is counted exactly where the put fails.
         ensures faults_ok { OnOk result (faults_of self.new ≡ faults_of self.old) }
         ensures faults_err { OnErr result (faults_of self.new ≡ one_more (faults_of self.old)) }
     {
-        counted(print_all(self.rt, bytes), &mut self.faults)
+        put_to(&mut io::writer(self.rt), bytes, &mut self.faults)
     }
 }
 

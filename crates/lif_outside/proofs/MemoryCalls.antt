@@ -30,13 +30,15 @@ module _ (old new : MemStore) (path : List ℕ) where
   read_done at room most count file buffer same later found some counted front fits =
       let long : length (take count buffer) ≡ count = omega (arith, length-take count buffer) in
       read_accounts _ path_faults path_faults HasFile path at room (Ok count) buffer old new
-      (becomes_told (follow_once (read path at room (take count buffer)) (files_in old) (files_in new)
-      (record {
-        content = file;
-        found = found;
-        part = front ∙ ap (λ n. take n (drop at file)) (sym long);
-        ended = λ none room_there. let zero : count ≡ 0 = sym long ∙ ap length none in omega arith;
-      }, same path)
+      (becomes_told (follow_once (read path at room (take count buffer)) (files_in old) (files_in new) (
+        record {
+          content = file;
+          found = found;
+          part = front ∙ ap (λ n. take n (drop at file)) (sym long);
+          ended = λ none room_there. let zero : count ≡ 0 = sym long ∙ ap length none in omega arith;
+        },
+        same path,
+      )
       (λ other apart. same other)))
       (keeps later (same_keep same)) tt
 

@@ -63,9 +63,9 @@ part_then : (file : Option (List ℕ)) (at : ℕ) (bytes more : List ℕ) → Is
 part_then file at bytes more one other =
     let same : other.content ≡ one.content = same_content other.found one.found in
     let second : more ≡ take (length more) (drop (length bytes) (drop at one.content)) =
-        other.part ∙ ap (λ c. take (length more) (drop (at + length bytes) c)) same ∙ ap (take (length more)) (sym (drop-drop (length bytes) at one.content)) in
+    other.part ∙ ap (λ c. take (length more) (drop (at + length bytes) c)) same ∙ ap (take (length more)) (sym (drop-drop (length bytes) at one.content)) in
     let sum : bytes ++ more ≡ take (length bytes) (drop at one.content) ++ take (length more) (drop (length bytes) (drop at one.content)) =
-        ap (λ front. front ++ more) one.part ∙ ap (λ rest. take (length bytes) (drop at one.content) ++ rest) second in
+    ap (λ front. front ++ more) one.part ∙ ap (λ rest. take (length bytes) (drop at one.content) ++ rest) second in
     record {
       content = one.content;
       found = one.found;
@@ -103,13 +103,13 @@ whole_held path limit bytes events a b whole h =
     let found : a ≡ Some last.content = sym mid ∙ last.found in
     let ended : length last.content ≤ length bytes = last.ended refl whole.some_room in
     let all : bytes ≡ last.content = ⊎_elim
-        (λ none. let empty : bytes ≡ [] = sym whole.gave ∙ ap bytes_read none in
-          let nothing : length last.content ≤ 0 = subst (λ bs. length last.content ≤ length bs) empty ended in
-          ◌∙◌ {b = []} empty (sym (empty_list last.content nothing)))
-        (λ part. let same : part.content ≡ last.content = same_content part.found found in
-          let front : bytes ≡ take (length bytes) last.content = subst (λ bs. bs ≡ take (length bs) part.content) whole.gave part.part ∙ ap (take (length bytes)) same in
-          front ∙ take_all (length bytes) last.content ended)
-        (reads_part 0 path whole.front a parts.0 whole.reads parts.1) in
+    (λ none. let empty : bytes ≡ [] = sym whole.gave ∙ ap bytes_read none in
+    let nothing : length last.content ≤ 0 = subst (λ bs. length last.content ≤ length bs) empty ended in
+    ◌∙◌ {b = []} empty (sym (empty_list last.content nothing)))
+    (λ part. let same : part.content ≡ last.content = same_content part.found found in
+    let front : bytes ≡ take (length bytes) last.content = subst (λ bs. bs ≡ take (length bs) part.content) whole.gave part.part ∙ ap (take (length bytes)) same in
+    front ∙ take_all (length bytes) last.content ended)
+    (reads_part 0 path whole.front a parts.0 whole.reads parts.1) in
     found ∙ ap Some (sym all)
   where
     empty_list : (xs : List ℕ) → length xs ≤ 0 → xs ≡ []

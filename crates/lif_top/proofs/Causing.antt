@@ -86,7 +86,7 @@ causes send deeds (CodeRefused why) ends = unfailed deeds (CodeRefused why) (λ 
 causes send deeds ReadFault ends = read_failed_causes deeds (⊎_elim
     (λ fault. fault_failed send.code code_limit deeds.calls fault)
     (λ is. after_code send deeds.calls (λ output. FillStops send.source output ReadFault) true false (λ output later stop.
-      after_create output later (ReadsToFault send.source source_limit) NoCall true false false false (λ reads. fault_failed send.source source_limit reads) no_call stop) is)
+    after_create output later (ReadsToFault send.source source_limit) NoCall true false false false (λ reads. fault_failed send.source source_limit reads) no_call stop) is)
     ends.stops)
 causes send deeds WriteFault (inl ends) = write_failed_causes deeds (after_code send deeds.calls (λ output. FillStops send.source output WriteFault) false true (λ output later stop. ⊎_elim
     (λ unmade. subst (HaveFailed false true) (sym unmade) (record { failed_read = refl; failed_write = refl }))
@@ -96,7 +96,7 @@ causes send deeds WriteFault (inr sent) = put_failed_causes deeds (delivers_unfa
 causes send deeds TooLong ends = unfailed deeds TooLong (λ e. cc) (λ e. cc) (⊎_elim
     (past_unfailed send.code code_limit deeds.calls)
     (λ is. after_code send deeds.calls (λ output. FillStops send.source output TooLong) false false (λ output later stop.
-      after_create output later (ReadsPastLimit send.source source_limit) NoCall false false false false (past_unfailed send.source source_limit) no_call stop) is)
+    after_create output later (ReadsPastLimit send.source source_limit) NoCall false false false false (past_unfailed send.source source_limit) no_call stop) is)
     ends.stops) (λ is e. cc)
 causes send deeds OutOfMemory ends = unfailed deeds OutOfMemory (λ e. cc) (λ e. cc) (⊎_elim
     (λ some. reads_unfailed 0 send.code deeds.calls some.reads)

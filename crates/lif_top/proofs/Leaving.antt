@@ -98,8 +98,8 @@ module _ (source output : List ℕ) (before after : Option Files) where
     -- what the reads of the source say of it
     pub of_source : (R : Option (List ℕ) → Type 0) → ((a b : Option (List ℕ)) → HappenAt source is.reads a b → R a) → output ≢ source → Becomes before after (Follow calls) → Told before (λ files. R (files source))
     of_source R held apart change = told_before before after (Follow calls) (λ files. R (files source)) change (λ old new follow.
-      let parts = happen-split source is.reads is.later (old source) (new source) (elsewhere source apart (old source) (new source) (follow source)) in
-      held (old source) parts.0 parts.1)
+        let parts = happen-split source is.reads is.later (old source) (new source) (elsewhere source apart (old source) (new source) (follow source)) in
+        held (old source) parts.0 parts.1)
 
   source_keeps : (bytes : List ℕ) (reads : List Event) → ReadsWhole source source_limit bytes reads → KeepAll reads
   source_keeps bytes reads whole place = whole_keeps source place source_limit bytes reads whole
@@ -127,14 +127,14 @@ module _ (source output : List ℕ) (before after : Option Files) where
       (λ path apart. subst (AllByRecursion (KeepsPath path)) (sym part.calls_are) (all_append (KeepsPath path) part.done (append_failed output part.piece ∷ [])
       (appends_keep (output ∷ []) path part.done (λ there. apart (contains_one output path there)) part.appends) (apart, tt)))
       (λ b happen.
-        let parts = happen-split output part.done (append_failed output part.piece ∷ []) (Some []) b (subst (λ calls. HappenAt output calls (Some []) b) part.calls_are happen) in
-        let sent = bytes_appended output part.done in
-        let mid : parts.0 ≡ Some sent = appends_held (output ∷ []) output part.done [] (Some []) parts.0 part.appends refl parts.1 in
-        ⊎_elim
-        (λ same. let none = prefix_behind bytes sent part.piece part.rest 0 part.part in (none.0, same ∙ mid ∙ ap Some (sym (append-nil sent)) ∙ none.1))
-        (λ more. let some = prefix_behind bytes sent part.piece part.rest more.0 part.part in
-          (some.0, more.1 ∙ ap (λ file. Some (unwrap_or file [] ++ take more.0 part.piece)) mid ∙ some.1))
-        (happens_here output (append_failed output part.piece) parts.0 b refl parts.2))
+      let parts = happen-split output part.done (append_failed output part.piece ∷ []) (Some []) b (subst (λ calls. HappenAt output calls (Some []) b) part.calls_are happen) in
+      let sent = bytes_appended output part.done in
+      let mid : parts.0 ≡ Some sent = appends_held (output ∷ []) output part.done [] (Some []) parts.0 part.appends refl parts.1 in
+      ⊎_elim
+      (λ same. let none = prefix_behind bytes sent part.piece part.rest 0 part.part in (none.0, same ∙ mid ∙ ap Some (sym (append-nil sent)) ∙ none.1))
+      (λ more. let some = prefix_behind bytes sent part.piece part.rest more.0 part.part in
+      (some.0, more.1 ∙ ap (λ file. Some (unwrap_or file [] ++ take more.0 part.piece)) mid ∙ some.1))
+      (happens_here output (append_failed output part.piece) parts.0 b refl parts.2))
       change
 
   -- nothing was appended
@@ -198,7 +198,7 @@ module _ (send : Send) (deeds : Deeds) (before after : Outside) (accounted : Acc
   stopped (CodeRefused why) stop = (
     keep_files before.files after.files deeds.calls (λ place. whole_keeps send.code place code_limit stop.0 deeds.calls stop.1) accounted.files,
     told_before before.files after.files (Follow deeds.calls) (HasNoCodeFile send) accounted.files (λ old new follow.
-      (stop.0, whole_held send.code code_limit stop.0 deeds.calls (old send.code) (new send.code) stop.1 (follow send.code), stop.1.short, stop.2)),
+        (stop.0, whole_held send.code code_limit stop.0 deeds.calls (old send.code) (new send.code) stop.1 (follow send.code), stop.1.short, stop.2)),
   )
   stopped ReadFault (inl fault) = inl (
     keep_files before.files after.files deeds.calls (λ place. fault_keeps send.code place code_limit deeds.calls fault) accounted.files,
@@ -210,34 +210,34 @@ module _ (send : Send) (deeds : Deeds) (before after : Outside) (accounted : Acc
     left = left_empty send.source output before.files after.files later _ (λ reads fault place. fault_keeps send.source place source_limit reads fault) stop change;
   }))
   stopped WriteFault is = with_code (λ output. FillStops send.source output WriteFault) (λ output. LeavesUnmade output before after ⊎ LeavesPart send.source output before after) is (λ output later there change stop.
-    ⊎_elim
-    (λ unmade. inl (record {
-      rose = accounted.failed_create output (there (create_failed output) (subst (λ calls. Contains calls (create_failed output)) (sym unmade) (0, lit< tt, refl)));
-      left = left_unmade send.source output before.files after.files later unmade change;
-    }))
-    (λ part. inr (record {
-      bytes = part.0;
-      has_source = record {
-        short = part.1.reads_source.short;
-        held = λ apart. has_source send.source output before.files after.files part.0 later (AppendsPart output part.0) part.1 apart change;
-      };
-      rose = accounted.failed_append output part.1.after.piece (there _ (later_there send.source output before.files after.files later _ (AppendsPart output part.0) part.1 _
-          (Contains-append_right part.1.reads part.1.later _ (subst (λ calls. Contains calls (append_failed output part.1.after.piece)) (sym part.1.after.calls_are) (Contains-push part.1.after.done _)))));
-      left = left_part send.source output before.files after.files part.0 later part.1 change;
-    }))
-    stop)
+      ⊎_elim
+      (λ unmade. inl (record {
+        rose = accounted.failed_create output (there (create_failed output) (subst (λ calls. Contains calls (create_failed output)) (sym unmade) (0, lit< tt, refl)));
+        left = left_unmade send.source output before.files after.files later unmade change;
+      }))
+      (λ part. inr (record {
+        bytes = part.0;
+        has_source = record {
+          short = part.1.reads_source.short;
+          held = λ apart. has_source send.source output before.files after.files part.0 later (AppendsPart output part.0) part.1 apart change;
+        };
+        rose = accounted.failed_append output part.1.after.piece (there _ (later_there send.source output before.files after.files later _ (AppendsPart output part.0) part.1 _
+            (Contains-append_right part.1.reads part.1.later _ (subst (λ calls. Contains calls (append_failed output part.1.after.piece)) (sym part.1.after.calls_are) (Contains-push part.1.after.done _)))));
+        left = left_part send.source output before.files after.files part.0 later part.1 change;
+      }))
+      stop)
   stopped TooLong (inl past) = inl (
     keep_files before.files after.files deeds.calls (λ place. reads_keep 0 send.code place deeds.calls past.reads) accounted.files,
     told_before before.files after.files (Follow deeds.calls) (λ files. HoldsLong code_limit (files send.code)) accounted.files (λ old new follow.
-      long_held send.code code_limit deeds.calls (old send.code) (new send.code) past (follow send.code)),
+        long_held send.code code_limit deeds.calls (old send.code) (new send.code) past (follow send.code)),
   )
   stopped TooLong (inr is) = inr (with_code (λ output. FillStops send.source output TooLong) (λ output. LeavesLong send.source output before after) is (λ output later there change stop.
-    let keeps : (reads : List Event) → ReadsPastLimit send.source source_limit reads → KeepAll reads = λ reads past place. reads_keep 0 send.source place reads past.reads in
-    record {
-      long = λ apart. of_source send.source output before.files after.files later (ReadsPastLimit send.source source_limit) NoCall keeps stop (HoldsLong source_limit)
-          (λ a b happen. long_held send.source source_limit stop.reads a b stop.reads_source happen) apart change;
-      left = left_empty send.source output before.files after.files later (ReadsPastLimit send.source source_limit) keeps stop change;
-    }))
+      let keeps : (reads : List Event) → ReadsPastLimit send.source source_limit reads → KeepAll reads = λ reads past place. reads_keep 0 send.source place reads past.reads in
+      record {
+        long = λ apart. of_source send.source output before.files after.files later (ReadsPastLimit send.source source_limit) NoCall keeps stop (HoldsLong source_limit)
+            (λ a b happen. long_held send.source source_limit stop.reads a b stop.reads_source happen) apart change;
+        left = left_empty send.source output before.files after.files later (ReadsPastLimit send.source source_limit) keeps stop change;
+      }))
   stopped OutOfMemory (inl some) = keep_files before.files after.files deeds.calls (λ place. reads_keep 0 send.code place deeds.calls some.reads) accounted.files
   stopped OutOfMemory (inr whole) = keep_files before.files after.files deeds.calls (λ place. whole_keeps send.code place code_limit whole.0 deeds.calls whole.1) accounted.files
 

@@ -2,4 +2,5 @@
 pub mod Ends
 pub mod Leaves
 pub mod Answers
+pub mod Promise
 pub mod Ready

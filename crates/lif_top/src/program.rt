@@ -1,10 +1,7 @@
 //! The top call: words to a command, and what it does.
 ghost use Rattle.std.specs.Prelude.{◌≡◌, ◌≤◌, ◌↔◌, None, IfNone, IfSome, map, string_bytes};
-ghost use Rattle.lif_outside.specs.Calls.{Does, KeepsStore, outside};
-ghost use Rattle.lif_top.specs.Causes.{HasCauses};
-ghost use Rattle.lif_top.specs.Send.Answers.{Answers};
-ghost use Rattle.lif_top.specs.Send.Ends.{Ends};
-ghost use Rattle.lif_top.specs.Send.Leaves.{LeavesAll, Leaves};
+ghost use Rattle.lif_outside.specs.Calls.{Does, KeepsStore};
+ghost use Rattle.lif_top.specs.Send.Promise.{Sends};
 ghost use Rattle.lif_top.specs.Usage.{IsMisused};
 ghost use Rattle.lif_top.specs.Words.{send_of};
 
@@ -32,15 +29,9 @@ pub fn lif<S: Store, C: Sink, R: Threads + Sync>(
     ensures misused { IfNone (send_of (map string_bytes words.now))
         (Does S.Store C.Sink store.old store.new say.old say.new IsMisused) }
 
-    // `send`: the calls and what is put, by the status, and which calls the statuses of faults come from.
+    // `send`: its calls, what it leaves, and which status comes.
     ensures send { IfSome (send_of (map string_bytes words.now)) (λ send.
-        Does S.Store C.Sink store.old store.new say.old say.new (λ deeds. Ends send result deeds × HasCauses deeds result)) }
-    // What the files hold and what is said by the status, where that is told.
-    ensures send_leaves { IfSome (send_of (map string_bytes words.now)) (λ send.
-        Leaves send result (outside S.Store C.Sink store.old say.old) (outside S.Store C.Sink store.new say.new)) }
-    // Which status comes, memory and faults aside.
-    ensures send_answers { IfSome (send_of (map string_bytes words.now)) (λ send.
-        Answers send result (outside S.Store C.Sink store.old say.old) (outside S.Store C.Sink store.new say.new)) }
+        Sends S.Store C.Sink send store.old store.new say.old say.new result) }
 
     // No count falls.
     ensures counts { KeepsStore S.Store store.old store.new }

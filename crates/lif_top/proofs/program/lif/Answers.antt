@@ -2,45 +2,31 @@ use Rattle.std.proofs.Common.{◌≡◌, [], None, IfNone, IfSome, map, string_b
 use Rattle.std.specs.Prelude.{Option}
 use Rattle.lif_outside.specs.Calls.{Does, outside}
 use Rattle.lif_outside.specs.DeedLaws.{accounted}
-use Rattle.lif_top.specs.Causes.{HasCauses}
-use Rattle.lif_top.specs.Send.Answers.{Answers}
-use Rattle.lif_top.specs.Send.Ends.{Ends}
-use Rattle.lif_top.specs.Send.Leaves.{Leaves}
+use Rattle.lif_top.specs.Send.Promise.{Sends}
 use Rattle.lif_top.specs.Usage.{IsMisused}
 use Rattle.lif_top.specs.Words.{Send, send_of, paths_of}
 use Rattle.lif_top.proofs.Causing.{causes}
 use Rattle.lif_top.proofs.Complete.{answers}
 use Rattle.lif_top.proofs.Leaving.{leaves}
 use Rattle.lif_top.proofs.program.lif.Goals as goal
-use Rattle.lif_top.proofs.program.lif.Goals.{In-Some}
 
 pub returns-in-Some-clause-send : goal.returns-in-Some-clause-send
 returns-in-Some-clause-send g c =
     let store = g.S.Store in
     let say = g.C.Sink in
+    let send = paths_of c.in-Some.paths in
     let does = c.send.ensures in
-    subst (λ (words : Option Send). IfSome words (λ send. Does store say c.args.store.now c.send.new.store c.args.say.now c.send.new.say (λ deeds. Ends send c.send.result deeds × HasCauses deeds c.send.result))) c.in-Some.ensures
-    (record { deeds = does.deeds; on_store = does.on_store; on_say = does.on_say; holds = (does.holds, causes (paths_of c.in-Some.paths) does.deeds c.send.result does.holds) })
-
-pub returns-in-Some-clause-send_leaves : goal.returns-in-Some-clause-send_leaves
-returns-in-Some-clause-send_leaves g c =
-    let does = c.send.ensures in
-    let before = outside g.S.Store g.C.Sink c.args.store.now c.args.say.now in
-    let after = outside g.S.Store g.C.Sink c.send.new.store c.send.new.say in
-    let accounts = accounted g.S.Store g.C.Sink does.deeds c.args.store.now c.send.new.store c.args.say.now c.send.new.say
-        (g.met.S.Store.accounts does.deeds.calls _ _ does.on_store) (g.met.C.Sink.accounts does.deeds.puts _ _ does.on_say) in
-    subst (λ (words : Option Send). IfSome words (λ send. Leaves send c.send.result before after)) c.in-Some.ensures
-    (leaves (paths_of c.in-Some.paths) does.deeds before after accounts c.send.result does.holds)
-
-pub returns-in-Some-clause-send_answers : goal.returns-in-Some-clause-send_answers
-returns-in-Some-clause-send_answers g c =
-    let does = c.send.ensures in
-    let before = outside g.S.Store g.C.Sink c.args.store.now c.args.say.now in
-    let after = outside g.S.Store g.C.Sink c.send.new.store c.send.new.say in
-    let accounts = accounted g.S.Store g.C.Sink does.deeds c.args.store.now c.send.new.store c.args.say.now c.send.new.say
-        (g.met.S.Store.accounts does.deeds.calls _ _ does.on_store) (g.met.C.Sink.accounts does.deeds.puts _ _ does.on_say) in
-    subst (λ (words : Option Send). IfSome words (λ send. Answers send c.send.result before after)) c.in-Some.ensures
-    (answers (paths_of c.in-Some.paths) before after c.send.result (leaves (paths_of c.in-Some.paths) does.deeds before after accounts c.send.result does.holds))
+    let before = outside store say c.args.store.now c.args.say.now in
+    let after = outside store say c.send.new.store c.send.new.say in
+    let accounts = accounted store say does.deeds c.args.store.now c.send.new.store c.args.say.now c.send.new.say
+    (g.met.S.Store.accounts does.deeds.calls _ _ does.on_store) (g.met.C.Sink.accounts does.deeds.puts _ _ does.on_say) in
+    let left = leaves send does.deeds before after accounts c.send.result does.holds in
+    subst (λ (words : Option Send). IfSome words (λ send. Sends store say send c.args.store.now c.send.new.store c.args.say.now c.send.new.say c.send.result)) c.in-Some.ensures
+    (record {
+      ends = record { deeds = does.deeds; on_store = does.on_store; on_say = does.on_say; holds = (does.holds, causes send does.deeds c.send.result does.holds) };
+      leaves = left;
+      answers = answers send before after c.send.result left;
+    })
 
 pub returns-in-None-clause-misused : goal.returns-in-None-clause-misused
 returns-in-None-clause-misused g c =

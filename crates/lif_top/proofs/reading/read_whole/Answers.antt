@@ -17,7 +17,7 @@ returns-in_err-read_more-clause-refused g c =
     let last = subst (λ r. Calls g.S.Store c.loop-chunk.store c.read_more.new.store (ReadsMore path limit old new r)) c.in_err-read_more.was c.read_more.ensures.reads in
     let short : length old ≤ limit = omega arith in
     let stopped = calls_then g.met.S.Store.more_calls (Gave path old) (ReadsMore path limit old new (Err refusal)) (StopsReading path limit refusal) c.loop-chunk.invariant.reads last
-        (λ front later. stops_more path limit refusal old new front later short) in
+    (λ front later. stops_more path limit refusal old new front later short) in
     if_err _ c.from_residual.result refusal c.from_residual.ensures.1 stopped
 
 pub returns-then-not-branch-clause-whole : goal.returns-then-not-branch-clause-whole

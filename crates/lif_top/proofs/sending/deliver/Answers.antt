@@ -23,6 +23,6 @@ returns-clause-stops g c =
     let send = paths_of c.args.words.now in
     let output = c.as_str.result.now in
     IfErr-weaker c.fill.result _ _ (λ status stop.
-      calls_then g.met.S.Store.more_calls (IsReady send c.in_ok-carrier.field-0) (FillStops send.source output status) (Stops send status) c.in_ok-carrier.ensures.ready stop
-          (λ first later ready fills. stops_after_code send ready.code output (c.as_str.ensures.value ∙ ready.path) status first later ready.reads_code fills))
+    calls_then g.met.S.Store.more_calls (IsReady send c.in_ok-carrier.field-0) (FillStops send.source output status) (Stops send status) c.in_ok-carrier.ensures.ready stop
+    (λ first later ready fills. stops_after_code send ready.code output (c.as_str.ensures.value ∙ ready.path) status first later ready.reads_code fills))
     c.fill.ensures.stops
