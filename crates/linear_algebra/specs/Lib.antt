@@ -1,0 +1,6 @@
+pub mod Rows
+pub mod Matrices
+pub mod FieldLaws
+pub mod RowLaws
+pub mod CombinationLaws
+pub mod MatrixLaws
