@@ -1,15 +1,17 @@
 -- Laws of combinations of rows. A combination of rows of one width is a row of that width. It is linear in its rows
 -- and in its coefficients.
-use Rattle.std.specs.Prelude.{◌≡◌, ℕ, zero, suc, ◌+◌, ◌<◌, ◌==◌, bit_xor, List, [], ◌∷◌, ◌++◌, length, map, if◌then◌else◌}
-use Rattle.std.proofs.Common.{arith, refl, sym, ap, ◌∙◌}
-use Rattle.std.specs.List.{All}
+use Rattle.std.specs.Prelude.{◌≡◌, ℕ, zero, suc, ◌+◌, ◌<◌, ◌==◌, true, false, bit_xor, List, [], ◌∷◌, ◌++◌, length, map, slice_get, slice_index, unwrap_or, if◌then◌else◌}
+use Rattle.std.proofs.Common.{arith, refl, sym, ap, ◌∙◌, get_or}
+use borrow.Author.Tests.{eq-eqb}
+use Rattle.std.proofs.lemmas.Bool.{ne_eqb}
+use Rattle.std.specs.List.{All, range_with_len}
 use Rattle.gf_tables.specs.KindField.{kind_field}
 use Rattle.gf_tables.specs.Product.{product, size_of}
 use Rattle.gf_tables.specs.declared.kind.FieldKind.{FieldKind}
 use Rattle.gf_tables.specs.declared.kind.FieldKind.TheVariants.{Eight}
-use Rattle.linear_algebra.specs.Matrices.{add_blocks}
-use Rattle.linear_algebra.specs.RowLaws.{AreElements-head, AreElements-tail, add_rows-exchange, add_rows-assoc, add_rows-zero_row, zero_row-add_rows, zero_row-zero_row, length-add_rows, add_rows-IsRow, zero_row-IsRow, scale_row-IsRow, scale_row-one, scale_row-zero, scale_row-zero_row, length-scale_row, scale_row-scale_row, scale_row-comm, scale_row-add_rows, scale_row-xor, scale_row-inverse}
-use Rattle.linear_algebra.specs.Rows.{add_rows, scale_row, zero_row, combination, AreElements, IsRow, AreRows}
+use Rattle.linear_algebra.specs.Matrices.{column, add_blocks}
+use Rattle.linear_algebra.specs.RowLaws.{AreElements-head, AreElements-tail, add_rows-exchange, add_rows-assoc, add_rows-zero_row, zero_row-add_rows, zero_row-zero_row, length-add_rows, add_rows-IsRow, zero_row-IsRow, scale_row-IsRow, scale_row-one, scale_row-zero, scale_row-zero_row, length-scale_row, scale_row-scale_row, scale_row-comm, scale_row-add_rows, scale_row-xor, scale_row-inverse, AreRows-get_or, unit_row-before, slice_index-add_rows, slice_index-scale_row, slice_index-zero_row}
+use Rattle.linear_algebra.specs.Rows.{add_rows, scale_row, zero_row, unit_row, combination, dot, AreElements, IsRow, AreRows}
 
 -- a combination of no rows
 pub combination-nil : (field : FieldKind) (width : ℕ) (coefficients : List ℕ) → combination field width coefficients [] ≡ zero_row width
@@ -128,3 +130,40 @@ combination-append field width (x ∷ xs) ys [] others same h = absurd (omega ar
 combination-append field width (x ∷ xs) ys (row ∷ rows) others same h =
     rw (combination-append field width xs ys rows others (omega arith) h)
     (sym (add_rows-assoc (scale_row field x row) (combination field width xs rows) (combination field width ys others)))
+
+-- a combination with 1 at one place and zeros elsewhere, of the rows from a place on
+combination-unit_row_from : (field : FieldKind) (width a i k : ℕ) (rows : List (List ℕ)) → a + k ≡ i → k < length rows → AreRows field width rows
+    → combination field width (map (λ j. if i == j then 1 else 0) (range_with_len a (length rows))) rows ≡ get_or rows k []
+combination-unit_row_from field width a i k [] at below h = absurd (omega arith)
+combination-unit_row_from field width a i zero (row ∷ rows) at below h =
+    let yes : (i == a) ≡ true = eq-eqb i a (omega arith) in
+    rw (yes, scale_row-one field row h.0.elements, unit_row-before i (a + 1) (length rows) (omega arith),
+        combination-zero_row field width (length rows) rows h.1, ← h.0.wide) (add_rows-zero_row row)
+combination-unit_row_from field width a i (suc k) (row ∷ rows) at below h =
+    let no : (i == a) ≡ false = ne_eqb i a (λ e. omega arith) in
+    let here = AreRows-get_or field width k rows (omega arith) h.1 in
+    rw (no, scale_row-zero field row, h.0.wide, combination-unit_row_from field width (a + 1) i k rows (omega arith) (omega arith) h.1, ← here.wide)
+    (zero_row-add_rows (get_or rows k []))
+
+-- the combination with 1 at one place and zeros elsewhere is the row there
+pub combination-unit_row : (field : FieldKind) (width count i : ℕ) (rows : List (List ℕ)) → i < count → length rows ≡ count → AreRows field width rows
+    → combination field width (unit_row count i) rows ≡ get_or rows i []
+combination-unit_row field width count i rows below same h =
+    rw (← same) (combination-unit_row_from field width 0 i i rows (omega arith) (omega arith) h)
+
+-- the row at a place, by `get`
+pub unwrap_or-slice_get : (rows : List (List ℕ)) (i : ℕ) → unwrap_or (slice_get rows i) [] ≡ get_or rows i []
+unwrap_or-slice_get [] i = refl
+unwrap_or-slice_get (row ∷ rows) zero = refl
+unwrap_or-slice_get (row ∷ rows) (suc i) = unwrap_or-slice_get rows i
+
+-- an entry of a combination is the sum of the products of the coefficients and the entries of the column
+pub slice_index-combination : (field : FieldKind) (width : ℕ) (coefficients : List ℕ) (rows : List (List ℕ)) (j : ℕ) → AreElements field coefficients → AreRows field width rows
+    → slice_index (combination field width coefficients rows) j ≡ dot field coefficients (column j rows)
+slice_index-combination field width [] rows j h k = slice_index-zero_row width j
+slice_index-combination field width (times ∷ coefficients) [] j h k = slice_index-zero_row width j
+slice_index-combination field width (times ∷ coefficients) (row ∷ rows) j h k =
+    let same = length-scale_row field times row ∙ k.0.wide ∙ sym (length-combination field width coefficients rows k.1) in
+    rw (slice_index-add_rows (scale_row field times row) (combination field width coefficients rows) j same,
+        slice_index-scale_row field times row j (AreElements-head field times coefficients h),
+        slice_index-combination field width coefficients rows j (AreElements-tail field times coefficients h) k.1) refl

@@ -1,17 +1,19 @@
 -- Laws of rows. Addition associates and commutes, zeros add nothing, and a row plus itself is zeros. 1 times a row
 -- is the row, and 0 times a row is zeros. An element's inverse takes back what the element makes of a row.
-use Rattle.std.specs.Prelude.{◌≡◌, ℕ, zero, suc, ◌<◌, bit_xor, List, [], ◌∷◌, length}
-use Rattle.std.proofs.Common.{arith, refl, sym, ap, ◌∙◌}
+use Rattle.std.specs.Prelude.{◌≡◌, ℕ, zero, suc, ◌+◌, ◌<◌, ◌==◌, Bool, true, false, bit_xor, List, [], ◌∷◌, ◌++◌, length, map, slice_index, if◌then◌else◌}
+use Rattle.std.proofs.Common.{arith, refl, sym, ap, ◌∙◌, get_or}
+use Rattle.std.proofs.lemmas.Bool.{ne_eqb}
 use Rattle.std.specs.Int.Bits.{xor_zero_l, xor_zero_r, xor_self, xor_assoc}
-use Rattle.std.specs.List.{All, AllByRecursion}
+use Rattle.std.specs.List.{All, AllByRecursion, range_with_len}
 use Rattle.std.proofs.lemmas.List.{length-replicate}
-use Rattle.std.proofs.lemmas.List.Elements.{All-nil, All-cons, All-head, All-tail, All-replicate, All-from_recursion, recursion_from_All}
+use Rattle.std.proofs.lemmas.List.Elements.{All-nil, All-cons, All-head, All-tail, All-replicate, All-map, All-from_recursion, recursion_from_All}
+use Rattle.std.proofs.lemmas.List.FromFn.{length-map-range_with_len, get_or-map-range_with_len}
 use Rattle.std.proofs.lemmas.Nat.{xor_comm}
 use Rattle.gf_tables.specs.KindField.{kind_field, product_zero}
 use Rattle.gf_tables.specs.Product.{product, size_of}
 use Rattle.gf_tables.specs.declared.kind.FieldKind.{FieldKind}
 use Rattle.linear_algebra.specs.FieldLaws.{product-zero, product-xor, product-left_comm}
-use Rattle.linear_algebra.specs.Rows.{add_rows, scale_row, zero_row, AreElements, IsRow}
+use Rattle.linear_algebra.specs.Rows.{add_rows, scale_row, zero_row, unit_row, AreElements, IsRow, AreRows}
 
 -- the first element, the others, and both together
 pub AreElements-head : (field : FieldKind) (x : ℕ) (xs : List ℕ) → AreElements field (x ∷ xs) → x < size_of field
@@ -192,3 +194,81 @@ pub scale_row-inverse : (field : FieldKind) (a b : ℕ) (row : List ℕ) → a <
     → scale_row field a (scale_row field b row) ≡ row
 scale_row-inverse field a b row below_a below_b inverse h =
     scale_row-scale_row field a b row below_a below_b h ∙ ap (λ times. scale_row field times row) inverse ∙ scale_row-one field row h
+
+-- the row at a place of rows
+pub AreRows-get_or : (field : FieldKind) (width i : ℕ) (rows : List (List ℕ)) → i < length rows → AreRows field width rows → IsRow field width (get_or rows i [])
+AreRows-get_or field width i [] below h = absurd (omega arith)
+AreRows-get_or field width zero (row ∷ rows) below h = h.0
+AreRows-get_or field width (suc i) (row ∷ rows) below h = AreRows-get_or field width i rows (omega arith) h.1
+
+-- rows, each of one width and of elements
+pub AreRows-from_All : (field : FieldKind) (width : ℕ) (rows : List (List ℕ)) → All (λ row. length row ≡ width) rows → All (AreElements field) rows
+    → AreRows field width rows
+AreRows-from_All field width [] h k = tt
+AreRows-from_All field width (row ∷ rows) h k =
+    let wide : length row ≡ width = All-head (λ row. length row ≡ width) row rows h in
+    let elements : AreElements field row = All-head (AreElements field) row rows k in
+    (record { wide = wide; elements = elements }, AreRows-from_All field width rows (All-tail (λ row. length row ≡ width) row rows h) (All-tail (AreElements field) row rows k))
+
+-- the widths and the elements of rows
+pub AreRows-widths : (field : FieldKind) (width : ℕ) (rows : List (List ℕ)) → AreRows field width rows → All (λ row. length row ≡ width) rows
+AreRows-widths field width [] h = All-nil (λ (row : List ℕ). length row ≡ width)
+AreRows-widths field width (row ∷ rows) h = All-cons (λ (row : List ℕ). length row ≡ width) row rows h.0.wide (AreRows-widths field width rows h.1)
+
+pub AreRows-elements : (field : FieldKind) (width : ℕ) (rows : List (List ℕ)) → AreRows field width rows → All (AreElements field) rows
+AreRows-elements field width [] h = All-nil (AreElements field)
+AreRows-elements field width (row ∷ rows) h = All-cons (AreElements field) row rows h.0.elements (AreRows-elements field width rows h.1)
+
+-- rows and then others
+pub AreRows-append : (field : FieldKind) (width : ℕ) (rows others : List (List ℕ)) → AreRows field width rows → AreRows field width others → AreRows field width (rows ++ others)
+AreRows-append field width [] others h k = k
+AreRows-append field width (row ∷ rows) others h k = (h.0, AreRows-append field width rows others h.1 k)
+
+-- multiples of rows by one element
+pub AreRows-map-scale_row : (field : FieldKind) (width times : ℕ) (rows : List (List ℕ)) → times < size_of field → AreRows field width rows
+    → AreRows field width (map (scale_row field times) rows)
+AreRows-map-scale_row field width times [] below h = tt
+AreRows-map-scale_row field width times (row ∷ rows) below h = (scale_row-IsRow field width times row below h.0, AreRows-map-scale_row field width times rows below h.1)
+
+-- an entry of a sum of rows of one length
+pub slice_index-add_rows : (xs ys : List ℕ) (j : ℕ) → length xs ≡ length ys → slice_index (add_rows xs ys) j ≡ bit_xor (slice_index xs j) (slice_index ys j)
+slice_index-add_rows [] [] j same = refl
+slice_index-add_rows [] (y ∷ ys) j same = absurd (omega arith)
+slice_index-add_rows (x ∷ xs) [] j same = absurd (omega arith)
+slice_index-add_rows (x ∷ xs) (y ∷ ys) zero same = refl
+slice_index-add_rows (x ∷ xs) (y ∷ ys) (suc j) same = slice_index-add_rows xs ys j (omega arith)
+
+-- an entry of a multiple of a row
+pub slice_index-scale_row : (field : FieldKind) (times : ℕ) (row : List ℕ) (j : ℕ) → times < size_of field → slice_index (scale_row field times row) j ≡ product field times (slice_index row j)
+slice_index-scale_row field times [] j below = sym (product-zero field times below)
+slice_index-scale_row field times (x ∷ xs) zero below = refl
+slice_index-scale_row field times (x ∷ xs) (suc j) below = slice_index-scale_row field times xs j below
+
+-- an entry of the row of zeros
+pub slice_index-zero_row : (width j : ℕ) → slice_index (zero_row width) j ≡ 0
+slice_index-zero_row zero j = refl
+slice_index-zero_row (suc width) zero = refl
+slice_index-zero_row (suc width) (suc j) = slice_index-zero_row width j
+
+-- an entry of a unit row
+pub slice_index-unit_row : (width i j : ℕ) → j < width → slice_index (unit_row width i) j ≡ (if i == j then 1 else 0)
+slice_index-unit_row width i j below = get_or-map-range_with_len (λ k. if i == k then 1 else 0) 0 width j j 0 below (omega arith)
+
+-- a unit row is a row of elements
+unit_entry : (field : FieldKind) (b : Bool) → (if b then 1 else 0) < size_of field
+unit_entry field b = elim b as (λ b. (if b then 1 else 0) < size_of field) [ true ↦ (kind_field field).one_element | false ↦ (kind_field field).zero_element ]
+
+pub unit_row-IsRow : (field : FieldKind) (width i : ℕ) → IsRow field width (unit_row width i)
+unit_row-IsRow field width i =
+    let P : ℕ → Type 0 = λ element. element < size_of field in
+    record {
+      wide = length-map-range_with_len (λ j. if i == j then 1 else 0) 0 width;
+      elements = All-map P (λ j. if i == j then 1 else 0) (range_with_len 0 width) (λ k d below. unit_entry field (i == get_or (range_with_len 0 width) k d));
+    }
+
+-- the entries of a unit row from a place on are zeros where its place lies before
+pub unit_row-before : (i a n : ℕ) → i < a → map (λ j. if i == j then 1 else 0) (range_with_len a n) ≡ zero_row n
+unit_row-before i a zero below = refl
+unit_row-before i a (suc n) below =
+    let no : (i == a) ≡ false = ne_eqb i a (λ e. omega arith) in
+    rw (no, unit_row-before i (a + 1) n (omega arith)) refl
