@@ -1,11 +1,10 @@
 -- Laws of combinations of rows. A combination of rows of one width is a row of that width. It is linear in its rows
 -- and in its coefficients.
-use Rattle.std.specs.Prelude.{◌≡◌, ℕ, zero, suc, ◌+◌, ◌<◌, ◌==◌, true, false, bit_xor, List, [], ◌∷◌, ◌++◌, length, map, slice_get, slice_index, unwrap_or, if◌then◌else◌}
+use Rattle.std.specs.Prelude.{◌≡◌, ℕ, zero, suc, ◌+◌, ◌<◌, ◌==◌, true, false, List, [], ◌∷◌, ◌++◌, length, map, slice_get, slice_index, unwrap_or, if◌then◌else◌}
 use Rattle.std.proofs.Common.{arith, refl, sym, ap, ◌∙◌, get_or}
 use borrow.Author.Tests.{eq-eqb}
 use Rattle.std.proofs.lemmas.Bool.{ne_eqb}
 use Rattle.std.specs.List.{All, range_with_len}
-use Rattle.gf_tables.specs.KindField.{kind_field}
 use Rattle.gf_tables.specs.Product.{product, size_of}
 use Rattle.gf_tables.specs.declared.kind.FieldKind.{FieldKind}
 use Rattle.gf_tables.specs.declared.kind.FieldKind.TheVariants.{Eight}
@@ -29,14 +28,19 @@ pub combination-one : (field : FieldKind) (width : ℕ) (row : List ℕ) → len
     → combination field width (1 ∷ []) (row ∷ []) ≡ row
 combination-one field width row e h = combination-single field width 1 row e ∙ scale_row-one field row h
 
--- a combination of one row takes back another, over octets, where the product of the coefficients is 1
+-- a combination of one row takes back another, where the product of the coefficients is 1
+pub combination-inverse_over : (field : FieldKind) (width a b : ℕ) (row : List ℕ) → a < size_of field → b < size_of field → product field a b ≡ 1 → length row ≡ width
+    → All (λ element. element < size_of field) row
+    → combination field width (a ∷ []) (combination field width (b ∷ []) (row ∷ []) ∷ []) ≡ row
+combination-inverse_over field width a b row below_a below_b inverse e h =
+    ap (λ (r : List ℕ). combination field width (a ∷ []) (r ∷ [])) (combination-single field width b row e)
+    ∙ combination-single field width a (scale_row field b row) (length-scale_row field b row ∙ e)
+    ∙ scale_row-inverse field a b row below_a below_b inverse h
+
+-- the same over octets
 pub combination-inverse : (width a b : ℕ) (row : List ℕ) → a < 256 → b < 256 → product Eight a b ≡ 1 → length row ≡ width → All (λ element. element < 256) row
     → combination Eight width (a ∷ []) (combination Eight width (b ∷ []) (row ∷ []) ∷ []) ≡ row
-combination-inverse width a b row below_a below_b inverse e h =
-    let carried = combination-single Eight width b row e in
-    ap (λ (r : List ℕ). combination Eight width (a ∷ []) (r ∷ [])) carried
-    ∙ combination-single Eight width a (scale_row Eight b row) (length-scale_row Eight b row ∙ e)
-    ∙ scale_row-inverse Eight a b row below_a below_b inverse h
+combination-inverse width a b row below_a below_b inverse e h = combination-inverse_over Eight width a b row below_a below_b inverse e h
 
 -- the length of a combination
 pub length-combination : (field : FieldKind) (width : ℕ) (coefficients : List ℕ) (rows : List (List ℕ)) → AreRows field width rows
@@ -66,8 +70,10 @@ combination-add_blocks field width (times ∷ coefficients) [] [] h k l same = s
 combination-add_blocks field width (times ∷ coefficients) [] (other ∷ others) h k l same = absurd (omega arith)
 combination-add_blocks field width (times ∷ coefficients) (row ∷ rows) [] h k l same = absurd (omega arith)
 combination-add_blocks field width (times ∷ coefficients) (row ∷ rows) (other ∷ others) h k l same =
-    rw (scale_row-add_rows field times row other (AreElements-head field times coefficients h) k.0.elements l.0.elements,
-        combination-add_blocks field width coefficients rows others (AreElements-tail field times coefficients h) k.1 l.1 (omega arith))
+    rw (
+      scale_row-add_rows field times row other (AreElements-head field times coefficients h) k.0.elements l.0.elements,
+      combination-add_blocks field width coefficients rows others (AreElements-tail field times coefficients h) k.1 l.1 (omega arith),
+    )
     (add_rows-exchange (scale_row field times row) (scale_row field times other) (combination field width coefficients rows) (combination field width coefficients others))
 
 -- a combination of multiples of rows by one element
@@ -79,10 +85,12 @@ combination-map-scale_row field width a (times ∷ coefficients) [] below h k = 
 combination-map-scale_row field width a (times ∷ coefficients) (row ∷ rows) below h k =
     let below_times = AreElements-head field times coefficients h in
     let rest = AreElements-tail field times coefficients h in
-    rw (scale_row-comm field times a row below_times below k.0.elements,
-        combination-map-scale_row field width a coefficients rows below rest k.1)
+    rw (
+      scale_row-comm field times a row below_times below k.0.elements,
+      combination-map-scale_row field width a coefficients rows below rest k.1,
+    )
     (sym (scale_row-add_rows field a (scale_row field times row) (combination field width coefficients rows) below
-          (scale_row-IsRow field width times row below_times k.0).elements (combination-IsRow field width coefficients rows rest k.1).elements))
+    (scale_row-IsRow field width times row below_times k.0).elements (combination-IsRow field width coefficients rows rest k.1).elements))
 
 -- a combination with sums of coefficients
 pub combination-add_rows : (field : FieldKind) (width : ℕ) (xs ys : List ℕ) (rows : List (List ℕ)) → AreElements field xs → AreElements field ys → length xs ≡ length ys
@@ -93,8 +101,10 @@ combination-add_rows field width [] (y ∷ ys) rows h k same l = absurd (omega a
 combination-add_rows field width (x ∷ xs) [] rows h k same l = absurd (omega arith)
 combination-add_rows field width (x ∷ xs) (y ∷ ys) [] h k same l = sym (zero_row-zero_row width)
 combination-add_rows field width (x ∷ xs) (y ∷ ys) (row ∷ rows) h k same l =
-    rw (scale_row-xor field x y row (AreElements-head field x xs h) (AreElements-head field y ys k) l.0.elements,
-        combination-add_rows field width xs ys rows (AreElements-tail field x xs h) (AreElements-tail field y ys k) (omega arith) l.1)
+    rw (
+      scale_row-xor field x y row (AreElements-head field x xs h) (AreElements-head field y ys k) l.0.elements,
+      combination-add_rows field width xs ys rows (AreElements-tail field x xs h) (AreElements-tail field y ys k) (omega arith) l.1,
+    )
     (add_rows-exchange (scale_row field x row) (scale_row field y row) (combination field width xs rows) (combination field width ys rows))
 
 -- a combination with multiples of coefficients by one element
@@ -106,10 +116,12 @@ combination-scale_row field width a (times ∷ coefficients) [] below h k = sym 
 combination-scale_row field width a (times ∷ coefficients) (row ∷ rows) below h k =
     let below_times = AreElements-head field times coefficients h in
     let rest = AreElements-tail field times coefficients h in
-    rw (← scale_row-scale_row field a times row below below_times k.0.elements,
-        combination-scale_row field width a coefficients rows below rest k.1)
+    rw (
+      ← scale_row-scale_row field a times row below below_times k.0.elements,
+      combination-scale_row field width a coefficients rows below rest k.1,
+    )
     (sym (scale_row-add_rows field a (scale_row field times row) (combination field width coefficients rows) below
-          (scale_row-IsRow field width times row below_times k.0).elements (combination-IsRow field width coefficients rows rest k.1).elements))
+    (scale_row-IsRow field width times row below_times k.0).elements (combination-IsRow field width coefficients rows rest k.1).elements))
 
 -- a combination with zeros
 pub combination-zero_row : (field : FieldKind) (width count : ℕ) (rows : List (List ℕ)) → AreRows field width rows
@@ -137,8 +149,13 @@ combination-unit_row_from : (field : FieldKind) (width a i k : ℕ) (rows : List
 combination-unit_row_from field width a i k [] at below h = absurd (omega arith)
 combination-unit_row_from field width a i zero (row ∷ rows) at below h =
     let yes : (i == a) ≡ true = eq-eqb i a (omega arith) in
-    rw (yes, scale_row-one field row h.0.elements, unit_row-before i (a + 1) (length rows) (omega arith),
-        combination-zero_row field width (length rows) rows h.1, ← h.0.wide) (add_rows-zero_row row)
+    rw (
+      yes,
+      scale_row-one field row h.0.elements,
+      unit_row-before i (a + 1) (length rows) (omega arith),
+      combination-zero_row field width (length rows) rows h.1,
+      ← h.0.wide,
+    ) (add_rows-zero_row row)
 combination-unit_row_from field width a i (suc k) (row ∷ rows) at below h =
     let no : (i == a) ≡ false = ne_eqb i a (λ e. omega arith) in
     let here = AreRows-get_or field width k rows (omega arith) h.1 in
@@ -164,6 +181,8 @@ slice_index-combination field width [] rows j h k = slice_index-zero_row width j
 slice_index-combination field width (times ∷ coefficients) [] j h k = slice_index-zero_row width j
 slice_index-combination field width (times ∷ coefficients) (row ∷ rows) j h k =
     let same = length-scale_row field times row ∙ k.0.wide ∙ sym (length-combination field width coefficients rows k.1) in
-    rw (slice_index-add_rows (scale_row field times row) (combination field width coefficients rows) j same,
-        slice_index-scale_row field times row j (AreElements-head field times coefficients h),
-        slice_index-combination field width coefficients rows j (AreElements-tail field times coefficients h) k.1) refl
+    rw (
+      slice_index-add_rows (scale_row field times row) (combination field width coefficients rows) j same,
+      slice_index-scale_row field times row j (AreElements-head field times coefficients h),
+      slice_index-combination field width coefficients rows j (AreElements-tail field times coefficients h) k.1,
+    ) refl

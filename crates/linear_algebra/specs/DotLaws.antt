@@ -1,6 +1,6 @@
 -- Laws of the sum of the products of two rows, place by place. It is symmetric, and linear in both rows.
 use Rattle.std.specs.Prelude.{◌≡◌, ℕ, zero, suc, ◌+◌, ◌<◌, ◌==◌, true, false, bit_xor, List, [], ◌∷◌, ◌++◌, length, map, slice_index, if◌then◌else◌}
-use Rattle.std.proofs.Common.{arith, refl, sym, ap, ◌∙◌, get_or}
+use Rattle.std.proofs.Common.{arith, refl, sym, ◌∙◌}
 use borrow.Author.Tests.{eq-eqb}
 use Rattle.std.proofs.lemmas.Bool.{ne_eqb}
 use Rattle.std.specs.Int.Bits.{xor_zero_l, xor_zero_r, xor_assoc}
@@ -27,8 +27,10 @@ dot-comm field [] [] h k = refl
 dot-comm field [] (y ∷ ys) h k = refl
 dot-comm field (x ∷ xs) [] h k = refl
 dot-comm field (x ∷ xs) (y ∷ ys) h k =
-    rw ((kind_field field).mul_comm x y (AreElements-head field x xs h) (AreElements-head field y ys k),
-        dot-comm field xs ys (AreElements-tail field x xs h) (AreElements-tail field y ys k)) refl
+    rw (
+      (kind_field field).mul_comm x y (AreElements-head field x xs h) (AreElements-head field y ys k),
+      dot-comm field xs ys (AreElements-tail field x xs h) (AreElements-tail field y ys k),
+    ) refl
 
 -- the row of zeros times a row
 pub dot-zero_row_left : (field : FieldKind) (width : ℕ) (ys : List ℕ) → dot field (zero_row width) ys ≡ 0
@@ -79,8 +81,10 @@ dot-add_rows_left field [] (y ∷ ys) zs h k l same = absurd (omega arith)
 dot-add_rows_left field (x ∷ xs) [] zs h k l same = absurd (omega arith)
 dot-add_rows_left field (x ∷ xs) (y ∷ ys) [] h k l same = refl
 dot-add_rows_left field (x ∷ xs) (y ∷ ys) (z ∷ zs) h k l same =
-    rw (product-xor field x y z (AreElements-head field x xs h) (AreElements-head field y ys k) (AreElements-head field z zs l),
-        dot-add_rows_left field xs ys zs (AreElements-tail field x xs h) (AreElements-tail field y ys k) (AreElements-tail field z zs l) (omega arith))
+    rw (
+      product-xor field x y z (AreElements-head field x xs h) (AreElements-head field y ys k) (AreElements-head field z zs l),
+      dot-add_rows_left field xs ys zs (AreElements-tail field x xs h) (AreElements-tail field y ys k) (AreElements-tail field z zs l) (omega arith),
+    )
     (xor-exchange (product field x z) (product field y z) (dot field xs zs) (dot field ys zs))
 
 -- a row times a sum of rows
@@ -91,8 +95,10 @@ dot-add_rows field (x ∷ xs) [] [] h k l same = refl
 dot-add_rows field (x ∷ xs) [] (z ∷ zs) h k l same = absurd (omega arith)
 dot-add_rows field (x ∷ xs) (y ∷ ys) [] h k l same = absurd (omega arith)
 dot-add_rows field (x ∷ xs) (y ∷ ys) (z ∷ zs) h k l same =
-    rw ((kind_field field).mul_add x y z (AreElements-head field x xs h) (AreElements-head field y ys k) (AreElements-head field z zs l),
-        dot-add_rows field xs ys zs (AreElements-tail field x xs h) (AreElements-tail field y ys k) (AreElements-tail field z zs l) (omega arith))
+    rw (
+      (kind_field field).mul_add x y z (AreElements-head field x xs h) (AreElements-head field y ys k) (AreElements-head field z zs l),
+      dot-add_rows field xs ys zs (AreElements-tail field x xs h) (AreElements-tail field y ys k) (AreElements-tail field z zs l) (omega arith),
+    )
     (xor-exchange (product field x y) (product field x z) (dot field xs ys) (dot field xs zs))
 
 -- two rows in a row each, where the first two have one length
@@ -111,12 +117,18 @@ dot-unit_row_from field a i zero (x ∷ xs) at below h =
     let laws = kind_field field in
     let below_x = AreElements-head field x xs h in
     let yes : (i == a) ≡ true = eq-eqb i a (omega arith) in
-    rw (yes, laws.mul_comm x 1 below_x laws.one_element, laws.one_mul x below_x, unit_row-before i (a + 1) (length xs) (omega arith),
-        dot-zero_row field (length xs) xs (AreElements-tail field x xs h)) (xor_zero_r x)
+    rw (
+      yes,
+      laws.mul_comm x 1 below_x laws.one_element,
+      laws.one_mul x below_x,
+      unit_row-before i (a + 1) (length xs) (omega arith),
+      dot-zero_row field (length xs) xs (AreElements-tail field x xs h),
+    ) (xor_zero_r x)
 dot-unit_row_from field a i (suc k) (x ∷ xs) at below h =
     let no : (i == a) ≡ false = ne_eqb i a (λ e. omega arith) in
-    rw (no, product-zero field x (AreElements-head field x xs h), xor_zero_l)
-    (dot-unit_row_from field (a + 1) i k xs (omega arith) (omega arith) (AreElements-tail field x xs h))
+    rw (no, product-zero field x (AreElements-head field x xs h))
+    (xor_zero_l (dot field xs (map (λ j. if i == j then 1 else 0) (range_with_len (a + 1) (length xs))))
+    ∙ dot-unit_row_from field (a + 1) i k xs (omega arith) (omega arith) (AreElements-tail field x xs h))
 
 -- a row times a unit row is the entry there
 pub dot-unit_row : (field : FieldKind) (width j : ℕ) (row : List ℕ) → j < width → IsRow field width row → dot field row (unit_row width j) ≡ slice_index row j

@@ -2,7 +2,7 @@
 use Rattle.std.specs.Prelude.{◌≡◌, ℕ, zero, suc, ◌<◌, ◌+◌, ◌*◌, ◌/◌, ◌%◌, ◌^◌, bit_xor, List, [], ◌∷◌, ◌++◌, All, length, take, drop}
 use Rattle.std.proofs.Common.{arith, refl, sym, ap, ◌∙◌}
 use Rattle.std.proofs.lemmas.List.Elements.{All-nil, All-cons, All-head, All-tail, All-map}
-use Rattle.std.proofs.lemmas.Nat.{xor_lt, xor_shr, xor_mod, xor_block}
+use Rattle.std.proofs.lemmas.Nat.{xor_shr, xor_mod, xor_block}
 use Rattle.gf_tables.specs.Product.{size_of, bytes_of_element}
 use Rattle.gf_tables.specs.declared.kind.FieldKind.{FieldKind}
 use Rattle.gf_tables.specs.declared.kind.FieldKind.TheVariants.{Eight, Sixteen}
@@ -132,8 +132,10 @@ pairs_of_bytes-add_rows (a ∷ b ∷ xs) (c ∷ []) h k = refl
 pairs_of_bytes-add_rows (a ∷ b ∷ xs) (c ∷ d ∷ ys) h k =
     let rest_x = AreBytes-tail a (b ∷ xs) h in
     let rest_y = AreBytes-tail c (d ∷ ys) k in
-    rw (xor_of_pairs a b c d (AreBytes-head b xs rest_x) (AreBytes-head d ys rest_y),
-        pairs_of_bytes-add_rows xs ys (AreBytes-tail b xs rest_x) (AreBytes-tail d ys rest_y)) refl
+    rw (
+      xor_of_pairs a b c d (AreBytes-head b xs rest_x) (AreBytes-head d ys rest_y),
+      pairs_of_bytes-add_rows xs ys (AreBytes-tail b xs rest_x) (AreBytes-tail d ys rest_y),
+    ) refl
 
 -- the elements of the exclusive or of bytes are the sum of the elements
 pub elements_of-add_rows : (field : FieldKind) (xs ys : List ℕ) → AreBytes xs → AreBytes ys

@@ -1,6 +1,6 @@
 -- Laws of sums and products of element numbers, beside those of the field itself.
 use Rattle.std.specs.Prelude.{◌≡◌, ◌<◌, ℕ, bit_xor}
-use Rattle.std.proofs.Common.{arith, refl, sym, ◌∙◌}
+use Rattle.std.proofs.Common.{refl, sym, ◌∙◌}
 use Rattle.std.specs.Int.Bits.{xor_assoc}
 use Rattle.std.proofs.lemmas.Nat.{xor_comm}
 use Rattle.gf_tables.specs.KindField.{kind_field, product_zero}
@@ -24,8 +24,12 @@ pub product-xor : (field : FieldKind) (a b x : ℕ) → a < size_of field → b 
     → product field (bit_xor a b) x ≡ bit_xor (product field a x) (product field b x)
 product-xor field a b x below_a below_b below =
     let laws = kind_field field in
-    rw (laws.mul_comm (bit_xor a b) x (laws.add_element a b below_a below_b) below, laws.mul_add x a b below below_a below_b,
-        laws.mul_comm x a below below_a, laws.mul_comm x b below below_b) refl
+    rw (
+      laws.mul_comm (bit_xor a b) x (laws.add_element a b below_a below_b) below,
+      laws.mul_add x a b below below_a below_b,
+      laws.mul_comm x a below below_a,
+      laws.mul_comm x b below below_b,
+    ) refl
 
 -- the multiples of a multiple may be taken in either order
 pub product-left_comm : (field : FieldKind) (a b x : ℕ) → a < size_of field → b < size_of field → x < size_of field

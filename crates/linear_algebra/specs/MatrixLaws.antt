@@ -1,19 +1,21 @@
 -- Laws of matrices. Their products associate and are linear, and the identity is neutral on both sides.
 use Rattle.std.specs.Prelude.{◌≡◌, ℕ, zero, suc, ◌+◌, ◌*◌, ◌<◌, ◌==◌, List, [], ◌∷◌, ◌++◌, length, map, take, drop, slice_index, if◌then◌else◌}
-use Rattle.std.proofs.Common.{arith, refl, sym, ap, ◌∙◌, get_or}
-use Rattle.std.proofs.lemmas.Bool.Decides.{nat_tests}
+use Rattle.std.proofs.Common.{arith, refl, sym, ap, ◌∙◌, inl, inr, get_or}
+use borrow.Author.Tests.{eq-eqb}
+use Rattle.std.proofs.lemmas.Bool.{ne_eqb}
+use Rattle.std.proofs.lemmas.Bool.Decides.{eqb_tells}
 use Rattle.std.proofs.lemmas.List.{length-map, map-append, ext_get_or}
 use Rattle.std.proofs.lemmas.List.Elements.{All-get_or}
 use Rattle.std.proofs.lemmas.List.FromFn.{length-map-range_with_len, fill_by_all}
 use Rattle.std.proofs.lemmas.Simd.{map-map}
 use Rattle.std.specs.List.{range_with_len}
-use Rattle.gf_tables.specs.Product.{product, size_of}
+use Rattle.gf_tables.specs.Product.{size_of}
 use Rattle.gf_tables.specs.declared.kind.FieldKind.{FieldKind}
-use Rattle.linear_algebra.specs.CombinationLaws.{length-combination, combination-IsRow, combination-add_blocks, combination-map-scale_row, combination-unit_row, slice_index-combination, combination-add_rows, combination-scale_row, combination-zero_row, combination-append}
+use Rattle.linear_algebra.specs.CombinationLaws.{length-combination, combination-IsRow, combination-add_blocks, combination-map-scale_row, combination-unit_row, slice_index-combination, combination-add_rows, combination-scale_row, combination-zero_row}
 use Rattle.linear_algebra.specs.DotLaws.{dot-unit_row}
 use Rattle.linear_algebra.specs.Matrices.{rows_of, times_rows, matrix_times, identity, column, add_blocks}
 use Rattle.linear_algebra.specs.RowLaws.{AreElements-head, AreElements-tail, AreElements-nil, AreElements-cons, add_rows-IsRow, unit_row-IsRow, slice_index-unit_row, length-scale_row, scale_row-elements}
-use Rattle.linear_algebra.specs.Rows.{add_rows, scale_row, zero_row, unit_row, combination, dot, AreElements, IsRow, AreRows}
+use Rattle.linear_algebra.specs.Rows.{scale_row, unit_row, combination, dot, AreElements, IsRow, AreRows}
 
 -- a square matrix whose entries stand row by row
 pub matrix_times-rows_of : (field : FieldKind) (width size : ℕ) (entries : List ℕ) (rows : List (List ℕ))
@@ -37,10 +39,12 @@ combination-times_rows field width size (times ∷ coefficients) (row ∷ matrix
     let below = AreElements-head field times coefficients h in
     let rest = AreElements-tail field times coefficients h in
     let under = combination-IsRow field size coefficients matrix rest k.1 in
-    rw (← combination-scale_row field width times row rows below k.0.elements l,
-        combination-times_rows field width size coefficients matrix rows rest k.1 l)
+    rw (
+      ← combination-scale_row field width times row rows below k.0.elements l,
+      combination-times_rows field width size coefficients matrix rows rest k.1 l,
+    )
     (sym (combination-add_rows field width (scale_row field times row) (combination field size coefficients matrix) rows
-          (scale_row-elements field times row below k.0.elements) under.elements (length-scale_row field times row ∙ k.0.wide ∙ sym under.wide) l))
+    (scale_row-elements field times row below k.0.elements) under.elements (length-scale_row field times row ∙ k.0.wide ∙ sym under.wide) l))
 
 -- products associate: a matrix times a matrix times rows
 pub times_rows-times_rows : (field : FieldKind) (width size middle : ℕ) (matrix others rows : List (List ℕ)) → AreRows field middle matrix
@@ -48,8 +52,10 @@ pub times_rows-times_rows : (field : FieldKind) (width size middle : ℕ) (matri
     → times_rows field width matrix (times_rows field width others rows) ≡ times_rows field width (times_rows field size matrix others) rows
 times_rows-times_rows field width size middle [] others rows h k l = refl
 times_rows-times_rows field width size middle (coefficients ∷ matrix) others rows h k l =
-    rw (combination-times_rows field width size coefficients others rows h.0.elements k l,
-        times_rows-times_rows field width size middle matrix others rows h.1 k l) refl
+    rw (
+      combination-times_rows field width size coefficients others rows h.0.elements k l,
+      times_rows-times_rows field width size middle matrix others rows h.1 k l,
+    ) refl
 
 -- a matrix times sums of rows
 pub times_rows-add_blocks : (field : FieldKind) (width size : ℕ) (matrix rows others : List (List ℕ)) → AreRows field size matrix
@@ -57,8 +63,10 @@ pub times_rows-add_blocks : (field : FieldKind) (width size : ℕ) (matrix rows 
     → times_rows field width matrix (add_blocks rows others) ≡ add_blocks (times_rows field width matrix rows) (times_rows field width matrix others)
 times_rows-add_blocks field width size [] rows others h k l same = refl
 times_rows-add_blocks field width size (coefficients ∷ matrix) rows others h k l same =
-    rw (combination-add_blocks field width coefficients rows others h.0.elements k l same,
-        times_rows-add_blocks field width size matrix rows others h.1 k l same) refl
+    rw (
+      combination-add_blocks field width coefficients rows others h.0.elements k l same,
+      times_rows-add_blocks field width size matrix rows others h.1 k l same,
+    ) refl
 
 -- the entry in a row and a column of a product is the product of that row and that column
 pub slice_index-times_rows : (field : FieldKind) (width size : ℕ) (matrix rows : List (List ℕ)) (i j : ℕ) → AreRows field size matrix → AreRows field width rows
@@ -105,14 +113,14 @@ map_agree f g same (x ∷ xs) = rw (same x, map_agree f g same xs) refl
 
 -- whether two numbers are equal, in either order
 equal_comm : (a b : ℕ) → (a == b) ≡ (b == a)
-equal_comm a b = grind (arith, nat_tests)
+equal_comm a b = elim (eqb_tells a b) [ inl p ↦ p.0 ∙ sym (eq-eqb b a (sym p.1)) | inr p ↦ p.0 ∙ sym (ne_eqb b a (λ e. p.1 (sym e))) ]
 
 -- a column of the identity
 pub column-identity : (size j : ℕ) → j < size → column j (identity size) ≡ unit_row size j
 column-identity size j below =
     map-map (λ (row : List ℕ). slice_index row j) (unit_row size) (range_with_len 0 size)
     ∙ map_agree (λ i. slice_index (unit_row size i) j) (λ i. if j == i then 1 else 0)
-      (λ i. slice_index-unit_row size i j below ∙ ap (λ b. if b then 1 else 0) (equal_comm i j)) (range_with_len 0 size)
+    (λ i. slice_index-unit_row size i j below ∙ ap (λ b. if b then 1 else 0) (equal_comm i j)) (range_with_len 0 size)
 
 -- a combination of the rows of the identity
 pub combination-identity : (field : FieldKind) (size : ℕ) (row : List ℕ) → IsRow field size row → combination field size row (identity size) ≡ row
@@ -120,9 +128,9 @@ combination-identity field size row h =
     let long = length-combination field size row (identity size) (identity-AreRows field size) in
     ext_get_or 0 (combination field size row (identity size)) row (long ∙ sym h.wide)
     (λ j inside.
-        let below : j < size = omega (arith, long) in
-        slice_index-combination field size row (identity size) j h.elements (identity-AreRows field size)
-        ∙ ap (dot field row) (column-identity size j below) ∙ dot-unit_row field size j row below h)
+    let below : j < size = omega (arith, long) in
+    slice_index-combination field size row (identity size) j h.elements (identity-AreRows field size)
+    ∙ ap (dot field row) (column-identity size j below) ∙ dot-unit_row field size j row below h)
 
 -- a matrix times the identity
 pub times_rows-identity : (field : FieldKind) (size : ℕ) (matrix : List (List ℕ)) → AreRows field size matrix → times_rows field size matrix (identity size) ≡ matrix
@@ -143,8 +151,10 @@ pub add_blocks-times_rows : (field : FieldKind) (width size : ℕ) (matrix other
 add_blocks-times_rows field width size [] others rows h k l = refl
 add_blocks-times_rows field width size (row ∷ matrix) [] rows h k l = refl
 add_blocks-times_rows field width size (row ∷ matrix) (other ∷ others) rows h k l =
-    rw (combination-add_rows field width row other rows h.0.elements k.0.elements (h.0.wide ∙ sym k.0.wide) l,
-        add_blocks-times_rows field width size matrix others rows h.1 k.1 l) refl
+    rw (
+      combination-add_rows field width row other rows h.0.elements k.0.elements (h.0.wide ∙ sym k.0.wide) l,
+      add_blocks-times_rows field width size matrix others rows h.1 k.1 l,
+    ) refl
 
 -- rows of a matrix and then others
 pub times_rows-append : (field : FieldKind) (width : ℕ) (matrix others rows : List (List ℕ))

@@ -12,7 +12,7 @@ use Rattle.std.proofs.lemmas.Nat.{xor_comm}
 use Rattle.gf_tables.specs.KindField.{kind_field, product_zero}
 use Rattle.gf_tables.specs.Product.{product, size_of}
 use Rattle.gf_tables.specs.declared.kind.FieldKind.{FieldKind}
-use Rattle.linear_algebra.specs.FieldLaws.{product-zero, product-xor, product-left_comm}
+use Rattle.linear_algebra.specs.FieldLaws.{product-zero, product-xor}
 use Rattle.linear_algebra.specs.Rows.{add_rows, scale_row, zero_row, unit_row, AreElements, IsRow, AreRows}
 
 -- the first element, the others, and both together
@@ -161,8 +161,10 @@ pub scale_row-scale_row : (field : FieldKind) (a b : ℕ) (row : List ℕ) → a
     → scale_row field a (scale_row field b row) ≡ scale_row field (product field a b) row
 scale_row-scale_row field a b [] below_a below_b h = refl
 scale_row-scale_row field a b (x ∷ xs) below_a below_b h =
-    rw ((kind_field field).mul_assoc a b x below_a below_b (AreElements-head field x xs h),
-        scale_row-scale_row field a b xs below_a below_b (AreElements-tail field x xs h)) refl
+    rw (
+      (kind_field field).mul_assoc a b x below_a below_b (AreElements-head field x xs h),
+      scale_row-scale_row field a b xs below_a below_b (AreElements-tail field x xs h),
+    ) refl
 
 -- the multiples of a multiple may be taken in either order
 pub scale_row-comm : (field : FieldKind) (a b : ℕ) (row : List ℕ) → a < size_of field → b < size_of field → AreElements field row
@@ -178,16 +180,20 @@ pub scale_row-add_rows : (field : FieldKind) (a : ℕ) (xs ys : List ℕ) → a 
 scale_row-add_rows field a [] ys below h k = refl
 scale_row-add_rows field a (x ∷ xs) [] below h k = refl
 scale_row-add_rows field a (x ∷ xs) (y ∷ ys) below h k =
-    rw ((kind_field field).mul_add a x y below (AreElements-head field x xs h) (AreElements-head field y ys k),
-        scale_row-add_rows field a xs ys below (AreElements-tail field x xs h) (AreElements-tail field y ys k)) refl
+    rw (
+      (kind_field field).mul_add a x y below (AreElements-head field x xs h) (AreElements-head field y ys k),
+      scale_row-add_rows field a xs ys below (AreElements-tail field x xs h) (AreElements-tail field y ys k),
+    ) refl
 
 -- a sum of elements times a row
 pub scale_row-xor : (field : FieldKind) (a b : ℕ) (row : List ℕ) → a < size_of field → b < size_of field → AreElements field row
     → scale_row field (bit_xor a b) row ≡ add_rows (scale_row field a row) (scale_row field b row)
 scale_row-xor field a b [] below_a below_b h = refl
 scale_row-xor field a b (x ∷ xs) below_a below_b h =
-    rw (product-xor field a b x below_a below_b (AreElements-head field x xs h),
-        scale_row-xor field a b xs below_a below_b (AreElements-tail field x xs h)) refl
+    rw (
+      product-xor field a b x below_a below_b (AreElements-head field x xs h),
+      scale_row-xor field a b xs below_a below_b (AreElements-tail field x xs h),
+    ) refl
 
 -- a multiple of a multiple of a row, where the product of the coefficients is 1
 pub scale_row-inverse : (field : FieldKind) (a b : ℕ) (row : List ℕ) → a < size_of field → b < size_of field → product field a b ≡ 1 → All (λ element. element < size_of field) row
