@@ -1,15 +1,17 @@
 -- Laws of combinations of rows. A combination of rows of one width is a row of that width. It is linear in its rows
 -- and in its coefficients.
-use Rattle.std.specs.Prelude.{◌≡◌, ℕ, zero, suc, ◌+◌, ◌<◌, ◌==◌, true, false, List, [], ◌∷◌, ◌++◌, length, map, slice_get, slice_index, unwrap_or, if◌then◌else◌}
+use Rattle.std.specs.Prelude.{◌≡◌, ℕ, zero, suc, ◌+◌, ◌-◌, ◌<◌, ◌≤◌, ◌==◌, true, false, List, [], ◌∷◌, ◌++◌, length, map, take, drop, slice_get, slice_index, unwrap_or, if◌then◌else◌}
 use Rattle.std.proofs.Common.{arith, refl, sym, ap, ◌∙◌, get_or}
 use borrow.Author.Tests.{eq-eqb}
 use Rattle.std.proofs.lemmas.Bool.{ne_eqb}
+use Rattle.std.proofs.lemmas.List.{take-map, drop-map, take-replicate, drop-replicate}
+use Rattle.std.proofs.lemmas.List.FromFn.{fill_by_all}
 use Rattle.std.specs.List.{All, range_with_len}
 use Rattle.gf_tables.specs.Product.{product, size_of}
 use Rattle.gf_tables.specs.declared.kind.FieldKind.{FieldKind}
 use Rattle.gf_tables.specs.declared.kind.FieldKind.TheVariants.{Eight}
 use Rattle.linear_algebra.specs.Matrices.{column, add_blocks}
-use Rattle.linear_algebra.specs.RowLaws.{AreElements-head, AreElements-tail, add_rows-exchange, add_rows-assoc, add_rows-zero_row, zero_row-add_rows, zero_row-zero_row, length-add_rows, add_rows-IsRow, zero_row-IsRow, scale_row-IsRow, scale_row-one, scale_row-zero, scale_row-zero_row, length-scale_row, scale_row-scale_row, scale_row-comm, scale_row-add_rows, scale_row-xor, scale_row-inverse, AreRows-get_or, unit_row-before, slice_index-add_rows, slice_index-scale_row, slice_index-zero_row}
+use Rattle.linear_algebra.specs.RowLaws.{AreElements-head, AreElements-tail, add_rows-exchange, add_rows-assoc, add_rows-zero_row, zero_row-add_rows, zero_row-zero_row, length-add_rows, add_rows-IsRow, zero_row-IsRow, scale_row-IsRow, scale_row-one, scale_row-zero, scale_row-zero_row, length-scale_row, scale_row-scale_row, scale_row-comm, scale_row-add_rows, scale_row-xor, scale_row-inverse, AreRows-get_or, take-add_rows, drop-add_rows, unit_row-before, slice_index-add_rows, slice_index-scale_row, slice_index-zero_row}
 use Rattle.linear_algebra.specs.Rows.{add_rows, scale_row, zero_row, unit_row, combination, dot, AreElements, IsRow, AreRows}
 
 -- a combination of no rows
@@ -45,11 +47,11 @@ combination-inverse width a b row below_a below_b inverse e h = combination-inve
 -- the length of a combination
 pub length-combination : (field : FieldKind) (width : ℕ) (coefficients : List ℕ) (rows : List (List ℕ)) → AreRows field width rows
     → length (combination field width coefficients rows) ≡ width
-length-combination field width [] rows h = (zero_row-IsRow field width).wide
-length-combination field width (times ∷ coefficients) [] h = (zero_row-IsRow field width).wide
+length-combination field width [] rows h = (zero_row-IsRow field width).width
+length-combination field width (times ∷ coefficients) [] h = (zero_row-IsRow field width).width
 length-combination field width (times ∷ coefficients) (row ∷ rows) h =
     let rest = length-combination field width coefficients rows h.1 in
-    length-add_rows (scale_row field times row) (combination field width coefficients rows) (length-scale_row field times row ∙ h.0.wide ∙ sym rest) ∙ rest
+    length-add_rows (scale_row field times row) (combination field width coefficients rows) (length-scale_row field times row ∙ h.0.width ∙ sym rest) ∙ rest
 
 -- a combination of rows of one width, of elements, is one too, also where there are more coefficients than rows or fewer
 pub combination-IsRow : (field : FieldKind) (width : ℕ) (coefficients : List ℕ) (rows : List (List ℕ)) → AreElements field coefficients → AreRows field width rows
@@ -129,7 +131,7 @@ pub combination-zero_row : (field : FieldKind) (width count : ℕ) (rows : List 
 combination-zero_row field width zero rows h = refl
 combination-zero_row field width (suc count) [] h = refl
 combination-zero_row field width (suc count) (row ∷ rows) h =
-    rw (scale_row-zero field row, h.0.wide, combination-zero_row field width count rows h.1) (zero_row-zero_row width)
+    rw (scale_row-zero field row, h.0.width, combination-zero_row field width count rows h.1) (zero_row-zero_row width)
 
 -- a combination of rows and then others
 pub combination-append : (field : FieldKind) (width : ℕ) (xs ys : List ℕ) (rows others : List (List ℕ)) → length xs ≡ length rows → AreRows field width others
@@ -154,12 +156,12 @@ combination-unit_row_from field width a i zero (row ∷ rows) at below h =
       scale_row-one field row h.0.elements,
       unit_row-before i (a + 1) (length rows) (omega arith),
       combination-zero_row field width (length rows) rows h.1,
-      ← h.0.wide,
+      ← h.0.width,
     ) (add_rows-zero_row row)
 combination-unit_row_from field width a i (suc k) (row ∷ rows) at below h =
     let no : (i == a) ≡ false = ne_eqb i a (λ e. omega arith) in
     let here = AreRows-get_or field width k rows (omega arith) h.1 in
-    rw (no, scale_row-zero field row, h.0.wide, combination-unit_row_from field width (a + 1) i k rows (omega arith) (omega arith) h.1, ← here.wide)
+    rw (no, scale_row-zero field row, h.0.width, combination-unit_row_from field width (a + 1) i k rows (omega arith) (omega arith) h.1, ← here.width)
     (zero_row-add_rows (get_or rows k []))
 
 -- the combination with 1 at one place and zeros elsewhere is the row there
@@ -180,9 +182,41 @@ pub slice_index-combination : (field : FieldKind) (width : ℕ) (coefficients : 
 slice_index-combination field width [] rows j h k = slice_index-zero_row width j
 slice_index-combination field width (times ∷ coefficients) [] j h k = slice_index-zero_row width j
 slice_index-combination field width (times ∷ coefficients) (row ∷ rows) j h k =
-    let same = length-scale_row field times row ∙ k.0.wide ∙ sym (length-combination field width coefficients rows k.1) in
+    let same = length-scale_row field times row ∙ k.0.width ∙ sym (length-combination field width coefficients rows k.1) in
     rw (
       slice_index-add_rows (scale_row field times row) (combination field width coefficients rows) j same,
       slice_index-scale_row field times row j (AreElements-head field times coefficients h),
       slice_index-combination field width coefficients rows j (AreElements-tail field times coefficients h) k.1,
+    ) refl
+
+-- a combination, entry by entry
+pub combination-columns : (field : FieldKind) (width : ℕ) (coefficients : List ℕ) (rows : List (List ℕ)) → AreElements field coefficients → AreRows field width rows
+    → combination field width coefficients rows ≡ map (λ j. dot field coefficients (column j rows)) (range_with_len 0 width)
+combination-columns field width coefficients rows h k =
+    fill_by_all (λ j. dot field coefficients (column j rows)) (combination field width coefficients rows) width 0 (length-combination field width coefficients rows k)
+    (λ j below. slice_index-combination field width coefficients rows j h k)
+
+-- the first entries of a combination
+pub take-combination : (field : FieldKind) (width n : ℕ) (coefficients : List ℕ) (rows : List (List ℕ)) → n ≤ width
+    → take n (combination field width coefficients rows) ≡ combination field n coefficients (map (take n) rows)
+take-combination field width n [] rows within = take-replicate n width 0 within
+take-combination field width n (times ∷ coefficients) [] within = take-replicate n width 0 within
+take-combination field width n (times ∷ coefficients) (row ∷ rows) within =
+    rw (
+      take-add_rows n (scale_row field times row) (combination field width coefficients rows),
+      take-map (product field times) n row,
+      take-combination field width n coefficients rows within,
+    ) refl
+
+-- the entries of a combination from a place on
+pub drop-combination : (field : FieldKind) (width n : ℕ) (coefficients : List ℕ) (rows : List (List ℕ)) → AreRows field width rows
+    → drop n (combination field width coefficients rows) ≡ combination field (width - n) coefficients (map (drop n) rows)
+drop-combination field width n [] rows h = drop-replicate n width 0
+drop-combination field width n (times ∷ coefficients) [] h = drop-replicate n width 0
+drop-combination field width n (times ∷ coefficients) (row ∷ rows) h =
+    let same = length-scale_row field times row ∙ h.0.width ∙ sym (length-combination field width coefficients rows h.1) in
+    rw (
+      drop-add_rows n (scale_row field times row) (combination field width coefficients rows) same,
+      drop-map (product field times) n row,
+      drop-combination field width n coefficients rows h.1,
     ) refl

@@ -133,5 +133,5 @@ dot-unit_row_from field a i (suc k) (x ∷ xs) at below h =
 -- a row times a unit row is the entry there
 pub dot-unit_row : (field : FieldKind) (width j : ℕ) (row : List ℕ) → j < width → IsRow field width row → dot field row (unit_row width j) ≡ slice_index row j
 dot-unit_row field width j row below h =
-    let inside : j < length row = omega (arith, h.wide) in
-    rw (← h.wide) (dot-unit_row_from field 0 j j row (omega arith) inside h.elements)
+    let inside : j < length row = omega (arith, h.width) in
+    rw (← h.width) (dot-unit_row_from field 0 j j row (omega arith) inside h.elements)

@@ -14,10 +14,11 @@ pub numbers-AreElements : {F : Type 0} (field : FieldKind) (number : F → ℕ) 
     → AreElements field (numbers number elements)
 numbers-AreElements field number elements h = All-map (λ n. n < size_of field) number elements h
 
--- the first byte and the others
+-- the first byte
 AreBytes-head : (x : ℕ) (xs : List ℕ) → AreBytes (x ∷ xs) → x < 256
 AreBytes-head x xs h = All-head (λ byte. byte < 256) x xs h
 
+-- the bytes after the first
 AreBytes-tail : (x : ℕ) (xs : List ℕ) → AreBytes (x ∷ xs) → AreBytes xs
 AreBytes-tail x xs h = All-tail (λ byte. byte < 256) x xs h
 
@@ -25,10 +26,11 @@ AreBytes-tail x xs h = All-tail (λ byte. byte < 256) x xs h
 whole : (n : ℕ) → 256 * (n / 256) + n % 256 ≡ n
 whole n = omega arith
 
--- the two bytes of a number
+-- the more significant byte of a number
 high_byte : (high low : ℕ) → low < 256 → (256 * high + low) / 256 ≡ high
 high_byte high low below = omega arith
 
+-- the less significant byte of a number
 low_byte : (high low : ℕ) → low < 256 → (256 * high + low) % 256 ≡ low
 low_byte high low below = omega arith
 
@@ -36,6 +38,7 @@ low_byte high low below = omega arith
 two_more : (n : ℕ) → 2 * suc n ≡ suc (suc (2 * n))
 two_more n = omega arith
 
+-- the numbers of numbers' bytes are the numbers
 pairs_of_bytes-bytes_of_pairs : (row : List ℕ) → pairs_of_bytes (bytes_of_pairs row) ≡ row
 pairs_of_bytes-bytes_of_pairs [] = refl
 pairs_of_bytes-bytes_of_pairs (n ∷ row) = rw (whole n, pairs_of_bytes-bytes_of_pairs row) refl
@@ -45,6 +48,7 @@ pub elements_of-bytes_of_row : (field : FieldKind) (row : List ℕ) → elements
 elements_of-bytes_of_row Eight row = refl
 elements_of-bytes_of_row Sixteen row = pairs_of_bytes-bytes_of_pairs row
 
+-- the bytes of the numbers of two bytes each are the bytes
 bytes_of_pairs-pairs_of_bytes : (n : ℕ) (bytes : List ℕ) → AreBytes bytes → length bytes ≡ 2 * n → bytes_of_pairs (pairs_of_bytes bytes) ≡ bytes
 bytes_of_pairs-pairs_of_bytes n [] h even = refl
 bytes_of_pairs-pairs_of_bytes n (high ∷ []) h even = absurd (omega arith)
@@ -60,6 +64,7 @@ pub bytes_of_row-elements_of : (field : FieldKind) (n : ℕ) (bytes : List ℕ) 
 bytes_of_row-elements_of Eight n bytes h even = refl
 bytes_of_row-elements_of Sixteen n bytes h even = bytes_of_pairs-pairs_of_bytes n bytes h even
 
+-- as many numbers as there are pairs of bytes
 length-pairs_of_bytes : (n : ℕ) (bytes : List ℕ) → length bytes ≡ 2 * n → length (pairs_of_bytes bytes) ≡ n
 length-pairs_of_bytes n [] even = omega arith
 length-pairs_of_bytes n (high ∷ []) even = absurd (omega arith)
@@ -71,6 +76,7 @@ pub length-elements_of : (field : FieldKind) (n : ℕ) (bytes : List ℕ) → le
 length-elements_of Eight n bytes even = omega arith
 length-elements_of Sixteen n bytes even = length-pairs_of_bytes n bytes even
 
+-- two bytes for each number
 length-bytes_of_pairs : (row : List ℕ) → length (bytes_of_pairs row) ≡ 2 * length row
 length-bytes_of_pairs [] = refl
 length-bytes_of_pairs (n ∷ row) = ap (λ k. suc (suc k)) (length-bytes_of_pairs row) ∙ sym (two_more (length row))
@@ -80,6 +86,7 @@ pub length-bytes_of_row : (field : FieldKind) (row : List ℕ) → length (bytes
 length-bytes_of_row Eight row = omega arith
 length-bytes_of_row Sixteen row = length-bytes_of_pairs row
 
+-- two bytes are an element
 pairs_of_bytes-elements : (bytes : List ℕ) → AreBytes bytes → AreElements Sixteen (pairs_of_bytes bytes)
 pairs_of_bytes-elements [] h = All-nil (λ element. element < 65536)
 pairs_of_bytes-elements (high ∷ []) h = All-nil (λ element. element < 65536)
@@ -98,10 +105,11 @@ elements_of-AreElements Sixteen bytes h = pairs_of_bytes-elements bytes h
 pub elements_of-IsRow : (field : FieldKind) (width : ℕ) (bytes : List ℕ) → AreBytes bytes → length bytes ≡ bytes_of_element field * width
     → IsRow field width (elements_of field bytes)
 elements_of-IsRow field width bytes h even = record {
-  wide = length-elements_of field width bytes even;
+  width = length-elements_of field width bytes even;
   elements = elements_of-AreElements field bytes h;
 }
 
+-- the two parts of an element are bytes
 bytes_of_pairs-bytes : (row : List ℕ) → AreElements Sixteen row → AreBytes (bytes_of_pairs row)
 bytes_of_pairs-bytes [] h = All-nil (λ byte. byte < 256)
 bytes_of_pairs-bytes (n ∷ row) h =
@@ -122,6 +130,7 @@ xor_of_pairs a b c d below_b below_d =
     let both : 256 * bit_xor a c + bit_xor b d ≡ bit_xor a c * 2 ^ 8 + bit_xor b d = omega arith in
     rw (first, second, both) (sym (xor_block 8 a c b d below_b below_d))
 
+-- the numbers of the exclusive or of bytes are the sum of the numbers
 pairs_of_bytes-add_rows : (xs ys : List ℕ) → AreBytes xs → AreBytes ys → pairs_of_bytes (add_rows xs ys) ≡ add_rows (pairs_of_bytes xs) (pairs_of_bytes ys)
 pairs_of_bytes-add_rows [] ys h k = refl
 pairs_of_bytes-add_rows (a ∷ []) [] h k = refl
@@ -143,6 +152,7 @@ pub elements_of-add_rows : (field : FieldKind) (xs ys : List ℕ) → AreBytes x
 elements_of-add_rows Eight xs ys h k = refl
 elements_of-add_rows Sixteen xs ys h k = pairs_of_bytes-add_rows xs ys h k
 
+-- the bytes of a sum of numbers are the exclusive or of their bytes
 bytes_of_pairs-add_rows : (xs ys : List ℕ) → bytes_of_pairs (add_rows xs ys) ≡ add_rows (bytes_of_pairs xs) (bytes_of_pairs ys)
 bytes_of_pairs-add_rows [] ys = refl
 bytes_of_pairs-add_rows (x ∷ xs) [] = refl
@@ -153,6 +163,7 @@ pub bytes_of_row-add_rows : (field : FieldKind) (xs ys : List ℕ) → bytes_of_
 bytes_of_row-add_rows Eight xs ys = refl
 bytes_of_row-add_rows Sixteen xs ys = bytes_of_pairs-add_rows xs ys
 
+-- the first numbers are those of their bytes
 pairs_of_bytes-take : (k : ℕ) (bytes : List ℕ) → pairs_of_bytes (take (2 * k) bytes) ≡ take k (pairs_of_bytes bytes)
 pairs_of_bytes-take zero bytes = refl
 pairs_of_bytes-take (suc k) [] = rw (two_more k) refl
@@ -164,6 +175,7 @@ pub elements_of-take : (field : FieldKind) (k : ℕ) (bytes : List ℕ) → elem
 elements_of-take Eight k bytes = let one : 1 * k ≡ k = omega arith in ap (λ n. take n bytes) one
 elements_of-take Sixteen k bytes = pairs_of_bytes-take k bytes
 
+-- the numbers from a place on are those of their bytes
 pairs_of_bytes-drop : (k : ℕ) (bytes : List ℕ) → pairs_of_bytes (drop (2 * k) bytes) ≡ drop k (pairs_of_bytes bytes)
 pairs_of_bytes-drop zero bytes = refl
 pairs_of_bytes-drop (suc k) [] = rw (two_more k) refl
@@ -175,6 +187,7 @@ pub elements_of-drop : (field : FieldKind) (k : ℕ) (bytes : List ℕ) → elem
 elements_of-drop Eight k bytes = let one : 1 * k ≡ k = omega arith in ap (λ n. drop n bytes) one
 elements_of-drop Sixteen k bytes = pairs_of_bytes-drop k bytes
 
+-- the numbers of pairs of bytes and then others
 pairs_of_bytes-append : (n : ℕ) (xs ys : List ℕ) → length xs ≡ 2 * n → pairs_of_bytes (xs ++ ys) ≡ pairs_of_bytes xs ++ pairs_of_bytes ys
 pairs_of_bytes-append n [] ys even = refl
 pairs_of_bytes-append n (high ∷ []) ys even = absurd (omega arith)
@@ -187,6 +200,7 @@ pub elements_of-append : (field : FieldKind) (n : ℕ) (xs ys : List ℕ) → le
 elements_of-append Eight n xs ys even = refl
 elements_of-append Sixteen n xs ys even = pairs_of_bytes-append n xs ys even
 
+-- the bytes of numbers and then others
 bytes_of_pairs-append : (xs ys : List ℕ) → bytes_of_pairs (xs ++ ys) ≡ bytes_of_pairs xs ++ bytes_of_pairs ys
 bytes_of_pairs-append [] ys = refl
 bytes_of_pairs-append (n ∷ xs) ys = rw (bytes_of_pairs-append xs ys) refl
@@ -196,6 +210,7 @@ pub bytes_of_row-append : (field : FieldKind) (xs ys : List ℕ) → bytes_of_ro
 bytes_of_row-append Eight xs ys = refl
 bytes_of_row-append Sixteen xs ys = bytes_of_pairs-append xs ys
 
+-- the bytes of the first numbers
 bytes_of_pairs-take : (k : ℕ) (row : List ℕ) → bytes_of_pairs (take k row) ≡ take (2 * k) (bytes_of_pairs row)
 bytes_of_pairs-take zero row = refl
 bytes_of_pairs-take (suc k) [] = rw (two_more k) refl
@@ -206,6 +221,7 @@ pub bytes_of_row-take : (field : FieldKind) (k : ℕ) (row : List ℕ) → bytes
 bytes_of_row-take Eight k row = let one : 1 * k ≡ k = omega arith in ap (λ n. take n row) (sym one)
 bytes_of_row-take Sixteen k row = bytes_of_pairs-take k row
 
+-- the bytes of the numbers from a place on
 bytes_of_pairs-drop : (k : ℕ) (row : List ℕ) → bytes_of_pairs (drop k row) ≡ drop (2 * k) (bytes_of_pairs row)
 bytes_of_pairs-drop zero row = refl
 bytes_of_pairs-drop (suc k) [] = rw (two_more k) refl
@@ -216,6 +232,7 @@ pub bytes_of_row-drop : (field : FieldKind) (k : ℕ) (row : List ℕ) → bytes
 bytes_of_row-drop Eight k row = let one : 1 * k ≡ k = omega arith in ap (λ n. drop n row) (sym one)
 bytes_of_row-drop Sixteen k row = bytes_of_pairs-drop k row
 
+-- the bytes of zeros are zeros
 bytes_of_pairs-zero_row : (width : ℕ) → bytes_of_pairs (zero_row width) ≡ zero_row (2 * width)
 bytes_of_pairs-zero_row zero = refl
 bytes_of_pairs-zero_row (suc width) = rw (two_more width, bytes_of_pairs-zero_row width) refl

@@ -32,7 +32,7 @@ rows_from field width a (suc n) count entries within long h =
     let ends : a * width + width ≤ count * width = row_end a count width (omega arith) in
     let room : width ≤ length (drop (a * width) entries) = omega (arith, length-drop (a * width) entries) in (
       record {
-        wide = length-take-le width (drop (a * width) entries) room;
+        width = length-take-le width (drop (a * width) entries) room;
         elements = All-take P width (drop (a * width) entries) (All-drop P (a * width) entries h);
       },
       rows_from field width (a + 1) n count entries (omega arith) long h,
@@ -60,8 +60,8 @@ rows_behind : (field : FieldKind) (width a : ℕ) (front : List ℕ) (rows : Lis
 rows_behind field width a front [] long h = refl
 rows_behind field width a front (row ∷ rows) long h =
     let first : take width (drop (a * width) (front ++ (row ++ concat rows))) ≡ row =
-    ap (take width) (drop_at front (row ++ concat rows) (a * width) long) ∙ take_at row (concat rows) width h.0.wide in
-    let next : length (front ++ row) ≡ (a + 1) * width = omega (arith, length-append front row, suc-mul a width, h.0.wide, next_place a width) in
+    ap (take width) (drop_at front (row ++ concat rows) (a * width) long) ∙ take_at row (concat rows) width h.0.width in
+    let next : length (front ++ row) ≡ (a + 1) * width = omega (arith, length-append front row, suc-mul a width, h.0.width, next_place a width) in
     let others = rows_behind field width (a + 1) (front ++ row) rows next h.1 in
     let joined = ap (λ (entries : List ℕ). map (λ i. take width (drop (i * width) entries)) (range_with_len (a + 1) (length rows))) (sym (append_assoc front row (concat rows))) in
     rw (first) (ap (λ (later : List (List ℕ)). row ∷ later) (joined ∙ others))

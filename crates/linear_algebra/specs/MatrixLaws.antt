@@ -11,7 +11,7 @@ use Rattle.std.proofs.lemmas.Simd.{map-map}
 use Rattle.std.specs.List.{range_with_len}
 use Rattle.gf_tables.specs.Product.{size_of}
 use Rattle.gf_tables.specs.declared.kind.FieldKind.{FieldKind}
-use Rattle.linear_algebra.specs.CombinationLaws.{length-combination, combination-IsRow, combination-add_blocks, combination-map-scale_row, combination-unit_row, slice_index-combination, combination-add_rows, combination-scale_row, combination-zero_row}
+use Rattle.linear_algebra.specs.CombinationLaws.{length-combination, combination-IsRow, combination-add_blocks, combination-map-scale_row, combination-unit_row, slice_index-combination, combination-columns, combination-add_rows, combination-scale_row, combination-zero_row}
 use Rattle.linear_algebra.specs.DotLaws.{dot-unit_row}
 use Rattle.linear_algebra.specs.Matrices.{rows_of, times_rows, matrix_times, identity, column, add_blocks}
 use Rattle.linear_algebra.specs.RowLaws.{AreElements-head, AreElements-tail, AreElements-nil, AreElements-cons, add_rows-IsRow, unit_row-IsRow, slice_index-unit_row, length-scale_row, scale_row-elements}
@@ -44,7 +44,7 @@ combination-times_rows field width size (times ∷ coefficients) (row ∷ matrix
       combination-times_rows field width size coefficients matrix rows rest k.1 l,
     )
     (sym (combination-add_rows field width (scale_row field times row) (combination field size coefficients matrix) rows
-    (scale_row-elements field times row below k.0.elements) under.elements (length-scale_row field times row ∙ k.0.wide ∙ sym under.wide) l))
+    (scale_row-elements field times row below k.0.elements) under.elements (length-scale_row field times row ∙ k.0.width ∙ sym under.width) l))
 
 -- products associate: a matrix times a matrix times rows
 pub times_rows-times_rows : (field : FieldKind) (width size middle : ℕ) (matrix others rows : List (List ℕ)) → AreRows field middle matrix
@@ -90,11 +90,12 @@ length-times_rows field width matrix rows = length-map matrix (λ coefficients. 
 pub length-identity : (size : ℕ) → length (identity size) ≡ size
 length-identity size = length-map-range_with_len (unit_row size) 0 size
 
--- the identity is a matrix of elements
+-- the rows of the identity from a place on
 identity_rows : (field : FieldKind) (size a n : ℕ) → AreRows field size (map (unit_row size) (range_with_len a n))
 identity_rows field size a zero = tt
 identity_rows field size a (suc n) = (unit_row-IsRow field size a, identity_rows field size (a + 1) n)
 
+-- the identity is a matrix of elements
 pub identity-AreRows : (field : FieldKind) (size : ℕ) → AreRows field size (identity size)
 identity-AreRows field size = identity_rows field size 0 size
 
@@ -126,7 +127,7 @@ column-identity size j below =
 pub combination-identity : (field : FieldKind) (size : ℕ) (row : List ℕ) → IsRow field size row → combination field size row (identity size) ≡ row
 combination-identity field size row h =
     let long = length-combination field size row (identity size) (identity-AreRows field size) in
-    ext_get_or 0 (combination field size row (identity size)) row (long ∙ sym h.wide)
+    ext_get_or 0 (combination field size row (identity size)) row (long ∙ sym h.width)
     (λ j inside.
     let below : j < size = omega (arith, long) in
     slice_index-combination field size row (identity size) j h.elements (identity-AreRows field size)
@@ -152,7 +153,7 @@ add_blocks-times_rows field width size [] others rows h k l = refl
 add_blocks-times_rows field width size (row ∷ matrix) [] rows h k l = refl
 add_blocks-times_rows field width size (row ∷ matrix) (other ∷ others) rows h k l =
     rw (
-      combination-add_rows field width row other rows h.0.elements k.0.elements (h.0.wide ∙ sym k.0.wide) l,
+      combination-add_rows field width row other rows h.0.elements k.0.elements (h.0.width ∙ sym k.0.width) l,
       add_blocks-times_rows field width size matrix others rows h.1 k.1 l,
     ) refl
 
@@ -177,17 +178,32 @@ length-add_blocks (row ∷ rows) (other ∷ others) same =
     let rest : length rows ≡ length others = omega arith in
     ap suc (length-add_blocks rows others rest)
 
--- the length and the elements of a column
+-- the length of a column
 pub length-column : (j : ℕ) (rows : List (List ℕ)) → length (column j rows) ≡ length rows
 length-column j rows = length-map rows (λ row. slice_index row j)
 
+-- the entries of a column are elements
 pub column-elements : (field : FieldKind) (width j : ℕ) (rows : List (List ℕ)) → j < width → AreRows field width rows → AreElements field (column j rows)
 column-elements field width j [] below h = AreElements-nil field
 column-elements field width j (row ∷ rows) below h =
-    let inside : j < length row = omega (arith, h.0.wide) in
+    let inside : j < length row = omega (arith, h.0.width) in
     AreElements-cons field (slice_index row j) (column j rows) (All-get_or (λ element. element < size_of field) row j 0 inside h.0.elements)
     (column-elements field width j rows below h.1)
 
 -- the number of rows that entries are cut into
 pub length-rows_of : (count width : ℕ) (entries : List ℕ) → length (rows_of count width entries) ≡ count
 length-rows_of count width entries = length-map-range_with_len (λ i. take width (drop (i * width) entries)) 0 count
+
+-- a product, entry by entry: each is the product of a row and a column
+pub times_rows-columns : (field : FieldKind) (width size : ℕ) (matrix rows : List (List ℕ)) → AreRows field size matrix → AreRows field width rows
+    → times_rows field width matrix rows ≡ map (λ coefficients. map (λ j. dot field coefficients (column j rows)) (range_with_len 0 width)) matrix
+times_rows-columns field width size [] rows h k = refl
+times_rows-columns field width size (coefficients ∷ matrix) rows h k =
+    rw (combination-columns field width coefficients rows h.0.elements k, times_rows-columns field width size matrix rows h.1 k) refl
+
+-- a matrix with each row multiplied by one element, times rows
+pub map-scale_row-times_rows : (field : FieldKind) (width size a : ℕ) (matrix rows : List (List ℕ)) → a < size_of field → AreRows field size matrix → AreRows field width rows
+    → times_rows field width (map (scale_row field a) matrix) rows ≡ map (scale_row field a) (times_rows field width matrix rows)
+map-scale_row-times_rows field width size a [] rows below h k = refl
+map-scale_row-times_rows field width size a (coefficients ∷ matrix) rows below h k =
+    rw (combination-scale_row field width a coefficients rows below h.0.elements k, map-scale_row-times_rows field width size a matrix rows below h.1 k) refl

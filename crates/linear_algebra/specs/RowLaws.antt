@@ -1,11 +1,11 @@
 -- Laws of rows. Addition associates and commutes, zeros add nothing, and a row plus itself is zeros. 1 times a row
 -- is the row, and 0 times a row is zeros. An element's inverse takes back what the element makes of a row.
-use Rattle.std.specs.Prelude.{◌≡◌, ℕ, zero, suc, ◌+◌, ◌<◌, ◌==◌, Bool, true, false, bit_xor, List, [], ◌∷◌, ◌++◌, length, map, slice_index, if◌then◌else◌}
+use Rattle.std.specs.Prelude.{◌≡◌, ℕ, zero, suc, ◌+◌, ◌<◌, ◌==◌, Bool, true, false, bit_xor, List, [], ◌∷◌, ◌++◌, length, map, take, drop, slice_index, if◌then◌else◌}
 use Rattle.std.proofs.Common.{arith, refl, sym, ap, ◌∙◌, get_or}
 use Rattle.std.proofs.lemmas.Bool.{ne_eqb}
 use Rattle.std.specs.Int.Bits.{xor_zero_l, xor_zero_r, xor_self, xor_assoc}
 use Rattle.std.specs.List.{All, AllByRecursion, range_with_len}
-use Rattle.std.proofs.lemmas.List.{length-replicate}
+use Rattle.std.proofs.lemmas.List.{length-replicate, map-append}
 use Rattle.std.proofs.lemmas.List.Elements.{All-nil, All-cons, All-head, All-tail, All-replicate, All-map, All-from_recursion, recursion_from_All}
 use Rattle.std.proofs.lemmas.List.FromFn.{length-map-range_with_len, get_or-map-range_with_len}
 use Rattle.std.proofs.lemmas.Nat.{xor_comm}
@@ -15,16 +15,19 @@ use Rattle.gf_tables.specs.declared.kind.FieldKind.{FieldKind}
 use Rattle.linear_algebra.specs.FieldLaws.{product-zero, product-xor}
 use Rattle.linear_algebra.specs.Rows.{add_rows, scale_row, zero_row, unit_row, AreElements, IsRow, AreRows}
 
--- the first element, the others, and both together
+-- the first number of a row of elements
 pub AreElements-head : (field : FieldKind) (x : ℕ) (xs : List ℕ) → AreElements field (x ∷ xs) → x < size_of field
 AreElements-head field x xs h = All-head (λ element. element < size_of field) x xs h
 
+-- the others
 pub AreElements-tail : (field : FieldKind) (x : ℕ) (xs : List ℕ) → AreElements field (x ∷ xs) → AreElements field xs
 AreElements-tail field x xs h = All-tail (λ element. element < size_of field) x xs h
 
+-- a number and then others
 pub AreElements-cons : (field : FieldKind) (x : ℕ) (xs : List ℕ) → x < size_of field → AreElements field xs → AreElements field (x ∷ xs)
 AreElements-cons field x xs below h = All-cons (λ element. element < size_of field) x xs below h
 
+-- the row of no elements
 pub AreElements-nil : (field : FieldKind) → AreElements field []
 AreElements-nil field = All-nil (λ element. element < size_of field)
 
@@ -32,6 +35,7 @@ AreElements-nil field = All-nil (λ element. element < size_of field)
 pub AreElements-from_recursion : (field : FieldKind) (row : List ℕ) → AllByRecursion (λ element. element < size_of field) row → AreElements field row
 AreElements-from_recursion field row h = All-from_recursion (λ element. element < size_of field) row h
 
+-- and back
 pub recursion_from_AreElements : (field : FieldKind) (row : List ℕ) → AreElements field row → AllByRecursion (λ element. element < size_of field) row
 recursion_from_AreElements field row h = recursion_from_All (λ element. element < size_of field) row h
 
@@ -108,14 +112,14 @@ add_rows-elements field (x ∷ xs) (y ∷ ys) h k =
 -- a sum of rows of one width, of elements, is one too
 pub add_rows-IsRow : (field : FieldKind) (width : ℕ) (xs ys : List ℕ) → IsRow field width xs → IsRow field width ys → IsRow field width (add_rows xs ys)
 add_rows-IsRow field width xs ys h k = record {
-  wide = length-add_rows xs ys (h.wide ∙ sym k.wide) ∙ k.wide;
+  width = length-add_rows xs ys (h.width ∙ sym k.width) ∙ k.width;
   elements = add_rows-elements field xs ys h.elements k.elements;
 }
 
 -- the row of zeros is a row of elements
 pub zero_row-IsRow : (field : FieldKind) (width : ℕ) → IsRow field width (zero_row width)
 zero_row-IsRow field width = record {
-  wide = length-replicate width 0;
+  width = length-replicate width 0;
   elements = All-replicate (λ element. element < size_of field) width 0 (kind_field field).zero_element;
 }
 
@@ -152,7 +156,7 @@ scale_row-elements field times (x ∷ xs) below h =
 -- a multiple of a row of one width, of elements, is one too
 pub scale_row-IsRow : (field : FieldKind) (width times : ℕ) (row : List ℕ) → times < size_of field → IsRow field width row → IsRow field width (scale_row field times row)
 scale_row-IsRow field width times row below h = record {
-  wide = length-scale_row field times row ∙ h.wide;
+  width = length-scale_row field times row ∙ h.width;
   elements = scale_row-elements field times row below h.elements;
 }
 
@@ -212,15 +216,16 @@ pub AreRows-from_All : (field : FieldKind) (width : ℕ) (rows : List (List ℕ)
     → AreRows field width rows
 AreRows-from_All field width [] h k = tt
 AreRows-from_All field width (row ∷ rows) h k =
-    let wide : length row ≡ width = All-head (λ row. length row ≡ width) row rows h in
+    let long : length row ≡ width = All-head (λ row. length row ≡ width) row rows h in
     let elements : AreElements field row = All-head (AreElements field) row rows k in
-    (record { wide = wide; elements = elements }, AreRows-from_All field width rows (All-tail (λ row. length row ≡ width) row rows h) (All-tail (AreElements field) row rows k))
+    (record { width = long; elements = elements }, AreRows-from_All field width rows (All-tail (λ row. length row ≡ width) row rows h) (All-tail (AreElements field) row rows k))
 
--- the widths and the elements of rows
+-- the widths of rows
 pub AreRows-widths : (field : FieldKind) (width : ℕ) (rows : List (List ℕ)) → AreRows field width rows → All (λ row. length row ≡ width) rows
 AreRows-widths field width [] h = All-nil (λ (row : List ℕ). length row ≡ width)
-AreRows-widths field width (row ∷ rows) h = All-cons (λ (row : List ℕ). length row ≡ width) row rows h.0.wide (AreRows-widths field width rows h.1)
+AreRows-widths field width (row ∷ rows) h = All-cons (λ (row : List ℕ). length row ≡ width) row rows h.0.width (AreRows-widths field width rows h.1)
 
+-- the elements of rows
 pub AreRows-elements : (field : FieldKind) (width : ℕ) (rows : List (List ℕ)) → AreRows field width rows → All (AreElements field) rows
 AreRows-elements field width [] h = All-nil (AreElements field)
 AreRows-elements field width (row ∷ rows) h = All-cons (AreElements field) row rows h.0.elements (AreRows-elements field width rows h.1)
@@ -235,6 +240,43 @@ pub AreRows-map-scale_row : (field : FieldKind) (width times : ℕ) (rows : List
     → AreRows field width (map (scale_row field times) rows)
 AreRows-map-scale_row field width times [] below h = tt
 AreRows-map-scale_row field width times (row ∷ rows) below h = (scale_row-IsRow field width times row below h.0, AreRows-map-scale_row field width times rows below h.1)
+
+-- the first of rows
+pub AreRows-take : (field : FieldKind) (width n : ℕ) (rows : List (List ℕ)) → AreRows field width rows → AreRows field width (take n rows)
+AreRows-take field width zero rows h = tt
+AreRows-take field width (suc n) [] h = tt
+AreRows-take field width (suc n) (row ∷ rows) h = (h.0, AreRows-take field width n rows h.1)
+
+-- rows from a place on
+pub AreRows-drop : (field : FieldKind) (width n : ℕ) (rows : List (List ℕ)) → AreRows field width rows → AreRows field width (drop n rows)
+AreRows-drop field width zero rows h = h
+AreRows-drop field width (suc n) [] h = tt
+AreRows-drop field width (suc n) (row ∷ rows) h = AreRows-drop field width n rows h.1
+
+-- the first entries of a sum of rows
+pub take-add_rows : (n : ℕ) (xs ys : List ℕ) → take n (add_rows xs ys) ≡ add_rows (take n xs) (take n ys)
+take-add_rows zero xs ys = refl
+take-add_rows (suc n) [] ys = refl
+take-add_rows (suc n) (x ∷ xs) [] = refl
+take-add_rows (suc n) (x ∷ xs) (y ∷ ys) = ap (λ (row : List ℕ). bit_xor x y ∷ row) (take-add_rows n xs ys)
+
+-- the entries of a sum of rows from a place on
+pub drop-add_rows : (n : ℕ) (xs ys : List ℕ) → length xs ≡ length ys → drop n (add_rows xs ys) ≡ add_rows (drop n xs) (drop n ys)
+drop-add_rows zero xs ys same = refl
+drop-add_rows (suc n) [] ys same = refl
+drop-add_rows (suc n) (x ∷ xs) [] same = absurd (omega arith)
+drop-add_rows (suc n) (x ∷ xs) (y ∷ ys) same = drop-add_rows n xs ys (omega arith)
+
+-- a sum of rows that each are two in a row, where the first two have one length
+pub add_rows-append : (xs ys us vs : List ℕ) → length xs ≡ length us → add_rows (xs ++ ys) (us ++ vs) ≡ add_rows xs us ++ add_rows ys vs
+add_rows-append [] ys [] vs same = refl
+add_rows-append [] ys (u ∷ us) vs same = absurd (omega arith)
+add_rows-append (x ∷ xs) ys [] vs same = absurd (omega arith)
+add_rows-append (x ∷ xs) ys (u ∷ us) vs same = ap (λ (row : List ℕ). bit_xor x u ∷ row) (add_rows-append xs ys us vs (omega arith))
+
+-- a multiple of two rows in a row
+pub scale_row-append : (field : FieldKind) (times : ℕ) (xs ys : List ℕ) → scale_row field times (xs ++ ys) ≡ scale_row field times xs ++ scale_row field times ys
+scale_row-append field times xs ys = map-append (product field times) xs ys
 
 -- an entry of a sum of rows of one length
 pub slice_index-add_rows : (xs ys : List ℕ) (j : ℕ) → length xs ≡ length ys → slice_index (add_rows xs ys) j ≡ bit_xor (slice_index xs j) (slice_index ys j)
@@ -260,15 +302,16 @@ slice_index-zero_row (suc width) (suc j) = slice_index-zero_row width j
 pub slice_index-unit_row : (width i j : ℕ) → j < width → slice_index (unit_row width i) j ≡ (if i == j then 1 else 0)
 slice_index-unit_row width i j below = get_or-map-range_with_len (λ k. if i == k then 1 else 0) 0 width j j 0 below (omega arith)
 
--- a unit row is a row of elements
+-- 0 and 1 are elements
 unit_entry : (field : FieldKind) (b : Bool) → (if b then 1 else 0) < size_of field
 unit_entry field b = elim b as (λ b. (if b then 1 else 0) < size_of field) [ true ↦ (kind_field field).one_element | false ↦ (kind_field field).zero_element ]
 
+-- a unit row is a row of elements
 pub unit_row-IsRow : (field : FieldKind) (width i : ℕ) → IsRow field width (unit_row width i)
 unit_row-IsRow field width i =
     let P : ℕ → Type 0 = λ element. element < size_of field in
     record {
-      wide = length-map-range_with_len (λ j. if i == j then 1 else 0) 0 width;
+      width = length-map-range_with_len (λ j. if i == j then 1 else 0) 0 width;
       elements = All-map P (λ j. if i == j then 1 else 0) (range_with_len 0 width) (λ k d below. unit_entry field (i == get_or (range_with_len 0 width) k d));
     }
 

@@ -38,9 +38,9 @@ dot field (x ∷ xs) (y ∷ ys) = bit_xor (product field x y) (dot field xs ys)
 abbrev pub AreElements : FieldKind → List ℕ → Type 0
 AreElements field row = All (λ element. element < size_of field) row
 
--- a row of one width, of elements
-pub record IsRow (field : FieldKind) (width : ℕ) (row : List ℕ) : Type 0 where
-  pub wide : length row ≡ width
+-- a row of so many elements
+pub record IsRow (field : FieldKind) (count : ℕ) (row : List ℕ) : Type 0 where
+  pub width : length row ≡ count
   pub elements : AreElements field row
 
 -- rows of one width, of elements
