@@ -16,8 +16,8 @@ use Rattle.net_model.specs.declared.Link.{Link}
 use Rattle.net_model.specs.declared.Pattern.{Pattern}
 use Rattle.net_model.specs.declared.net.FieldChoice.TheVariants as choice
 use Rattle.node_program.specs.Code.{IsCode, are_in_order, are_operands_of, are_decoders}
-use Rattle.node_program.specs.Combination.{combination}
-use Rattle.node_program.specs.CombinationLaws.{combination-inverse}
+use Rattle.linear_algebra.specs.Rows.{combination}
+use Rattle.linear_algebra.specs.CombinationLaws.{combination-inverse}
 use Rattle.node_program.specs.Decoding.{IsBlock, IsAccepted, decoded}
 use Rattle.node_program.specs.Value.{value, value_within}
 use Rattle.node_program.specs.declared.Operand.{Operand}

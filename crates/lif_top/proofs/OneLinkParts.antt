@@ -18,8 +18,8 @@ use Rattle.net_model.specs.declared.net.Net.{Net}
 use Rattle.net_model.specs.declared.Link.{Link}
 use Rattle.net_model.specs.declared.Pattern.{Pattern}
 use Rattle.node_program.specs.Code.{is_source_of, leads_into, are_operands, are_operands_of, is_decoder, are_decoders}
-use Rattle.node_program.specs.Combination.{combination, zero_row}
-use Rattle.node_program.specs.CombinationLaws.{combination-single}
+use Rattle.linear_algebra.specs.Rows.{combination, zero_row}
+use Rattle.linear_algebra.specs.CombinationLaws.{combination-single}
 use Rattle.node_program.specs.Decoding.{IsBlock, IsAccepted, decoded}
 use Rattle.node_program.specs.Value.{value_within, row_at}
 use Rattle.node_program.specs.declared.Operand.{Operand}

@@ -19,12 +19,12 @@ pub use Rattle.lif_outside.specs.Files
 pub use Rattle.lif_outside.specs.Puts
 pub use Rattle.lif_outside.specs.Runs
 pub use Rattle.lif_outside.specs.Told
+pub use Rattle.linear_algebra.specs.Rows
 pub use Rattle.net_model.specs.Demands
 pub use Rattle.net_model.specs.Failed
 pub use Rattle.net_model.specs.Lists
 pub use Rattle.net_model.specs.Name
 pub use Rattle.net_model.specs.Network
 pub use Rattle.node_program.specs.Code
-pub use Rattle.node_program.specs.Combination
 pub use Rattle.node_program.specs.Decoding
 pub use Rattle.node_program.specs.Value

@@ -5,7 +5,7 @@ use Rattle.gf_tables.specs.declared.kind.FieldKind.TheVariants.{Eight}
 use Rattle.gf_tables.specs.Product.{product}
 use Rattle.code_file.specs.Items.{bytes_of}
 use Rattle.node_program.specs.declared.code.Code.{Code}
-use Rattle.node_program.specs.Combination.{combination}
+use Rattle.linear_algebra.specs.Rows.{combination}
 use Rattle.node_program.specs.Decoding.{IsAccepted, decoded}
 use Rattle.node_program.specs.Value.{value}
 

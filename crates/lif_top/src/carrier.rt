@@ -3,7 +3,7 @@ ghost use Rattle.std.specs.Prelude.{◌≡◌, ◌<◌, ◌≤◌, ◌∷◌, []
 ghost use Rattle.generation_frame.specs.Blocks.{block_of};
 ghost use Rattle.gf_tables.specs.declared.kind.FieldKind.TheVariants.{Eight};
 ghost use Rattle.gf_tables.specs.Product.{product};
-ghost use Rattle.node_program.specs.Combination.{combination};
+ghost use Rattle.linear_algebra.specs.Rows.{combination};
 
 use generation_frame::cut;
 use gf_tables::{Field, Gf8, NibbleTables, Poly11D};

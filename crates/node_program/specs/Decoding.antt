@@ -4,7 +4,7 @@ use Rattle.std.specs.Option.{option_map_or}
 use Rattle.net_model.specs.Demands.{demand_count, pattern_of_demand}
 use Rattle.gf_tables.specs.declared.kind.FieldKind.{FieldKind}
 use Rattle.gf_tables.specs.Product.{size_of}
-use Rattle.node_program.specs.Combination.{matrix_times}
+use Rattle.linear_algebra.specs.Matrices.{matrix_times}
 use Rattle.node_program.specs.Value.{value, width_of}
 use Rattle.node_program.specs.declared.code.Code.{Code}
 

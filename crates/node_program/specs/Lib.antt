@@ -1,6 +1,4 @@
 pub mod Code
-pub mod Combination
-pub mod CombinationLaws
 pub mod Value
 pub mod Decoding
 pub use Rattle.net_model.specs.Demands
@@ -9,3 +7,5 @@ pub use Rattle.net_model.specs.Lists
 pub use Rattle.net_model.specs.Network
 pub use Rattle.net_model.specs.Failed
 pub use Rattle.gf_tables.specs.Product
+pub use Rattle.linear_algebra.specs.Rows
+pub use Rattle.linear_algebra.specs.Matrices

@@ -3,7 +3,7 @@ use Rattle.std.specs.Prelude.{ℕ, zero, suc, Bool, false, not, ◌&&◌, ◌||�
 use Rattle.std.specs.List.{list_any, range_with_len}
 use Rattle.std.specs.Option.{option_map_or}
 use Rattle.net_model.specs.Failed.{is_failed_in}
-use Rattle.node_program.specs.Combination.{combination, zero_row}
+use Rattle.linear_algebra.specs.Rows.{combination, zero_row}
 use Rattle.node_program.specs.declared.Operand.{Operand}
 use Rattle.node_program.specs.declared.code.Code.{Code}
 

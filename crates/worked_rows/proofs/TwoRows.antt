@@ -4,8 +4,9 @@ use Rattle.std.specs.List.{All}
 use Rattle.std.proofs.lemmas.List.Elements.{All-nil, All-cons, All-head, All-tail}
 use Rattle.gf_tables.specs.Product.{shift, repeated_shift, sum_of_shifts, octet_product, product}
 use Rattle.gf_tables.specs.declared.kind.FieldKind.TheVariants.{Eight}
-use Rattle.node_program.specs.Combination.{add_rows, zero_row, combination}
-use Rattle.node_program.specs.CombinationLaws.{combination-one, scale_row-one, scale_row-zero, add_rows-zero_row, add_rows-comm, add_rows-twice, add_rows-elements, length-add_rows}
+use Rattle.linear_algebra.specs.Rows.{add_rows, zero_row, combination}
+use Rattle.linear_algebra.specs.CombinationLaws.{combination-one}
+use Rattle.linear_algebra.specs.RowLaws.{scale_row-one, scale_row-zero, add_rows-zero_row, add_rows-comm, add_rows-twice, add_rows-elements, length-add_rows}
 use Rattle.node_program.specs.Decoding.{IsBlock, IsAccepted, decoded}
 use Rattle.node_program.specs.Value.{row_at, value_within}
 use Rattle.worked_rows.specs.Butterfly.{butterfly, changed_butterfly}

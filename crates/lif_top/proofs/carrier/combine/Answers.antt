@@ -1,8 +1,9 @@
 use Rattle.std.proofs.Common.{◌≡◌, length, refl, sym, ap, ◌∙◌}
 use Rattle.gf_tables.specs.declared.kind.FieldKind.TheVariants.{Eight}
 use Rattle.gf_tables.specs.Product.{product}
-use Rattle.node_program.specs.Combination.{add_rows, scale_row, zero_row}
-use Rattle.node_program.specs.CombinationLaws.{length-scale_row, zero_row-add_rows, combination-single}
+use Rattle.linear_algebra.specs.Rows.{add_rows, scale_row, zero_row}
+use Rattle.linear_algebra.specs.CombinationLaws.{combination-single}
+use Rattle.linear_algebra.specs.RowLaws.{length-scale_row, zero_row-add_rows}
 use Rattle.lif_top.proofs.carrier.combine.Goals as goal
 
 pub returns : goal.returns

@@ -3,8 +3,8 @@ use Rattle.std.proofs.lemmas.List.Elements.{All-from_get_or}
 use Rattle.generation_frame.specs.Blocks.{block_of}
 use Rattle.generation_frame.specs.BlockLaws.{length-block, block-bytes}
 use Rattle.gf_tables.specs.declared.kind.FieldKind.TheVariants.{Eight}
-use Rattle.node_program.specs.Combination.{combination}
-use Rattle.node_program.specs.CombinationLaws.{combination-inverse}
+use Rattle.linear_algebra.specs.Rows.{combination}
+use Rattle.linear_algebra.specs.CombinationLaws.{combination-inverse}
 use Rattle.lif_top.proofs.carrier.Carrier.carry.Goals as goal
 
 -- what is known after a combination of a block of 1024 bytes
