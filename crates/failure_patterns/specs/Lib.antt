@@ -1,0 +1,4 @@
+pub mod Demands
+pub mod UsedField
+pub mod ListLaws
+pub mod DemandLaws
