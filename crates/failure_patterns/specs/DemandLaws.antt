@@ -31,8 +31,8 @@ few_demands net =
     mul-le-mul sinks net.network.few_patterns
 
 -- so their number fits into 64 bits
-pub demand_count-fits : (net : Net) → demand_count net < 2 ^ 64
-demand_count-fits net = omega (arith, few_demands net)
+pub demands_fit : (net : Net) → demand_count net < 2 ^ 64
+demands_fit net = omega (arith, few_demands net)
 
 -- a network with a demand has a pattern
 pub some_pattern : (net : Net) (demand : ℕ) → demand < demand_count net → 0 < length net.patterns
@@ -41,6 +41,10 @@ some_pattern net demand within = grind arith
 -- the sink of a demand has a place among the sinks
 pub sink_within : (net : Net) (demand : ℕ) → demand < demand_count net → demand / length net.patterns < length net.sinks
 sink_within net demand within = (div-lt_iff_lt-mul (some_pattern net demand within)).1 within
+
+-- so it fits into 32 bits
+pub sink_place_fits : (net : Net) (demand : ℕ) → demand < demand_count net → demand / length net.patterns < 2 ^ 32
+sink_place_fits net demand within = omega (arith, few_sinks net, net.network.few_nodes, sink_within net demand within)
 
 -- the pattern of a demand has a place among the patterns
 pub pattern_within : (net : Net) (demand : ℕ) → demand < demand_count net → pattern_of_demand net demand < length net.patterns

@@ -8,12 +8,16 @@ ghost use Rattle.failure_patterns.specs.UsedField.{most_demands, used_field};
 
 use net_model::{Demand, FieldChoice, Net};
 
+#[cfg(test)]
+mod tests;
+
 // The most demands that the fields of 256 and of 65,536 elements serve.
 const OCTET_DEMANDS: u64 = 256;
 
 const PAIR_DEMANDS: u64 = 65536;
 
 /// How many demands there are: each sink with each pattern.
+#[tactic(auto, using(crate::specs::DemandLaws::demands_fit))]
 pub fn demands(net: &Net) -> u64
     ensures { result ≡ demand_count net.now }
 {
@@ -21,6 +25,7 @@ pub fn demands(net: &Net) -> u64
 }
 
 /// The demand of a number: all patterns of the first sink come first, then all of the second.
+#[tactic(auto, using(crate::specs::DemandLaws::sink_place_fits))]
 pub fn demand_at(net: &Net, i: u64) -> Demand
     requires { i < demand_count net.now }
     ensures value { result ≡ demand_of net.now i }
