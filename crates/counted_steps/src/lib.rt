@@ -1,9 +1,21 @@
 //! Counters of steps. They take no bytes, and counting does nothing at run time.
 //!
 //! A function that counts takes `steps: &mut Steps<L>` under `L: Ledger`, and says by `RoseBy` or
-//! `RoseByAtMost` what it counts. A caller that counts nothing passes a blank to a function over `L`
-//! which starts the counter, as `find_from::<Brand>(bytes, byte, Blank::new(1))`, and picks the ledger
-//! in its `Invariants.antt` by two lines:
+//! `RoseByAtMost` what it counts. A caller that counts nothing goes through a function that starts the
+//! counter from a blank:
+//!
+//! ```text
+//! fn find_from<L: Ledger>(bytes: &[u8], byte: u8, blank: Blank) -> Option<usize>
+//!     requires name { blank.name ≡ L.name }
+//!     requires parts { blank.parts ≡ L.parts }
+//!     requires some_part { 0 < blank.parts }
+//! {
+//!     find(bytes, byte, &mut Steps::<L>::start(blank))
+//! }
+//! ```
+//!
+//! It calls `find_from::<Brand>(bytes, byte, Blank::new(1))`, and picks the ledger in its
+//! `Invariants.antt` by two lines, in which `a` is `g a` where it is itself generic, or a test:
 //!
 //! ```text
 //! abbrev pub ghosts-find_from : goal.ghosts-find_from

@@ -39,28 +39,28 @@ pub some_pattern : (net : Net) (demand : ℕ) → demand < demand_count net → 
 some_pattern net demand within = grind arith
 
 -- the sink of a demand has a place among the sinks
-pub sink_within : (net : Net) (demand : ℕ) → demand < demand_count net → demand / length net.patterns < length net.sinks
-sink_within net demand within = (div-lt_iff_lt-mul (some_pattern net demand within)).1 within
+pub sink_place_within : (net : Net) (demand : ℕ) → demand < demand_count net → demand / length net.patterns < length net.sinks
+sink_place_within net demand within = (div-lt_iff_lt-mul (some_pattern net demand within)).1 within
 
 -- so it fits into 32 bits
 pub sink_place_fits : (net : Net) (demand : ℕ) → demand < demand_count net → demand / length net.patterns < 2 ^ 32
-sink_place_fits net demand within = omega (arith, few_sinks net, net.network.few_nodes, sink_within net demand within)
+sink_place_fits net demand within = omega (arith, few_sinks net, net.network.few_nodes, sink_place_within net demand within)
 
 -- the pattern of a demand has a place among the patterns
-pub pattern_within : (net : Net) (demand : ℕ) → demand < demand_count net → pattern_of_demand net demand < length net.patterns
-pattern_within net demand within = mod-lt demand (some_pattern net demand within)
+pub pattern_place_within : (net : Net) (demand : ℕ) → demand < demand_count net → pattern_of_demand net demand < length net.patterns
+pattern_place_within net demand within = mod-lt demand (some_pattern net demand within)
 
 -- what holds of the sink of a demand
 sink_test : (net : Net) (demand : ℕ) → demand < demand_count net → is_sink_among (length net.nodes) net.source (sink_of_demand net demand) ≡ true
-sink_test net demand within = passes_at (is_sink_among (length net.nodes) net.source) net.sinks (demand / length net.patterns) 0 net.network.sink_nodes (sink_within net demand within)
+sink_test net demand within = passes_at (is_sink_among (length net.nodes) net.source) net.sinks (demand / length net.patterns) 0 net.network.sink_nodes (sink_place_within net demand within)
 
 -- the sink of a demand is a node
-pub sink_of_demand-node : (net : Net) (demand : ℕ) → demand < demand_count net → sink_of_demand net demand < length net.nodes
-sink_of_demand-node net demand within = ltb-true _ _ (both _ _ (sink_test net demand within)).0
+pub sink_is_node : (net : Net) (demand : ℕ) → demand < demand_count net → sink_of_demand net demand < length net.nodes
+sink_is_node net demand within = ltb-true _ _ (both _ _ (sink_test net demand within)).0
 
 -- the sink of a demand is not the source
-pub sink_of_demand-source : (net : Net) (demand : ℕ) → demand < demand_count net → sink_of_demand net demand ≢ net.source
-sink_of_demand-source net demand within same =
+pub sink_is_not_source : (net : Net) (demand : ℕ) → demand < demand_count net → sink_of_demand net demand ≢ net.source
+sink_is_not_source net demand within same =
     eqb-false _ _ (not-true _ (both _ _ (sink_test net demand within)).1) same
 
 -- there is a demand

@@ -1,7 +1,7 @@
 //! The demands of a network in order, and the field that serves them.
 #![tactic(auto)]
 
-ghost use Rattle.std.specs.Prelude.{◌≡◌, ◌↔◌, ◌*◌, ◌/◌, ◌%◌, ◌<◌, ◌≤◌, ◌^◌, IsNone, length, slice_index};
+ghost use Rattle.std.specs.Prelude.{◌≡◌, ◌↔◌, ◌/◌, ◌%◌, ◌<◌, ◌^◌, IsNone, length, slice_index};
 ghost use Rattle.net_model.specs.Demands.{demand_count, pattern_of_demand, sink_of_demand};
 ghost use Rattle.failure_patterns.specs.Demands.{demand_of};
 ghost use Rattle.failure_patterns.specs.UsedField.{most_demands, used_field};

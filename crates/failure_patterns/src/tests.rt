@@ -1,4 +1,4 @@
-ghost use Rattle.std.specs.Prelude.{◌≡◌, [], ◌∷◌, IfOk};
+ghost use Rattle.std.specs.Prelude.{◌≡◌, IfOk};
 ghost use Rattle.failure_patterns.specs.SmallNetwork.{small_links, small_nodes, small_patterns, small_sinks};
 
 use crate::{demand_among, demand_at, demands, used_field, used_field_for};
