@@ -1,0 +1,76 @@
+//! The demands of a network in order, and the field that serves them.
+#![tactic(auto)]
+
+ghost use Rattle.std.specs.Prelude.{◌≡◌, ◌↔◌, ◌/◌, ◌%◌, ◌<◌, ◌^◌, IsNone, length, slice_index};
+ghost use Rattle.net_model.specs.Demands.{demand_count, pattern_of_demand, sink_of_demand};
+ghost use Rattle.failure_patterns.specs.Demands.{demand_of};
+ghost use Rattle.failure_patterns.specs.UsedField.{most_demands, used_field};
+
+use net_model::{Demand, FieldChoice, Net};
+
+#[cfg(test)]
+mod tests;
+
+// The most demands that the fields of 256 and of 65,536 elements serve.
+const OCTET_DEMANDS: u64 = 256;
+
+const PAIR_DEMANDS: u64 = 65536;
+
+/// How many demands there are: each sink with each pattern.
+#[tactic(auto, using(crate::specs::DemandLaws::demands_fit))]
+pub fn demands(net: &Net) -> u64
+    ensures { result ≡ demand_count net.now }
+{
+    net.sinks.len() as u64 * net.patterns.len() as u64
+}
+
+/// The demand of a number: all patterns of the first sink come first, then all of the second.
+#[tactic(auto, using(crate::specs::DemandLaws::sink_place_fits))]
+pub fn demand_at(net: &Net, i: u64) -> Demand
+    requires { i < demand_count net.now }
+    ensures value { result ≡ demand_of net.now i }
+    ensures node { slice_index net.now.sinks result.sink ≡ sink_of_demand net.now i }
+    ensures pattern { result.pattern ≡ pattern_of_demand net.now i }
+    ensures sink_in_range { result.sink < length net.now.sinks }
+    ensures pattern_in_range { result.pattern < length net.now.patterns }
+{
+    demand_among(net.patterns.len() as u64, i)
+}
+
+// The demand of a number among so many patterns.
+fn demand_among(patterns: u64, i: u64) -> Demand
+    requires some { 0 < patterns }
+    requires few { patterns < 2 ^ 32 }
+    requires near { i / patterns < 2 ^ 32 }
+    ensures sink { result.sink ≡ i / patterns }
+    ensures pattern { result.pattern ≡ i % patterns }
+{
+    Demand {
+        sink: (i / patterns) as u32,
+        pattern: (i % patterns) as u32,
+    }
+}
+
+/// The field for the network's demands: the one that is written, and else the smallest that serves them. `None`
+/// where there are more demands than it serves.
+pub fn used_field(net: &Net) -> Option<FieldChoice>
+    ensures value { result ≡ used_field net.now.field (demand_count net.now) }
+    ensures none { IsNone result ↔ (most_demands net.now.field < demand_count net.now) }
+{
+    used_field_for(net.field, demands(net))
+}
+
+// The field for so many demands.
+fn used_field_for(choice: FieldChoice, demands: u64) -> Option<FieldChoice>
+    ensures value { result ≡ used_field choice demands }
+    ensures none { IsNone result ↔ (most_demands choice < demands) }
+{
+    match choice {
+        FieldChoice::Any if demands <= OCTET_DEMANDS => Some(FieldChoice::Eight),
+        FieldChoice::Any | FieldChoice::Sixteen if demands <= PAIR_DEMANDS => {
+            Some(FieldChoice::Sixteen)
+        }
+        FieldChoice::Eight if demands <= OCTET_DEMANDS => Some(FieldChoice::Eight),
+        _ => None,
+    }
+}
