@@ -2,6 +2,7 @@ pub mod Code
 pub mod Combination
 pub mod CombinationLaws
 pub mod Value
+pub mod CodeValue
 pub mod Decoding
 pub use Rattle.net_model.specs.Demands
 pub use Rattle.net_model.specs.Name
