@@ -9,6 +9,11 @@ use Rattle.node_program.specs.Combination.{matrix_times}
 use Rattle.node_program.specs.Value.{width_of}
 use Rattle.node_program.specs.declared.code.Code.{Code}
 
+-- a row of a length, of elements
+pub record IsRow (field : FieldKind) (wide : ℕ) (row : List ℕ) : Type 0 where
+  pub width : length row ≡ wide
+  pub elements : All (λ element. element < size_of field) row
+
 -- as many rows as the rate, all of one length, of elements
 pub record IsBlock (field : FieldKind) (rate : ℕ) (block : List (List ℕ)) : Type 0 where
   pub rows : length block ≡ rate

@@ -4,6 +4,10 @@ pub mod CombinationLaws
 pub mod Value
 pub mod CodeValue
 pub mod Decoding
+pub mod RowLaws
+pub mod Operands
+pub mod OperandLaws
+pub mod ValueLaws
 pub use Rattle.net_model.specs.Demands
 pub use Rattle.net_model.specs.Name
 pub use Rattle.net_model.specs.Lists
