@@ -47,12 +47,12 @@ before_link tails (link ∷ links) node (suc i) (suc k) order out into =
     omega arith
 
 -- whether operands fit a link; no operand fits where there is no link
-abbrev fit_link : Net → ℕ → FieldKind → Option Link → List Operand → Bool
-fit_link net rate field link operands = option_map_or (λ l. are_operands net rate field l operands) link (length operands == 0)
+abbrev fits_link : Net → ℕ → FieldKind → Option Link → List Operand → Bool
+fits_link net rate field link operands = option_map_or (λ l. are_operands net rate field l operands) link (length operands == 0)
 
 -- the operands of each link fit it
 operands_fit : (net : Net) (rate : ℕ) (field : FieldKind) (links : List Link) (operands : List (List Operand)) (link : ℕ)
-    → are_operands_of net rate field links operands ≡ true → fit_link net rate field (slice_get links link) (operands_at operands link) ≡ true
+    → are_operands_of net rate field links operands ≡ true → fits_link net rate field (slice_get links link) (operands_at operands link) ≡ true
 operands_fit net rate field [] [] link h = refl
 operands_fit net rate field [] (first ∷ operands) link h = absurd (false≢true h)
 operands_fit net rate field (l ∷ links) [] link h = absurd (false≢true h)
@@ -91,7 +91,7 @@ module _ (net : Net) (rate : ℕ) (field : FieldKind) (link : ℕ) (order : are_
       All-cons (IsOperand net rate field link) operand operands (is_operand l operand at_link parts.0) (each_operand l operands at_link parts.1)
 
   -- those that fit a link
-  fitting_operands : (l : Option Link) (operands : List Operand) → slice_get net.links link ≡ l → fit_link net rate field l operands ≡ true
+  fitting_operands : (l : Option Link) (operands : List Operand) → slice_get net.links link ≡ l → fits_link net rate field l operands ≡ true
       → All (IsOperand net rate field link) operands
   fitting_operands None [] at_link h = All-nil (IsOperand net rate field link)
   fitting_operands None (operand ∷ operands) at_link h = absurd (omega (arith, eqb-true (length (operand ∷ operands)) 0 h))

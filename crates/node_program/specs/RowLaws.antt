@@ -42,16 +42,16 @@ combination-zero_rows field width (times ∷ coefficients) (row ∷ rows) below 
     rw (first, scaled, rest) (zero_row-twice width)
 
 -- the row of zeros is a row of elements
-pub zero_row-is_row : (field : FieldKind) (width : ℕ) → IsRow field width (zero_row width)
-zero_row-is_row field width = record {
+pub IsRow-zero_row : (field : FieldKind) (width : ℕ) → IsRow field width (zero_row width)
+IsRow-zero_row field width = record {
   width = length-replicate width 0;
   elements = All-replicate (λ element. element < size_of field) width 0 (kind_field field).zero_element;
 }
 
 -- a multiple of a row is a row
-pub scale_row-is_row : (field : FieldKind) (width times : ℕ) (row : List ℕ) → times < size_of field → IsRow field width row
+pub IsRow-scale_row : (field : FieldKind) (width times : ℕ) (row : List ℕ) → times < size_of field → IsRow field width row
     → IsRow field width (scale_row field times row)
-scale_row-is_row field width times row below is =
+IsRow-scale_row field width times row below is =
     let IsElement : ℕ → Type 0 = λ element. element < size_of field in
     let IsTimes : ℕ → Type 0 = λ element. product field times element < size_of field in
     record {
@@ -61,22 +61,22 @@ scale_row-is_row field width times row below is =
     }
 
 -- a sum of rows is a row
-pub add_rows-is_row : (field : FieldKind) (width : ℕ) (xs ys : List ℕ) → IsRow field width xs → IsRow field width ys
+pub IsRow-add_rows : (field : FieldKind) (width : ℕ) (xs ys : List ℕ) → IsRow field width xs → IsRow field width ys
     → IsRow field width (add_rows xs ys)
-add_rows-is_row field width xs ys first second = record {
+IsRow-add_rows field width xs ys first second = record {
   width = length-add_rows xs ys (first.width ∙ sym second.width) ∙ second.width;
   elements = add_rows-elements field xs ys first.elements second.elements;
 }
 
 -- multiples of rows sum to a row
-pub combination-is_row : (field : FieldKind) (width : ℕ) (coefficients : List ℕ) (rows : List (List ℕ))
+pub IsRow-combination : (field : FieldKind) (width : ℕ) (coefficients : List ℕ) (rows : List (List ℕ))
     → All (λ element. element < size_of field) coefficients → All (IsRow field width) rows
     → IsRow field width (combination field width coefficients rows)
-combination-is_row field width [] rows below are = zero_row-is_row field width
-combination-is_row field width (times ∷ coefficients) [] below are = zero_row-is_row field width
-combination-is_row field width (times ∷ coefficients) (row ∷ rows) below are =
+IsRow-combination field width [] rows below are = IsRow-zero_row field width
+IsRow-combination field width (times ∷ coefficients) [] below are = IsRow-zero_row field width
+IsRow-combination field width (times ∷ coefficients) (row ∷ rows) below are =
     let IsElement : ℕ → Type 0 = λ element. element < size_of field in
     let IsWide : List ℕ → Type 0 = IsRow field width in
-    add_rows-is_row field width (scale_row field times row) (combination field width coefficients rows)
-    (scale_row-is_row field width times row (All-head IsElement times coefficients below) (All-head IsWide row rows are))
-    (combination-is_row field width coefficients rows (All-tail IsElement times coefficients below) (All-tail IsWide row rows are))
+    IsRow-add_rows field width (scale_row field times row) (combination field width coefficients rows)
+    (IsRow-scale_row field width times row (All-head IsElement times coefficients below) (All-head IsWide row rows are))
+    (IsRow-combination field width coefficients rows (All-tail IsElement times coefficients below) (All-tail IsWide row rows are))

@@ -15,7 +15,7 @@ use Rattle.node_program.specs.Combination.{combination, zero_row}
 use Rattle.node_program.specs.Decoding.{IsRow, IsBlock}
 use Rattle.node_program.specs.OperandLaws.{operands_of_draft}
 use Rattle.node_program.specs.Operands.{IsOperand}
-use Rattle.node_program.specs.RowLaws.{combination-zero_rows, combination-is_row, zero_row-is_row}
+use Rattle.node_program.specs.RowLaws.{combination-zero_rows, IsRow-combination, IsRow-zero_row}
 use Rattle.node_program.specs.Value.{width_of, row_at, operands_at, leaves_source, value_from, value_within, value, is_live_from, is_live_within, is_live}
 use Rattle.node_program.specs.declared.Operand.{Operand}
 
@@ -178,9 +178,9 @@ pub value-dead : {net : Net} {rate : ℕ} {field : FieldKind} {operands : List (
 value-dead draft failed block link dead = value_within-dead draft failed block (suc link) link dead
 
 -- a row of a block
-pub row_at-is_row : {field : FieldKind} {rate : ℕ} {block : List (List ℕ)} → IsBlock field rate block
+pub IsRow-row_at : {field : FieldKind} {rate : ℕ} {block : List (List ℕ)} → IsBlock field rate block
     → (i : ℕ) → i < rate → IsRow field (width_of block) (row_at block i)
-row_at-is_row {field} {rate} {block} is i below =
+IsRow-row_at {field} {rate} {block} is i below =
     let within : i < length block = omega (arith, is.rows) in
     rw (unwrap_or-slice_get block i []) (record {
       width = All-get_or (λ row. length row ≡ width_of block) block i [] within is.widths;
@@ -194,12 +194,12 @@ either_row field width true x y first second = first refl
 either_row field width false x y first second = second
 
 -- within each bound a link carries a row of elements as wide as the block
-pub value_within-is_row : {net : Net} {rate : ℕ} {field : FieldKind} {operands : List (List Operand)} {block : List (List ℕ)} → IsDraft net rate field operands
+pub IsRow-value_within : {net : Net} {rate : ℕ} {field : FieldKind} {operands : List (List Operand)} {block : List (List ℕ)} → IsDraft net rate field operands
     → IsBlock field rate block → (failed : List ℕ) (bound link : ℕ) → IsRow field (width_of block) (value_within bound net field operands failed block link)
 unfolding value_within
-value_within-is_row {net} {rate} {field} {operands} {block} draft is failed zero link = zero_row-is_row field (width_of block)
-value_within-is_row {net} {rate} {field} {operands} {block} draft is failed (suc bound) link = elim (cases_Bool (is_among failed link)) [
-  | inl fails ↦ rw fails (zero_row-is_row field (width_of block))
+IsRow-value_within {net} {rate} {field} {operands} {block} draft is failed zero link = IsRow-zero_row field (width_of block)
+IsRow-value_within {net} {rate} {field} {operands} {block} draft is failed (suc bound) link = elim (cases_Bool (is_among failed link)) [
+  | inl fails ↦ rw fails (IsRow-zero_row field (width_of block))
   | inr whole ↦
       let P : Operand → Type 0 = IsOperand net rate field link in
       let row : Operand → List ℕ =
@@ -207,13 +207,13 @@ value_within-is_row {net} {rate} {field} {operands} {block} draft is failed (suc
       let rows = All-map (IsRow field (width_of block)) row (operands_at operands link)
       (All-weaker P (λ operand. IsRow field (width_of block) (row operand))
       (λ operand is_operand. either_row field (width_of block) (leaves_source net link) _ _
-      (λ leaves. row_at-is_row is operand.from (is_operand.source_row leaves))
-      (value_within-is_row draft is failed bound operand.from))
+      (λ leaves. IsRow-row_at is operand.from (is_operand.source_row leaves))
+      (IsRow-value_within draft is failed bound operand.from))
       (operands_at operands link) (operands_of_draft draft link)) in
-      rw whole (combination-is_row field (width_of block) _ _ (coefficients-elements draft link) rows)
+      rw whole (IsRow-combination field (width_of block) _ _ (coefficients-elements draft link) rows)
 ]
 
 -- a link carries a row of elements as wide as the block
-pub value-is_row : {net : Net} {rate : ℕ} {field : FieldKind} {operands : List (List Operand)} {block : List (List ℕ)} → IsDraft net rate field operands
+pub IsRow-value : {net : Net} {rate : ℕ} {field : FieldKind} {operands : List (List Operand)} {block : List (List ℕ)} → IsDraft net rate field operands
     → IsBlock field rate block → (failed : List ℕ) (link : ℕ) → IsRow field (width_of block) (value net field operands failed block link)
-value-is_row draft is failed link = value_within-is_row draft is failed (suc link) link
+IsRow-value draft is failed link = IsRow-value_within draft is failed (suc link) link
