@@ -6,6 +6,7 @@ use Rattle.gf_tables.specs.declared.kind.FieldKind.{FieldKind}
 use Rattle.gf_tables.specs.declared.kind.FieldKind.TheVariants.{Eight, Sixteen}
 use Rattle.gf_tables.specs.Product.{mark_of}
 use Rattle.net_model.specs.declared.Link.{Link}
+use Rattle.net_model.specs.declared.net.Net.{Net}
 use Rattle.net_model.specs.declared.Pattern.{Pattern}
 use Rattle.node_program.specs.declared.Operand.{Operand}
 use Rattle.node_program.specs.declared.Decoder.{Decoder}
@@ -49,19 +50,36 @@ operand_list_items field operands = number_item (length operands) ∷ flat_map (
 abbrev pub decoder_items : FieldKind → Decoder → List Item
 decoder_items field decoder = map number_item decoder.links ++ map (element_item field) decoder.entries
 
--- The mark `LIFC`, the version 1, the field, the rate, the nodes, the links, the source, the sinks, the listed
--- patterns, the operands of each link, and the decoder of each demand.
-unfoldable pub items_of : Code → List Item
-items_of code =
-    let net = code.net in
+-- what stands at the front of a code file, and the version behind it
+abbrev pub code_mark : Item
+code_mark = codes "LIFC"
+
+abbrev pub code_version : ℕ
+code_version = 1
+
+-- The mark, the version, the field, the rate, the nodes, the links, the source, the sinks and the listed patterns.
+unfoldable pub front_items : Item → ℕ → Net → ℕ → FieldKind → List Item
+front_items mark version net rate field =
     let listed = drop 1 net.patterns in
-    codes "LIFC" ∷ byte_item 1 ∷ byte_item (mark_of code.field) ∷ byte_item code.rate
+    mark ∷ byte_item version ∷ byte_item (mark_of field) ∷ byte_item rate
     ∷ number_item (length net.nodes) ∷ (map name_item net.nodes
     ++ (number_item (length net.links) ∷ (flat_map link_items net.links
     ++ (number_item net.source ∷ number_item (length net.sinks) ∷ (map number_item net.sinks
-    ++ (number_item (length listed) ∷ (flat_map pattern_items listed
-    ++ (flat_map (operand_list_items code.field) code.operands
-    ++ flat_map (decoder_items code.field) code.decoders))))))))
+    ++ (number_item (length listed) ∷ flat_map pattern_items listed))))))
+
+-- the operands of each link
+abbrev pub operand_table_items : FieldKind → List (List Operand) → List Item
+operand_table_items field operands = flat_map (operand_list_items field) operands
+
+-- the decoder of each demand
+abbrev pub decoder_table_items : FieldKind → List Decoder → List Item
+decoder_table_items field decoders = flat_map (decoder_items field) decoders
+
+-- the front, the operands and the decoders
+unfoldable pub items_of : Code → List Item
+items_of code =
+    front_items code_mark code_version code.net code.rate code.field
+    ++ (operand_table_items code.field code.operands ++ decoder_table_items code.field code.decoders)
 
 -- the code file of a code
 unfoldable pub bytes_of : Code → List ℕ

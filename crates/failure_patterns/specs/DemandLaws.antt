@@ -2,10 +2,10 @@
 use Rattle.std.specs.Prelude.{◌≡◌, ◌≢◌, ℕ, ◌*◌, ◌/◌, ◌^◌, ◌<◌, ◌≤◌, true, nat_lt, List, [], ◌∷◌, length, slice_index}
 use Rattle.std.proofs.Common.{arith}
 use Rattle.std.proofs.Math.Nat.{div-lt_iff_lt-mul, mod-lt, mul-le-mul}
-use Rattle.std.proofs.lemmas.Bool.{eqb-false, ltb-true, not-true}
+use Rattle.std.proofs.lemmas.Bool.{and_parts, eqb-false, ltb-true, not-true}
 use Rattle.net_model.specs.Demands.{demand_count, pattern_of_demand, sink_of_demand, sinks_of_demands}
 use Rattle.net_model.specs.Network.{are_patterns, is_sink_among}
-use Rattle.net_model.specs.NetworkLaws.{both, passes_at}
+use Rattle.net_model.specs.NetworkLaws.{passes_at}
 use Rattle.net_model.specs.declared.Pattern.{Pattern}
 use Rattle.net_model.specs.declared.net.Net.{Net}
 use Rattle.failure_patterns.specs.ListLaws.{length-are_distinct, list_all-implied, length-repeated, get_or-repeated}
@@ -22,7 +22,7 @@ slice_index-sinks_of_demands net demand within = get_or-repeated (length net.pat
 pub few_sinks : (net : Net) → length net.sinks ≤ length net.nodes
 few_sinks net =
     length-are_distinct net.sinks (length net.nodes) net.network.distinct_sinks
-    (list_all-implied (is_sink_among (length net.nodes) net.source) (λ sink. nat_lt sink (length net.nodes)) net.sinks (λ sink among. (both _ _ among).0) net.network.sink_nodes)
+    (list_all-implied (is_sink_among (length net.nodes) net.source) (λ sink. nat_lt sink (length net.nodes)) net.sinks (λ sink among. (and_parts _ _ among).0) net.network.sink_nodes)
 
 -- there are at most 4096 * 4096 demands
 pub few_demands : (net : Net) → demand_count net ≤ 4096 * 4096
@@ -56,12 +56,12 @@ sink_test net demand within = passes_at (is_sink_among (length net.nodes) net.so
 
 -- the sink of a demand is a node
 pub sink_is_node : (net : Net) (demand : ℕ) → demand < demand_count net → sink_of_demand net demand < length net.nodes
-sink_is_node net demand within = ltb-true _ _ (both _ _ (sink_test net demand within)).0
+sink_is_node net demand within = ltb-true _ _ (and_parts _ _ (sink_test net demand within)).0
 
 -- the sink of a demand is not the source
 pub sink_is_not_source : (net : Net) (demand : ℕ) → demand < demand_count net → sink_of_demand net demand ≢ net.source
 sink_is_not_source net demand within same =
-    eqb-false _ _ (not-true _ (both _ _ (sink_test net demand within)).1) same
+    eqb-false _ _ (not-true _ (and_parts _ _ (sink_test net demand within)).1) same
 
 -- there is a demand
 pub some_demand : (net : Net) → 0 < demand_count net

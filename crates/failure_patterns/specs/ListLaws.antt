@@ -3,12 +3,11 @@ use Rattle.std.specs.Prelude.{◌≡◌, ℕ, ◌+◌, ◌*◌, ◌/◌, ◌%◌
 use Rattle.std.specs.List.{list_any, list_all, flat_map, AllByRecursion, IsDistinct}
 use Rattle.std.proofs.Common.{refl, sym, ◌∙◌, ap, get_or, arith}
 use Rattle.std.proofs.Math.Nat.{div-lt_iff_lt-mul, mod-lt}
-use Rattle.std.proofs.lemmas.Bool.{eqb-true, ltb-true, not-true}
+use Rattle.std.proofs.lemmas.Bool.{and_parts, eqb-true, ltb-true, not-true}
 use Rattle.std.proofs.lemmas.List.{length-append, length-replicate, length-take-le, get_or-replicate}
 use Rattle.std.proofs.lemmas.List.Concat.{get_or-flat_map}
 use Rattle.std.proofs.lemmas.Map.Steps.{length-le_from_distinct_below}
 use Rattle.net_model.specs.Lists.{are_distinct}
-use Rattle.net_model.specs.NetworkLaws.{both}
 
 -- a test that no item passes fails at each
 pub none_passes : {X : Type 0} (test : X → Bool) (xs : List X) → list_any test xs ≡ false → AllByRecursion (λ x. test x ≡ false) xs
@@ -26,25 +25,25 @@ pub IsDistinct-from_are_distinct : {X : Type 0} (same : X → X → Bool) (xs : 
 unfolding IsDistinct
 IsDistinct-from_are_distinct same [] apart = tt
 IsDistinct-from_are_distinct same (x ∷ xs) apart =
-    let parts = both _ _ apart in
+    let parts = and_parts _ _ apart in
     (none_passes (same x) xs (not-true _ parts.0), IsDistinct-from_are_distinct same xs parts.1)
 
 -- a number of a list of numbers below a bound is below the bound
 pub below_bound : (xs : List ℕ) (bound number : ℕ) → list_all (λ x. nat_lt x bound) xs ≡ true → list_any (nat_eq number) xs ≡ true → number < bound
 below_bound [] bound number below found = cc
 below_bound (x ∷ xs) bound number below found =
-    let parts = both _ _ below in
+    let parts = and_parts _ _ below in
     here_or_later (nat_eq number x) refl found (λ later. below_bound xs bound number parts.1 later)
   where
     here_or_later : (is : Bool) → nat_eq number x ≡ is → (is || list_any (nat_eq number) xs) ≡ true → (list_any (nat_eq number) xs ≡ true → number < bound) → number < bound
-    here_or_later true same here rest = rw (eqb-true number x same) (ltb-true x bound (both _ _ below).0)
+    here_or_later true same here rest = rw (eqb-true number x same) (ltb-true x bound (and_parts _ _ below).0)
     here_or_later false same later rest = rest later
 
 -- where a test implies another, a list whose items all pass it passes the other
 pub list_all-implied : {X : Type 0} (strong weak : X → Bool) (xs : List X) → ((x : X) → strong x ≡ true → weak x ≡ true) → list_all strong xs ≡ true → list_all weak xs ≡ true
 list_all-implied strong weak [] implies all = refl
 list_all-implied strong weak (x ∷ xs) implies all =
-    let parts = both _ _ all in
+    let parts = and_parts _ _ all in
     rw (implies x parts.0) (list_all-implied strong weak xs implies parts.1)
 
 -- distinct numbers below a bound are at most as many as the bound

@@ -4,6 +4,8 @@
 ghost use Rattle.std.specs.Prelude.{◌≡◌, ◌<◌, ◌≤◌, ◌*◌, ◌+◌, ◌/◌, ◌%◌, length};
 ghost use Rattle.generation_frame.specs.Blocks.{capacity, block_of, counted_bytes};
 
+use byteorder::{BigEndian, ByteOrder};
+
 /// The bytes of a row.
 pub const ROW: usize = 1024;
 
@@ -29,7 +31,7 @@ pub fn cut(piece: &[u8], block: &mut [u8])
     ensures { block.new ≡ block_of (length block.old / 1024) piece.now }
 {
     let (count, rest) = block.split_at_mut(COUNT);
-    count.copy_from_slice(&(piece.len() as u32).to_be_bytes());
+    BigEndian::write_u32(count, piece.len() as u32);
     let (front, zeros) = rest.split_at_mut(piece.len());
     front.copy_from_slice(piece);
     zeros.fill(0);

@@ -18,12 +18,13 @@ use Rattle.net_model.specs.declared.net.FieldChoice.TheVariants as choice
 use Rattle.node_program.specs.Code.{IsCode, are_in_order, are_operands_of, are_decoders}
 use Rattle.linear_algebra.specs.Rows.{combination}
 use Rattle.linear_algebra.specs.CombinationLaws.{combination-inverse}
-use Rattle.node_program.specs.Decoding.{IsBlock, IsAccepted, decoded}
-use Rattle.node_program.specs.Value.{value, value_within}
+use Rattle.node_program.specs.Decoding.{IsBlock, IsAccepted, decoding_of}
+use Rattle.node_program.specs.CodeValue.{value_in}
+use Rattle.node_program.specs.Value.{value_within}
 use Rattle.node_program.specs.declared.Operand.{Operand}
 use Rattle.node_program.specs.declared.Decoder.{Decoder}
 use Rattle.node_program.specs.declared.code.Code.{Code}
-use Rattle.code_file.specs.Items.{name_item, number_item, items_of, bytes_of}
+use Rattle.code_file.specs.Items.{name_item, number_item, front_items, items_of, bytes_of}
 use Rattle.lif_top.specs.declared.one_link.Direction.{Direction}
 use Rattle.lif_top.specs.declared.one_link.Direction.TheVariants.{Forward, Backward}
 use Rattle.lif_top.specs.OneLink.{IsOneLink, Carries, sink_name}
@@ -130,13 +131,15 @@ facts : (a b l : List ℕ) (way : Direction) (times entry : ℕ) (h : AreParts a
     → IsCode (network a b l way h.first h.second h.apart h.link) 1 Eight (operands_of times) (decoders_of entry)
 unfolding network
 facts a b l way times entry h = record {
-  some_rate = omega arith;
-  low_rate = omega arith;
-  few_demands = omega arith;
-  link_order = in_order a b l h.first h.second h.apart h.link way;
-  link_operands = operands_fit a b l h.first h.second h.apart h.link way times (nonzero times entry h.inverse) (lt-ltb times 256 h.times_below);
+  draft = record {
+    some_rate = omega arith;
+    low_rate = omega arith;
+    few_demands = omega arith;
+    link_order = in_order a b l h.first h.second h.apart h.link way;
+    link_operands = operands_fit a b l h.first h.second h.apart h.link way times (nonzero times entry h.inverse) (lt-ltb times 256 h.times_below);
+    named_field = refl;
+  };
   demand_decoders = decoders_fit a b l h.first h.second h.apart h.link way entry (lt-ltb entry 256 h.entry_below);
-  named_field = refl;
 }
 
 -- the code with these parts, whose link leads this way
@@ -170,20 +173,20 @@ module _ (a b l : List ℕ) (way : Direction) (times entry : ℕ) (h : AreParts 
   pub code_of_parts-carries : Carries (code_of_parts a b l way times entry h) times entry
   unfolding code_of_parts network value_within
   code_of_parts-carries = record {
-    carried = λ row. elim way as (λ v. value (code_of_parts a b l v times entry h) 0 (row ∷ []) 0 ≡ combination Eight (length row) (times ∷ []) (row ∷ []))
+    carried = λ row. elim way as (λ v. value_in (code_of_parts a b l v times entry h) 0 (row ∷ []) 0 ≡ combination Eight (length row) (times ∷ []) (row ∷ []))
         [ Forward ↦ refl | Backward ↦ refl ];
     taken = λ row. refl;
     inverse = h.inverse;
   }
 
   -- the sink decodes a row
-  decoded_row : (row : List ℕ) → All (λ element. element < 256) row → decoded (code_of_parts a b l way times entry h) 0 (row ∷ []) ≡ row ∷ []
+  decoded_row : (row : List ℕ) → All (λ element. element < 256) row → decoding_of (code_of_parts a b l way times entry h) 0 (row ∷ []) ≡ row ∷ []
   unfolding code_of_parts network value_within
   decoded_row row elements =
       let back = ap (λ (r : List ℕ). r ∷ []) (combination-inverse (length row) entry times row h.entry_below h.times_below h.inverse refl elements) in
-      elim way as (λ v. decoded (code_of_parts a b l v times entry h) 0 (row ∷ []) ≡ row ∷ []) [ Forward ↦ back | Backward ↦ back ]
+      elim way as (λ v. decoding_of (code_of_parts a b l v times entry h) 0 (row ∷ []) ≡ row ∷ []) [ Forward ↦ back | Backward ↦ back ]
 
-  decoded_block : (block : List (List ℕ)) → IsBlock Eight 1 block → decoded (code_of_parts a b l way times entry h) 0 block ≡ block
+  decoded_block : (block : List (List ℕ)) → IsBlock Eight 1 block → decoding_of (code_of_parts a b l way times entry h) 0 block ≡ block
   decoded_block [] is = absurd (omega (arith, is.rows))
   decoded_block (row ∷ []) is = decoded_row row (All-head (All (λ element. element < 256)) row [] is.elements)
   decoded_block (row ∷ other ∷ rows) is = absurd (omega (arith, is.rows))
@@ -196,7 +199,7 @@ module _ (a b l : List ℕ) (way : Direction) (times entry : ℕ) (h : AreParts 
 
 pub code_of_parts-bytes : (a b l : List ℕ) (way : Direction) (times entry : ℕ) (h : AreParts a b l times entry)
     → bytes_of (code_of_parts a b l way times entry h) ≡ file a b l way times entry
-unfolding code_of_parts network bytes_of items_of
+unfolding code_of_parts network bytes_of items_of front_items
 code_of_parts-bytes a b l Forward times entry h = refl
 code_of_parts-bytes a b l Backward times entry h = refl
 

@@ -20,12 +20,12 @@ use Rattle.net_model.specs.declared.Pattern.{Pattern}
 use Rattle.node_program.specs.Code.{is_source_of, leads_into, are_operands, are_operands_of, is_decoder, are_decoders}
 use Rattle.linear_algebra.specs.Rows.{combination, zero_row}
 use Rattle.linear_algebra.specs.CombinationLaws.{combination-single}
-use Rattle.node_program.specs.Decoding.{IsBlock, IsAccepted, decoded}
+use Rattle.node_program.specs.Decoding.{IsBlock, IsAccepted, decoding_of}
 use Rattle.node_program.specs.Value.{value_within, row_at}
 use Rattle.node_program.specs.declared.Operand.{Operand}
 use Rattle.node_program.specs.declared.Decoder.{Decoder}
 use Rattle.node_program.specs.declared.code.Code.{Code}
-use Rattle.code_file.specs.Items.{items_of, bytes_of}
+use Rattle.code_file.specs.Items.{front_items, items_of, bytes_of}
 use Rattle.lif_top.specs.declared.one_link.Direction.{Direction}
 use Rattle.lif_top.specs.declared.one_link.Direction.TheVariants.{Forward, Backward}
 use Rattle.lif_top.specs.OneLink.{IsOneLink, sink_name}
@@ -163,7 +163,7 @@ shape_of code built =
     let sinks = one_of code.net.sinks built.one_sink in
     let patterns = one_of code.net.patterns built.none_listed in
     let demands = one_demand code.net sinks.0 patterns.0 sinks.1 patterns.1 in
-    let operand_lists = subst (λ ls. IsTrue (are_operands_of code.net 1 Eight ls code.operands)) links.1 (rw (built.rate, built.field) at code.code.link_operands) in
+    let operand_lists = subst (λ ls. IsTrue (are_operands_of code.net 1 Eight ls code.operands)) links.1 (rw (built.rate, built.field) at code.code.draft.link_operands) in
     let decoder_list = subst (λ ss. IsTrue (are_decoders code.net 1 Eight ss code.decoders)) demands (rw (built.rate, built.field) at code.code.demand_decoders) in
     let table = one_table code.net 1 Eight links.0 code.operands operand_lists in
     let decoders = one_decoder code.net 1 Eight sinks.0 code.decoders decoder_list in
@@ -262,7 +262,7 @@ module _ (code : Code) (built : IsOneLink code) (shape : Shape code) where
   few = few_operands code.net shape.link shape.operands leaves shape.operands_fit
 
   -- what the sink decodes of the row of one 1
-  decoded_one : decoded code 0 ((1 ∷ []) ∷ [])
+  decoded_one : decoding_of code 0 ((1 ∷ []) ∷ [])
       ≡ combination Eight 1 (shape.entry ∷ [])
       (combination Eight 1 (map (λ operand. operand.times) shape.operands) (map (λ operand. row_at ((1 ∷ []) ∷ []) operand.from) shape.operands) ∷ []) ∷ []
   unfolding value_within
@@ -287,7 +287,7 @@ module _ (code : Code) (built : IsOneLink code) (shape : Shape code) where
 
   spelled : (way : Direction) (times : ℕ) → shape.link.tail ≡ tail_of way → shape.link.head ≡ head_of way → code.net.source ≡ tail_of way → shape.sink ≡ head_of way
       → code.operands ≡ operands_of times → bytes_of code ≡ file shape.first shape.second shape.link.name way times shape.entry
-  unfolding bytes_of items_of
+  unfolding bytes_of items_of front_items
   spelled Forward times tail head source sink_is operands =
       rw (built.field, built.rate, shape.nodes_are, shape.links_are, shape.sinks_are, shape.patterns_are, operands, shape.decoders_are, tail, head, source, sink_is) refl
   spelled Backward times tail head source sink_is operands =

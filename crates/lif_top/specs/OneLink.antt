@@ -6,8 +6,8 @@ use Rattle.gf_tables.specs.Product.{product}
 use Rattle.code_file.specs.Items.{bytes_of}
 use Rattle.node_program.specs.declared.code.Code.{Code}
 use Rattle.linear_algebra.specs.Rows.{combination}
-use Rattle.node_program.specs.Decoding.{IsAccepted, decoded}
-use Rattle.node_program.specs.Value.{value}
+use Rattle.node_program.specs.Decoding.{IsAccepted, decoding_of}
+use Rattle.node_program.specs.CodeValue.{value_in}
 
 pub record IsOneLink (code : Code) : Type 0 where
   pub field : code.field ≡ Eight
@@ -28,8 +28,8 @@ IsNoFile bytes = (code : Code) → IsOneLink code → IsAccepted code → bytes 
 -- The one link and its sink, on a block of one row: the link carries the row times a coefficient, and the sink
 -- decodes what the link carries times an entry, which undoes the coefficient.
 pub record Carries (code : Code) (times entry : ℕ) : Type 0 where
-  pub carried : (row : List ℕ) → value code 0 (row ∷ []) 0 ≡ combination Eight (length row) (times ∷ []) (row ∷ [])
-  pub taken : (row : List ℕ) → decoded code 0 (row ∷ []) ≡ combination Eight (length row) (entry ∷ []) (value code 0 (row ∷ []) 0 ∷ []) ∷ []
+  pub carried : (row : List ℕ) → value_in code 0 (row ∷ []) 0 ≡ combination Eight (length row) (times ∷ []) (row ∷ [])
+  pub taken : (row : List ℕ) → decoding_of code 0 (row ∷ []) ≡ combination Eight (length row) (entry ∷ []) (value_in code 0 (row ∷ []) 0 ∷ []) ∷ []
   pub inverse : product Eight entry times ≡ 1
 
 -- The bytes are the file of an accepted code of this kind, whose sink has this name, and which carries so.

@@ -6,6 +6,7 @@ use borrow.Author.Tests.{eq-eqb}
 use Rattle.std.proofs.lemmas.Bool.{ne_eqb}
 use Rattle.std.proofs.lemmas.List.{take-map, drop-map, take-replicate, drop-replicate}
 use Rattle.std.proofs.lemmas.List.FromFn.{fill_by_all}
+use Rattle.std.proofs.lemmas.List.Elements.{All-head, All-tail}
 use Rattle.std.specs.List.{All, range_with_len}
 use Rattle.gf_tables.specs.Product.{product, size_of}
 use Rattle.gf_tables.specs.declared.kind.FieldKind.{FieldKind}
@@ -18,6 +19,18 @@ use Rattle.linear_algebra.specs.Rows.{add_rows, scale_row, zero_row, unit_row, c
 pub combination-nil : (field : FieldKind) (width : ℕ) (coefficients : List ℕ) → combination field width coefficients [] ≡ zero_row width
 combination-nil field width [] = refl
 combination-nil field width (times ∷ coefficients) = refl
+
+-- a combination of rows of zeros
+pub combination-zero_rows : (field : FieldKind) (width : ℕ) (coefficients : List ℕ) (rows : List (List ℕ)) → AreElements field coefficients → All (λ row. row ≡ zero_row width) rows
+    → combination field width coefficients rows ≡ zero_row width
+combination-zero_rows field width [] rows below zeros = refl
+combination-zero_rows field width (times ∷ coefficients) [] below zeros = refl
+combination-zero_rows field width (times ∷ coefficients) (row ∷ rows) below zeros =
+    let IsZero : List ℕ → Type 0 = λ row. row ≡ zero_row width in
+    let first = All-head IsZero row rows zeros in
+    let scaled = scale_row-zero_row field times width (AreElements-head field times coefficients below) in
+    let rest = combination-zero_rows field width coefficients rows (AreElements-tail field times coefficients below) (All-tail IsZero row rows zeros) in
+    rw (first, scaled, rest) (zero_row-zero_row width)
 
 -- a combination of one row
 pub combination-single : (field : FieldKind) (width times : ℕ) (row : List ℕ) → length row ≡ width

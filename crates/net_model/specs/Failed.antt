@@ -1,7 +1,7 @@
 -- The links that fail in a pattern.
-use Rattle.std.specs.Prelude.{ℕ, Bool, ◌==◌, List, [], slice_get}
-use Rattle.std.specs.List.{list_any}
+use Rattle.std.specs.Prelude.{ℕ, Bool, List, [], slice_get}
 use Rattle.std.specs.Option.{option_map_or}
+use Rattle.net_model.specs.Lists.{is_among}
 use Rattle.net_model.specs.declared.Pattern.{Pattern}
 
 -- the links of a pattern
@@ -10,4 +10,4 @@ failed_links patterns pattern = option_map_or (λ p. p.links) (slice_get pattern
 
 -- whether a link fails in a pattern
 abbrev pub is_failed_in : List Pattern → ℕ → ℕ → Bool
-is_failed_in patterns pattern link = list_any (λ failed. failed == link) (failed_links patterns pattern)
+is_failed_in patterns pattern link = is_among (failed_links patterns pattern) link

@@ -1,31 +1,26 @@
 -- What holds of the nodes of a network.
-use Rattle.std.specs.Prelude.{◌≡◌, ℕ, zero, suc, ◌<◌, Bool, true, false, ◌&&◌, List, [], ◌∷◌, length, slice_get, slice_index, unwrap_or}
+use Rattle.std.specs.Prelude.{◌≡◌, ℕ, zero, suc, ◌<◌, Bool, true, List, [], ◌∷◌, length, slice_get, slice_index, unwrap_or}
 use Rattle.std.specs.List.{list_all}
-use Rattle.std.proofs.Common.{refl, get_or, arith}
-use Rattle.std.proofs.lemmas.Bool.{false≢true, ltb-true}
+use Rattle.std.proofs.Common.{get_or, arith}
+use Rattle.std.proofs.lemmas.Bool.{and_parts, ltb-true}
 use Rattle.net_model.specs.Name.{is_name, IsName}
 use Rattle.net_model.specs.Network.{is_sink_among}
 use Rattle.net_model.specs.declared.net.Net.{Net}
 
--- both parts of a test that holds
-pub both : (a b : Bool) → (a && b) ≡ true → (a ≡ true) × (b ≡ true)
-both true b h = (refl, h)
-both false b h = absurd (false≢true h)
-
 -- a test that every item passes, at an item
 pub passes_at : {X : Type 0} (test : X → Bool) (xs : List X) (i : ℕ) (d : X) → list_all test xs ≡ true → i < length xs → test (get_or xs i d) ≡ true
 passes_at test [] i d all within = absurd (omega arith)
-passes_at test (x ∷ xs) zero d all within = (both _ _ all).0
-passes_at test (x ∷ xs) (suc i) d all within = passes_at test xs i d (both _ _ all).1 (omega arith)
+passes_at test (x ∷ xs) zero d all within = (and_parts _ _ all).0
+passes_at test (x ∷ xs) (suc i) d all within = passes_at test xs i d (and_parts _ _ all).1 (omega arith)
 
 -- the name of a node
 pub node_name : (names : List (List ℕ)) (node : ℕ) → node < length names → list_all is_name names ≡ true → IsName (unwrap_or (slice_get names node) [])
 node_name [] node within all = absurd (omega arith)
-node_name (name ∷ names) zero within all = (both _ _ all).0
-node_name (name ∷ names) (suc node) within all = node_name names node (omega arith) (both _ _ all).1
+node_name (name ∷ names) zero within all = (and_parts _ _ all).0
+node_name (name ∷ names) (suc node) within all = node_name names node (omega arith) (and_parts _ _ all).1
 
 -- each sink's node has a name
 pub sink_named : (net : Net) (sink : ℕ) → sink < length net.sinks → IsName (unwrap_or (slice_get net.nodes (slice_index net.sinks sink)) [])
 sink_named net sink within =
     let test = passes_at (is_sink_among (length net.nodes) net.source) net.sinks sink 0 net.network.sink_nodes within in
-    node_name net.nodes (slice_index net.sinks sink) (ltb-true _ _ (both _ _ test).0) (both _ _ net.network.node_names).0
+    node_name net.nodes (slice_index net.sinks sink) (ltb-true _ _ (and_parts _ _ test).0) (and_parts _ _ net.network.node_names).0

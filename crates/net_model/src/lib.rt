@@ -9,6 +9,9 @@ pub use lists::{LinkList, LinkTable, NameList, NodeList, Paths, PatternList, Sid
 pub use name::{Name, NameFault, is_name};
 pub use net::{FieldChoice, Net};
 
+#[cfg(test)]
+mod tests;
+
 /// A directed link between two nodes, by their numbers. It carries one symbol per use.
 #[derive(Drop)]
 pub struct Link {

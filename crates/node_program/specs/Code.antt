@@ -61,11 +61,16 @@ are_decoders net rate field (sink ∷ sinks) (decoder ∷ decoders) =
 are_decoders net rate field [] (decoder ∷ decoders) = false
 are_decoders net rate field (sink ∷ sinks) [] = false
 
-pub record IsCode (net : Net) (rate : ℕ) (field : FieldKind) (operands : List (List Operand)) (decoders : List Decoder) : Type 0 where
+-- a code as far as it has no decoders yet
+pub record IsDraft (net : Net) (rate : ℕ) (field : FieldKind) (operands : List (List Operand)) : Type 0 where
   pub some_rate : 1 ≤ rate
   pub low_rate : rate ≤ 32
   pub few_demands : demand_count net ≤ 65536
   pub link_order : IsTrue (are_in_order [] net.links)
   pub link_operands : IsTrue (are_operands_of net rate field net.links operands)
-  pub demand_decoders : IsTrue (are_decoders net rate field (sinks_of_demands net) decoders)
   pub named_field : net.field ≡ choice_of field
+
+-- a draft, and a decoder for each demand
+pub record IsCode (net : Net) (rate : ℕ) (field : FieldKind) (operands : List (List Operand)) (decoders : List Decoder) : Type 0 where
+  pub draft : IsDraft net rate field operands
+  pub demand_decoders : IsTrue (are_decoders net rate field (sinks_of_demands net) decoders)

@@ -1,6 +1,10 @@
 pub mod Code
 pub mod Value
+pub mod CodeValue
 pub mod Decoding
+pub mod Operands
+pub mod OperandLaws
+pub mod ValueLaws
 pub use Rattle.net_model.specs.Demands
 pub use Rattle.net_model.specs.Name
 pub use Rattle.net_model.specs.Lists

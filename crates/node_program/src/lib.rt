@@ -9,6 +9,9 @@ pub use gf_tables::FieldKind;
 pub use lists::{DecoderTable, Entries, OperandList, OperandTable};
 use net_model::LinkList;
 
+#[cfg(test)]
+mod tests;
+
 /// A summand of what a link carries: `times` times a row of the source or what another link carries.
 #[derive(Clone, Copy, Debug, PartialEq, Eq)]
 pub struct Operand {

@@ -7,7 +7,7 @@ use Rattle.gf_tables.specs.declared.kind.FieldKind.TheVariants.{Eight}
 use Rattle.linear_algebra.specs.Rows.{add_rows, zero_row, combination}
 use Rattle.linear_algebra.specs.CombinationLaws.{combination-one}
 use Rattle.linear_algebra.specs.RowLaws.{scale_row-one, scale_row-zero, add_rows-zero_row, add_rows-comm, add_rows-twice, add_rows-elements, length-add_rows}
-use Rattle.node_program.specs.Decoding.{IsBlock, IsAccepted, decoded}
+use Rattle.node_program.specs.Decoding.{IsBlock, IsAccepted, decoding_of}
 use Rattle.node_program.specs.Value.{row_at, value_within}
 use Rattle.worked_rows.specs.Butterfly.{butterfly, changed_butterfly}
 
@@ -40,7 +40,7 @@ module _ (x y : List ℕ) (same : length y ≡ length x) (h : AreElements x) (k 
   sum_elements = add_rows-elements Eight x y h k
 
   -- the first sink
-  first_decoded : decoded butterfly 0 (x ∷ y ∷ []) ≡ x ∷ y ∷ []
+  first_decoded : decoding_of butterfly 0 (x ∷ y ∷ []) ≡ x ∷ y ∷ []
   unfolding butterfly value_within
   first_decoded =
       let one_x = combination-one Eight (length x) x refl h in
@@ -52,7 +52,7 @@ module _ (x y : List ℕ) (same : length y ≡ length x) (h : AreElements x) (k 
       rw (one_x, one_x, one_y, one_y, sum, one_sum, first, second, add_rows-twice x y (sym same)) refl
 
   -- the second sink
-  second_decoded : decoded butterfly 1 (x ∷ y ∷ []) ≡ x ∷ y ∷ []
+  second_decoded : decoding_of butterfly 1 (x ∷ y ∷ []) ≡ x ∷ y ∷ []
   unfolding butterfly value_within
   second_decoded =
       let one_x = combination-one Eight (length x) x refl h in
@@ -79,7 +79,7 @@ rows_of x y is =
     }
 
 -- each sink, on each block
-decoded_block : (demand : ℕ) → demand < 2 → (block : List (List ℕ)) → IsBlock Eight 2 block → decoded butterfly demand block ≡ block
+decoded_block : (demand : ℕ) → demand < 2 → (block : List (List ℕ)) → IsBlock Eight 2 block → decoding_of butterfly demand block ≡ block
 decoded_block demand below [] is = absurd (omega (arith, is.rows))
 decoded_block demand below (x ∷ []) is = absurd (omega (arith, is.rows))
 decoded_block demand below (x ∷ y ∷ z ∷ rows) is = absurd (omega (arith, is.rows))
@@ -109,13 +109,13 @@ block_is =
     }
 
 -- its first row comes back as 3
-changed_decoded : decoded changed_butterfly 1 block ≡ (3 ∷ []) ∷ (1 ∷ []) ∷ []
+changed_decoded : decoding_of changed_butterfly 1 block ≡ (3 ∷ []) ∷ (1 ∷ []) ∷ []
 unfolding changed_butterfly value_within product octet_product sum_of_shifts repeated_shift shift
 changed_decoded = refl
 
 pub changed_butterfly_refused : IsAccepted changed_butterfly → ⊥
 unfolding changed_butterfly
 changed_butterfly_refused accepted =
-    let back : decoded changed_butterfly 1 block ≡ block = accepted 1 (omega arith) block block_is in
+    let back : decoding_of changed_butterfly 1 block ≡ block = accepted 1 (omega arith) block block_is in
     let e : ◌≡◌ {A = ℕ} 3 0 = ap (λ (rows : List (List ℕ)). slice_index (row_at rows 0) 0) (sym changed_decoded ∙ back) in
     omega arith

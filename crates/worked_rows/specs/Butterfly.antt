@@ -81,13 +81,15 @@ butterfly = record {
   operands = operands;
   decoders = first_decoder ∷ second_decoder ∷ [];
   code = record {
-    some_rate = lit≤ tt;
-    low_rate = lit≤ tt;
-    few_demands = lit≤ tt;
-    link_order = refl;
-    link_operands = refl;
+    draft = record {
+      some_rate = lit≤ tt;
+      low_rate = lit≤ tt;
+      few_demands = lit≤ tt;
+      link_order = refl;
+      link_operands = refl;
+      named_field = refl;
+    };
     demand_decoders = refl;
-    named_field = refl;
   };
 }
 
@@ -100,12 +102,14 @@ changed_butterfly = record {
   operands = operands;
   decoders = first_decoder ∷ record { links = 3 ∷ 8 ∷ []; entries = 2 ∷ 1 ∷ 1 ∷ 0 ∷ [] } ∷ [];
   code = record {
-    some_rate = lit≤ tt;
-    low_rate = lit≤ tt;
-    few_demands = lit≤ tt;
-    link_order = refl;
-    link_operands = refl;
+    draft = record {
+      some_rate = lit≤ tt;
+      low_rate = lit≤ tt;
+      few_demands = lit≤ tt;
+      link_order = refl;
+      link_operands = refl;
+      named_field = refl;
+    };
     demand_decoders = refl;
-    named_field = refl;
   };
 }

@@ -44,12 +44,14 @@ cut_butterfly = record {
   operands = operands;
   decoders = first_decoder ∷ first_decoder ∷ second_decoder ∷ second_decoder ∷ [];
   code = record {
-    some_rate = lit≤ tt;
-    low_rate = lit≤ tt;
-    few_demands = lit≤ tt;
-    link_order = refl;
-    link_operands = refl;
+    draft = record {
+      some_rate = lit≤ tt;
+      low_rate = lit≤ tt;
+      few_demands = lit≤ tt;
+      link_order = refl;
+      link_operands = refl;
+      named_field = refl;
+    };
     demand_decoders = refl;
-    named_field = refl;
   };
 }

@@ -64,13 +64,15 @@ code_with field times entry are = record {
   operands = operands times;
   decoders = decoders entry;
   code = record {
-    some_rate = lit≤ tt;
-    low_rate = lit≤ tt;
-    few_demands = lit≤ tt;
-    link_order = refl;
-    link_operands = are.coefficient;
+    draft = record {
+      some_rate = lit≤ tt;
+      low_rate = lit≤ tt;
+      few_demands = lit≤ tt;
+      link_order = refl;
+      link_operands = are.coefficient;
+      named_field = refl;
+    };
     demand_decoders = are.decoder;
-    named_field = refl;
   };
 }
 

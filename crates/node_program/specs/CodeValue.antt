@@ -1,0 +1,18 @@
+-- What the links of a code carry under the patterns of its network.
+use Rattle.std.specs.Prelude.{ℕ, Bool, List}
+use Rattle.net_model.specs.Failed.{failed_links}
+use Rattle.node_program.specs.Value.{value, global_vector, is_live}
+use Rattle.node_program.specs.declared.code.Code.{Code}
+
+-- the value of a link on a block under a pattern
+abbrev pub value_in : Code → ℕ → List (List ℕ) → ℕ → List ℕ
+value_in code pattern block link = value code.net code.field code.operands (failed_links code.net.patterns pattern) block link
+
+-- the global coding vector of a link under a pattern
+abbrev pub vector_in : Code → ℕ → ℕ → List ℕ
+vector_in code pattern link =
+    global_vector code.net code.field code.operands (failed_links code.net.patterns pattern) code.rate link
+
+-- whether a link is live under a pattern
+abbrev pub is_live_in : Code → ℕ → ℕ → Bool
+is_live_in code pattern link = is_live code.net code.operands (failed_links code.net.patterns pattern) link
