@@ -5,6 +5,8 @@ pub mod Decoding
 pub mod Operands
 pub mod OperandLaws
 pub mod ValueLaws
+pub mod BlockLaws
+pub mod VectorLaws
 pub use Rattle.net_model.specs.Demands
 pub use Rattle.net_model.specs.Name
 pub use Rattle.net_model.specs.Lists

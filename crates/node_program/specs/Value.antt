@@ -5,7 +5,7 @@ use Rattle.std.specs.Option.{option_map_or}
 use Rattle.gf_tables.specs.declared.kind.FieldKind.{FieldKind}
 use Rattle.net_model.specs.Lists.{is_among}
 use Rattle.net_model.specs.declared.net.Net.{Net}
-use Rattle.linear_algebra.specs.Rows.{combination, zero_row}
+use Rattle.linear_algebra.specs.Rows.{combination, unit_row, zero_row}
 use Rattle.node_program.specs.declared.Operand.{Operand}
 
 -- the length of a block's rows
@@ -50,6 +50,15 @@ unit_block rate = map (λ i. map (λ j. if i == j then 1 else 0) (range_with_len
 -- the global coding vector of a link
 abbrev pub global_vector : Net → FieldKind → List (List Operand) → List ℕ → ℕ → ℕ → List ℕ
 global_vector net field operands failed rate link = value net field operands failed (unit_block rate) link
+
+-- The global coding vector of a link, by the vectors of the links that it reads: zero where it fails itself, else the
+-- sum over its operands of the coefficient times the unit vector of the operand's row, or its link's vector.
+abbrev pub vector_from : Net → FieldKind → List (List Operand) → List ℕ → ℕ → (ℕ → List ℕ) → ℕ → List ℕ
+vector_from net field operands failed rate vectors link =
+    if is_among failed link then zero_row rate
+    else combination field rate
+    (map (λ operand. operand.times) (operands_at operands link))
+    (map (λ operand. if leaves_source net link then unit_row rate operand.from else vectors operand.from) (operands_at operands link))
 
 -- Whether a link is live, by which links are that it reads: it doesn't fail, and some operand is a source row or a
 -- live link.

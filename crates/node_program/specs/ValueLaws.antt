@@ -21,7 +21,7 @@ use Rattle.node_program.specs.Value.{width_of, row_at, operands_at, leaves_sourc
 use Rattle.node_program.specs.declared.Operand.{Operand}
 
 -- two functions that agree on each item give one list
-map-agree : {X Y : Type 0} (f g : X → Y) (P : X → Type 0) → ((x : X) → P x → f x ≡ g x) → (xs : List X) → All P xs → map f xs ≡ map g xs
+pub map-agree : {X Y : Type 0} (f g : X → Y) (P : X → Type 0) → ((x : X) → P x → f x ≡ g x) → (xs : List X) → All P xs → map f xs ≡ map g xs
 map-agree f g P agree [] all = refl
 map-agree f g P agree (x ∷ xs) all =
     rw (agree x (All-head P x xs all), map-agree f g P agree xs (All-tail P x xs all)) refl
@@ -135,7 +135,7 @@ is_live-equation {net} {rate} {field} {operands} draft failed link =
     link (λ from before. is_live_within-is_live draft failed link from before)
 
 -- coefficients of a link of a draft are elements
-coefficients-elements : {net : Net} {rate : ℕ} {field : FieldKind} {operands : List (List Operand)} → IsDraft net rate field operands
+pub coefficients-elements : {net : Net} {rate : ℕ} {field : FieldKind} {operands : List (List Operand)} → IsDraft net rate field operands
     → (link : ℕ) → All (λ element. element < size_of field) (map (λ operand. operand.times) (operands_at operands link))
 coefficients-elements {net} {rate} {field} {operands} draft link =
     All-map (λ element. element < size_of field) (λ operand. operand.times) (operands_at operands link)
@@ -189,7 +189,7 @@ IsRow-row_at {field} {rate} {block} is i below =
     })
 
 -- either of two rows is a row
-either_row : (field : FieldKind) (width : ℕ) (test : Bool) (x y : List ℕ) → (test ≡ true → IsRow field width x) → IsRow field width y
+pub either_row : (field : FieldKind) (width : ℕ) (test : Bool) (x y : List ℕ) → (test ≡ true → IsRow field width x) → IsRow field width y
     → IsRow field width (if test then x else y)
 either_row field width true x y first second = first refl
 either_row field width false x y first second = second
