@@ -7,6 +7,7 @@ pub mod OperandLaws
 pub mod ValueLaws
 pub mod BlockLaws
 pub mod VectorLaws
+pub mod DecodingLaws
 pub use Rattle.net_model.specs.Demands
 pub use Rattle.net_model.specs.Name
 pub use Rattle.net_model.specs.Lists
