@@ -8,6 +8,7 @@ pub mod ValueLaws
 pub mod BlockLaws
 pub mod VectorLaws
 pub mod DecodingLaws
+pub mod LiveLaws
 pub use Rattle.net_model.specs.Demands
 pub use Rattle.net_model.specs.Name
 pub use Rattle.net_model.specs.Lists

@@ -3,10 +3,12 @@
 
 mod code;
 mod lists;
+mod liveness;
 
 pub use code::Code;
 pub use gf_tables::FieldKind;
-pub use lists::{DecoderTable, Entries, OperandList, OperandTable};
+pub use lists::{DecoderTable, Entries, LiveLinks, OperandList, OperandTable};
+pub use liveness::{live, live_links};
 use net_model::LinkList;
 
 #[cfg(test)]

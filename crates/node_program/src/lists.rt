@@ -13,3 +13,6 @@ pub type OperandTable = ItemList<OperandList>;
 
 /// A decoder for each demand.
 pub type DecoderTable = ItemList<Decoder>;
+
+/// For each link, whether it is live.
+pub type LiveLinks = ItemList<bool>;
