@@ -9,6 +9,8 @@ pub mod BlockLaws
 pub mod VectorLaws
 pub mod DecodingLaws
 pub mod LiveLaws
+pub mod SmallCode
+pub mod SmallCodeLaws
 pub use Rattle.net_model.specs.Demands
 pub use Rattle.net_model.specs.Name
 pub use Rattle.net_model.specs.Lists
