@@ -1,18 +1,20 @@
 -- Laws of global coding vectors. A link's vector has an element for each row of a block, and what the link carries is
--- the combination of the rows with those elements.
-use Rattle.std.specs.Prelude.{◌≡◌, ℕ, zero, suc, Bool, true, false, List, [], map, if◌then◌else◌}
+-- the combination of the rows with those elements. So it is linear in the block.
+use Rattle.std.specs.Prelude.{◌≡◌, ℕ, zero, suc, ◌<◌, Bool, true, false, List, [], length, map, if◌then◌else◌}
 use Rattle.std.proofs.Common.{refl, sym, ap, ◌∙◌, subst, inl, inr}
 use Rattle.std.proofs.lemmas.Bool.{cases_Bool}
 use Rattle.std.proofs.lemmas.List.Elements.{All-map, All-weaker, recursion_from_All}
 use Rattle.std.proofs.lemmas.Option.{unwrap_or-slice_get}
 use Rattle.std.proofs.lemmas.Simd.{map-map}
+use Rattle.gf_tables.specs.Product.{size_of}
 use Rattle.gf_tables.specs.declared.kind.FieldKind.{FieldKind}
 use Rattle.net_model.specs.Lists.{is_among}
 use Rattle.net_model.specs.declared.net.Net.{Net}
-use Rattle.linear_algebra.specs.CombinationLaws.{combination-zero_row, combination-unit_row}
+use Rattle.linear_algebra.specs.CombinationLaws.{combination-add_blocks, combination-map-scale_row, combination-zero_row, combination-unit_row}
+use Rattle.linear_algebra.specs.Matrices.{add_blocks}
 use Rattle.linear_algebra.specs.MatrixLaws.{combination-times_rows}
-use Rattle.linear_algebra.specs.Rows.{combination, unit_row, zero_row, IsRow, AreRows}
-use Rattle.node_program.specs.BlockLaws.{AreRows-block, IsBlock-identity, width_of-identity, row_at-identity}
+use Rattle.linear_algebra.specs.Rows.{add_rows, scale_row, combination, unit_row, zero_row, IsRow, AreRows}
+use Rattle.node_program.specs.BlockLaws.{AreRows-block, IsBlock-identity, width_of-identity, row_at-identity, IsBlock-add_blocks, width_of-add_blocks, IsBlock-map-scale_row, width_of-map-scale_row}
 use Rattle.node_program.specs.Code.{IsDraft}
 use Rattle.node_program.specs.Decoding.{IsBlock}
 use Rattle.node_program.specs.OperandLaws.{operands_of_draft}
@@ -119,3 +121,31 @@ global_vector-equation {net} {rate} {field} {operands} draft failed link =
     ∙ ap (λ (rows : List (List ℕ)).
     if is_among failed link then zero_row rate
     else combination field rate (map (λ operand. operand.times) (operands_at operands link)) rows) rows
+
+-- on the sums of the rows of two blocks of one width, a link carries the sum of what it carries on each
+pub value-add_blocks : {net : Net} {rate : ℕ} {field : FieldKind} {operands : List (List Operand)} {block other : List (List ℕ)} → IsDraft net rate field operands
+    → IsBlock field rate block → IsBlock field rate other → width_of block ≡ width_of other → (failed : List ℕ) (link : ℕ)
+    → value net field operands failed (add_blocks block other) link
+    ≡ add_rows (value net field operands failed block link) (value net field operands failed other link)
+value-add_blocks {net} {rate} {field} {operands} {block} {other} draft is is_other wide failed link =
+    let vector = global_vector net field operands failed rate link in
+    let same : length block ≡ length other = is.rows ∙ sym is_other.rows in
+    let Fits : ℕ → Type 0 = λ width. AreRows field width block in
+    value-vector draft (IsBlock-add_blocks is is_other wide) failed link
+    ∙ ap (λ width. combination field width vector (add_blocks block other)) (width_of-add_blocks block other same wide)
+    ∙ combination-add_blocks field (width_of other) vector block other (IsRow-global_vector draft failed link).elements
+    (subst Fits wide (AreRows-block is)) (AreRows-block is_other) same
+    ∙ ap (λ width. add_rows (combination field width vector block) (combination field (width_of other) vector other)) (sym wide)
+    ∙ ap (λ (row : List ℕ). add_rows row (combination field (width_of other) vector other)) (sym (value-vector draft is failed link))
+    ∙ ap (add_rows (value net field operands failed block link)) (sym (value-vector draft is_other failed link))
+
+-- on the multiples of the rows of a block by one element, a link carries that multiple of what it carries on the block
+pub value-map-scale_row : {net : Net} {rate : ℕ} {field : FieldKind} {operands : List (List Operand)} {block : List (List ℕ)} → IsDraft net rate field operands
+    → IsBlock field rate block → (times : ℕ) → times < size_of field → (failed : List ℕ) (link : ℕ)
+    → value net field operands failed (map (scale_row field times) block) link ≡ scale_row field times (value net field operands failed block link)
+value-map-scale_row {net} {rate} {field} {operands} {block} draft is times below failed link =
+    let vector = global_vector net field operands failed rate link in
+    value-vector draft (IsBlock-map-scale_row is times below) failed link
+    ∙ ap (λ width. combination field width vector (map (scale_row field times) block)) (width_of-map-scale_row field times block)
+    ∙ combination-map-scale_row field (width_of block) times vector block below (IsRow-global_vector draft failed link).elements (AreRows-block is)
+    ∙ ap (scale_row field times) (sym (value-vector draft is failed link))
