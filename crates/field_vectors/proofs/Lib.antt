@@ -1,1 +1,3 @@
 pub mod RowSteps
+pub mod CutLaws
+pub mod GridSteps

@@ -54,3 +54,10 @@ joined_below-written f k xs ys now x y z within inside before read_x read_y writ
     let at = joined_below-at f k xs ys x in
     let more = joined_below-more f k xs ys x y within inside in
     cc
+
+-- the second rows of pairs of one length
+pub zip2-second : {X Y : Type 0} (xs : List X) (ys : List Y) → length xs ≡ length ys → zip2 (λ x y. y) xs ys ≡ ys
+zip2-second [] [] same = refl
+zip2-second [] (y ∷ ys) same = absurd (omega arith)
+zip2-second (x ∷ xs) [] same = absurd (omega arith)
+zip2-second (x ∷ xs) (y ∷ ys) same = ap (λ zs. y ∷ zs) (zip2-second xs ys (omega arith))

@@ -1,1 +1,4 @@
 pub mod Elements
+pub mod ElementsLaws
+pub mod Grid
+pub mod Cut

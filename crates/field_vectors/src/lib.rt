@@ -1,6 +1,9 @@
 //! Rows and matrices of field elements in memory, and the inverse of a matrix by elimination.
 #![tactic(auto)]
 
+mod matrix;
+mod parts;
 mod rows;
 
+pub use matrix::Matrix;
 pub use rows::{Row, add_scaled, dot, scale};
