@@ -3,7 +3,9 @@
 
 mod matrix;
 mod parts;
+mod product;
 mod rows;
 
 pub use matrix::Matrix;
+pub use product::{Entry, is_identity_product};
 pub use rows::{Row, add_scaled, dot, scale};
