@@ -1,0 +1,4 @@
+pub mod RowSteps
+pub mod CutLaws
+pub mod GridSteps
+pub mod ProductSteps

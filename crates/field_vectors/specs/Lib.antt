@@ -1,0 +1,6 @@
+pub mod Elements
+pub mod ElementsLaws
+pub mod Grid
+pub mod Cut
+pub mod Difference
+pub mod DifferenceLaws
