@@ -4,3 +4,4 @@ pub mod Grid
 pub mod Cut
 pub mod Difference
 pub mod DifferenceLaws
+pub mod NumberLaws

@@ -158,6 +158,21 @@ combination-append field width (x ∷ xs) ys (row ∷ rows) others same h =
     rw (combination-append field width xs ys rows others (omega arith) h)
     (sym (add_rows-assoc (scale_row field x row) (combination field width xs rows) (combination field width ys others)))
 
+-- a combination of one more of the rows
+pub combination-take_more : (field : FieldKind) (width k : ℕ) (coefficients : List ℕ) (rows : List (List ℕ)) → k < length coefficients → k < length rows
+    → length (get_or rows k []) ≡ width
+    → combination field width (take (suc k) coefficients) (take (suc k) rows)
+    ≡ add_rows (combination field width (take k coefficients) (take k rows)) (scale_row field (slice_index coefficients k) (get_or rows k []))
+combination-take_more field width k [] rows below within long = absurd (omega arith)
+combination-take_more field width k (times ∷ coefficients) [] below within long = absurd (omega arith)
+combination-take_more field width zero (times ∷ coefficients) (row ∷ rows) below within long =
+    let wide : zero_row width ≡ zero_row (length (scale_row field times row)) = ap zero_row (sym (length-scale_row field times row ∙ long)) in
+    combination-single field width times row long ∙ sym (rw wide (zero_row-add_rows (scale_row field times row)))
+combination-take_more field width (suc k) (times ∷ coefficients) (row ∷ rows) below within long =
+    rw (combination-take_more field width k coefficients rows (omega arith) (omega arith) long)
+    (sym (add_rows-assoc (scale_row field times row) (combination field width (take k coefficients) (take k rows))
+    (scale_row field (slice_index coefficients k) (get_or rows k []))))
+
 -- a combination with 1 at one place and zeros elsewhere, of the rows from a place on
 combination-unit_row_from : (field : FieldKind) (width a i k : ℕ) (rows : List (List ℕ)) → a + k ≡ i → k < length rows → AreRows field width rows
     → combination field width (map (λ j. if i == j then 1 else 0) (range_with_len a (length rows))) rows ≡ get_or rows k []

@@ -4,11 +4,13 @@
 mod code;
 mod lists;
 mod liveness;
+mod link_vectors;
 
 pub use code::Code;
 pub use gf_tables::FieldKind;
 pub use lists::{DecoderTable, Entries, LiveLinks, OperandList, OperandTable};
 pub use liveness::{live, live_links};
+pub use link_vectors::vectors;
 use net_model::LinkList;
 
 #[cfg(test)]

@@ -63,7 +63,7 @@ fn is_live_by(code: &Code, pattern: u32, link: u32, before: &[bool]) -> bool
 }
 
 // Whether a link leaves the source.
-fn leaves_source(code: &Code, link: u32) -> bool
+pub(crate) fn leaves_source(code: &Code, link: u32) -> bool
     requires { link < length code.now.net.links }
     ensures { result ≡ leaves_source code.now.net link }
 {
@@ -71,7 +71,7 @@ fn leaves_source(code: &Code, link: u32) -> bool
 }
 
 // The operands of a link.
-fn operands_of(code: &Code, link: u32) -> &[Operand]
+pub(crate) fn operands_of(code: &Code, link: u32) -> &[Operand]
     requires { link < length code.now.net.links }
     ensures value { result.now ≡ operands_at code.now.operands link }
     ensures valid { All (IsOperand code.now.net code.now.rate code.now.field link) result.now }

@@ -1,0 +1,77 @@
+//! The global coding vectors of a code's links under a pattern.
+ghost use Rattle.std.specs.Prelude.{◌≡◌, ◌<◌, ◌+◌, false, length, IfOk};
+ghost use Rattle.gf_tables.specs.Kind.{IsOfKind};
+ghost use Rattle.net_model.specs.Failed.{is_failed_in};
+ghost use Rattle.node_program.specs.Vectors.{AreVectors, AreVectorsBefore};
+
+use crate::Code;
+use crate::liveness::{leaves_source, operands_of};
+use counted_steps::Steps;
+use field_vectors::Matrix;
+use gf_tables::Field;
+use std::alloc::{AllocError, Global};
+use std::marker::Brand;
+use std::sync::ledger::{Blank, Ledger};
+
+/// The global coding vectors of the links under a pattern: row `e` is that of link `e`, zero where the
+/// link fails. It goes over the links once and makes each row of rows that stand already, so an operand
+/// costs at most as many products as the rate.
+pub fn vectors<F: Field>(
+    alloc: Global,
+    code: &Code,
+    pattern: u32,
+) -> Result<Matrix<F>, AllocError>
+    requires pattern { pattern < length code.now.net.patterns }
+    requires field { IsOfKind code.now.field F.SIZE F.BYTES F.MARK F.product }
+    ensures { IfOk result (AreVectors F.number code.now pattern) }
+{
+    let count = code.net.links.len() as u32;
+    let mut vectors = Matrix::zeros(alloc, count, code.rate)?;
+    fill::<F, Brand>(&mut vectors, code, pattern, Blank::new(1));
+    Ok(vectors)
+}
+
+// Makes each row the vector of its link.
+fn fill<F: Field, L: Ledger>(vectors: &mut Matrix<F>, code: &Code, pattern: u32, blank: Blank)
+    requires pattern { pattern < length code.now.net.patterns }
+    requires field { IsOfKind code.now.field F.SIZE F.BYTES F.MARK F.product }
+    requires zeros { AreVectorsBefore F.number F.zero code.now pattern 0 vectors.old }
+    requires name { blank.name ≡ L.name }
+    requires parts { blank.parts ≡ L.parts }
+    requires some_part { 0 < blank.parts }
+    ensures { AreVectors F.number code.now pattern vectors.new }
+{
+    let mut steps = Steps::<L>::start(blank);
+    for link in 0..vectors.rows() {
+        if !code.net.is_failed(pattern, link) {
+            add_operands(vectors, code, pattern, link, &mut steps);
+        }
+    }
+}
+
+// Adds the operands of a link to its row, which is zero.
+fn add_operands<F: Field, L: Ledger>(
+    vectors: &mut Matrix<F>,
+    code: &Code,
+    pattern: u32,
+    link: u32,
+    steps: &mut Steps<L>,
+)
+    requires link { link < length code.now.net.links }
+    requires whole { is_failed_in code.now.net.patterns pattern link ≡ false }
+    requires field { IsOfKind code.now.field F.SIZE F.BYTES F.MARK F.product }
+    requires before { AreVectorsBefore F.number F.zero code.now pattern link vectors.old }
+    ensures { AreVectorsBefore F.number F.zero code.now pattern (link + 1) vectors.new }
+{
+    let leaves = leaves_source(code, link);
+    for operand in operands_of(code, link) {
+        let _rows = vectors.rows();
+        let times = F::of_number(operand.times);
+        if leaves {
+            let sum = vectors.at(link, operand.from).add(times);
+            vectors.set(link, operand.from, sum);
+        } else {
+            vectors.add_row(link, times, operand.from, steps);
+        }
+    }
+}
