@@ -2,15 +2,17 @@
 #![tactic(auto)]
 
 mod code;
-mod lists;
-mod liveness;
 mod link_vectors;
+mod lists;
+mod live_table;
+mod liveness;
 
 pub use code::Code;
 pub use gf_tables::FieldKind;
 pub use lists::{DecoderTable, Entries, LiveLinks, OperandList, OperandTable};
-pub use liveness::{live, live_links};
 pub use link_vectors::vectors;
+pub use live_table::live_links;
+pub use liveness::live;
 use net_model::LinkList;
 
 #[cfg(test)]

@@ -9,8 +9,8 @@ use Rattle.node_program.specs.Operands.{IsOperand}
 use Rattle.node_program.specs.Value.{leaves_source}
 use Rattle.node_program.specs.declared.Operand.{Operand}
 use Rattle.node_program.specs.declared.code.Code.{Code}
-use Rattle.node_program.proofs.liveness.is_live_by.Goals as goal
-use Rattle.node_program.proofs.liveness.is_live_by.Goals.{then-leaves-via-then-leaves, then-leaves-via-else-leaves+then-before-operand}
+use Rattle.node_program.proofs.live_table.is_live_by.Goals as goal
+use Rattle.node_program.proofs.live_table.is_live_by.Goals.{then-leaves-via-then-leaves, then-leaves-via-else-leaves+then-before-operand}
 
 -- an operand of a link that doesn't leave the source names a link of the table
 within_table : (code : Code) (pattern link : ℕ) (before : List Bool) (operand : Operand) → before ≡ live_table code pattern link

@@ -1,0 +1,44 @@
+//! The table of a code's live links under a pattern.
+ghost use Rattle.std.specs.Prelude.{◌≡◌, ℕ, ◌<◌, length, slice_get, IfOk};
+ghost use Rattle.node_program.specs.CodeValue.{is_live_in, live_table};
+
+use crate::liveness::{leaves_source, operands_of};
+use crate::{Code, LiveLinks};
+use item_list::ItemList;
+use std::alloc::{AllocError, Global};
+
+/// Which links are live under a pattern, in their order. Each operand of each link is looked at once at most,
+/// and the links of the pattern once for each link.
+pub fn live_links(alloc: Global, code: &Code, pattern: u32) -> Result<LiveLinks, AllocError>
+    requires { pattern < length code.now.net.patterns }
+    ensures count { IfOk result (λ live. length live ≡ length code.now.net.links) }
+    ensures entries { IfOk result (λ live. (e : ℕ) → e < length code.now.net.links
+        → slice_get live e ≡ Some (is_live_in code.now pattern e)) }
+{
+    let count = code.net.links.len();
+    let mut live = Vec::with_capacity(alloc, count)?;
+    for link in 0..count {
+        let is = is_live_by(code, pattern, link as u32, live.as_slice());
+        live.push(is)?;
+    }
+    Ok(ItemList::of(live))
+}
+
+// Whether a link is live, by which of the links before it are.
+fn is_live_by(code: &Code, pattern: u32, link: u32, before: &[bool]) -> bool
+    requires pattern { pattern < length code.now.net.patterns }
+    requires link { link < length code.now.net.links }
+    requires before { before.now ≡ live_table code.now pattern link }
+    ensures { result ≡ is_live_in code.now pattern link }
+{
+    if code.net.is_failed(pattern, link) {
+        return false;
+    }
+    let leaves = leaves_source(code, link);
+    for operand in operands_of(code, link) {
+        if leaves || before[operand.from as usize] {
+            return true;
+        }
+    }
+    false
+}
