@@ -4,3 +4,6 @@ pub mod Grid
 pub mod Cut
 pub mod Difference
 pub mod DifferenceLaws
+pub mod DotOfLaws
+pub mod Elimination
+pub mod EliminationLaws

@@ -1,6 +1,7 @@
 //! Rows and matrices of field elements in memory, and the inverse of a matrix by elimination.
 #![tactic(auto)]
 
+mod inverse;
 mod matrix;
 mod parts;
 mod product;
