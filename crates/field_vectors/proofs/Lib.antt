@@ -3,3 +3,4 @@ pub mod CutLaws
 pub mod GridSteps
 pub mod ProductSteps
 pub mod ClearSteps
+pub mod FillSteps

@@ -7,3 +7,6 @@ pub mod DifferenceLaws
 pub mod DotOfLaws
 pub mod Elimination
 pub mod EliminationLaws
+pub mod Inverse
+pub mod InverseLaws
+pub mod Refusal

@@ -1,13 +1,23 @@
 //! The inverse of a matrix, by elimination.
-ghost use Rattle.std.specs.Prelude.{◌≡◌, ◌≢◌, ◌+◌, ◌<◌, ◌≤◌, length, IfSome, IfNone};
+ghost use Rattle.std.specs.Prelude.{◌≡◌, ◌≢◌, ◌+◌, ◌-◌, ◌<◌, ◌≤◌, ◌++◌, length, map, drop, replicate, slice_get, IfSome, IfNone, IfOk, IfErr, OnOk};
 ghost use Rattle.std.specs.Bool.{OnTrue, OnFalse};
-ghost use Rattle.field_vectors.specs.Elimination.{IsStep, IsReduced, IsStuck, IsPivot};
-ghost use Rattle.field_vectors.specs.Grid.{entry_of};
+ghost use Rattle.std.specs.List.{range_with_len};
+ghost use Rattle.field_vectors.specs.Elements.{unit_of};
+ghost use Rattle.field_vectors.specs.Elimination.{IsStep, IsReduced, IsStuck, IsPivot, IsBeside};
+ghost use Rattle.field_vectors.specs.Grid.{row_of, entry_of, with_row};
+ghost use Rattle.field_vectors.specs.Inverse.{IsInverse, OnlyZeroToZero, IsRightHalf, block_of};
+ghost use Rattle.field_vectors.specs.Refusal.{IsRefusal};
 
 use crate::matrix::Matrix;
+use crate::parts::part;
+use crate::refusal::InvertRefusal;
+use crate::rows::Row;
 use counted_steps::Steps;
 use gf_tables::Field;
-use std::sync::ledger::Ledger;
+use item_list::ItemList;
+use std::alloc::{AllocError, Global};
+use std::marker::Brand;
+use std::sync::ledger::{Blank, Ledger};
 
 // The first row from row k on whose entry in column k is not zero.
 fn pivot_of<F: Field>(work: &Matrix<F>, k: u32) -> Option<u32>
@@ -115,4 +125,127 @@ fn reduce<F: Field, L: Ledger>(work: &mut Matrix<F>, steps: &mut Steps<L>) -> Op
         }
     }
     None
+}
+
+// Makes row `i` of a matrix of zeros that of another, with the row of the identity behind it.
+fn fill_row<F: Field>(work: &mut Matrix<F>, a: &Matrix<F>, i: u32)
+    requires row { i < length a.now.rows }
+    requires square { a.now.columns ≡ length a.now.rows }
+    requires height { length work.old.rows ≡ length a.now.rows }
+    requires width { work.old.columns ≡ length a.now.rows + length a.now.rows }
+    requires zeros { row_of work.old i ≡ replicate (length a.now.rows + length a.now.rows) F.zero }
+    ensures { work.new ≡ with_row work.old i (row_of a.now i ++ unit_of F.zero F.one (length a.now.rows) i) }
+{
+    let size = a.columns();
+    let _width = work.columns();
+    for j in 0..size {
+        work.set(i, j, a.at(i, j));
+    }
+    work.set(i, size + i, F::one());
+}
+
+// A square matrix with the identity beside it.
+fn beside_identity<F: Field>(alloc: Global, a: &Matrix<F>) -> Result<Matrix<F>, AllocError>
+    requires { a.now.columns ≡ length a.now.rows }
+    ensures { IfOk result (λ work. IsBeside F.is_element F.zero F.one a.now work) }
+{
+    let size = a.rows();
+    if size > u32::MAX / 2 {
+        return Err(AllocError);
+    }
+    let mut work = Matrix::zeros(alloc, size, size + size)?;
+    for i in 0..size {
+        fill_row(&mut work, a, i);
+    }
+    let _width = work.columns();
+    Ok(work)
+}
+
+// What stands behind the identity.
+fn right_half<F: Field>(alloc: Global, work: &Matrix<F>) -> Result<Matrix<F>, AllocError>
+    requires { work.now.columns ≡ length work.now.rows + length work.now.rows }
+    ensures { IfOk result (λ half. IsRightHalf F.is_element work.now half) }
+{
+    let size = work.rows();
+    let width = work.columns();
+    let mut half = Matrix::zeros(alloc, size, size)?;
+    for i in 0..size {
+        half.put_row(i, part(work.row(i), size as usize, width as usize));
+    }
+    let _columns = half.columns();
+    Ok(half)
+}
+
+// The entries of column k above the diagonal.
+fn column_above<F: Field>(alloc: Global, work: &Matrix<F>, k: u32) -> Result<Vec<F>, AllocError>
+    requires row { k < length work.now.rows }
+    requires column { k < work.now.columns }
+    ensures { IfOk result (λ v. v.items ≡ map (λ i. entry_of F.zero work.now i k) (range_with_len 0 k)) }
+{
+    let mut items = Vec::new(alloc);
+    for i in 0..k {
+        items.push(work.at(i, k))?;
+    }
+    Ok(items)
+}
+
+// Puts so many zeros behind.
+fn push_zeros<F: Field>(items: &mut Vec<F>, count: u32) -> Result<(), AllocError>
+    ensures { OnOk result (items.new.items ≡ items.old.items ++ replicate count F.zero) }
+{
+    for _place in 0..count {
+        items.push(F::zero())?;
+    }
+    Ok(())
+}
+
+// What the columns before k combine to in column k, with one for column k itself.
+fn stuck_block<F: Field>(alloc: Global, work: &Matrix<F>, k: u32) -> Result<Row<F>, AllocError>
+    requires row { k < length work.now.rows }
+    requires column { k < work.now.columns }
+    ensures { IfOk result (λ block. block ≡ block_of F.zero F.one work.now k) }
+{
+    let mut items = column_above(alloc, work, k)?;
+    items.push(F::one())?;
+    push_zeros(&mut items, work.rows() - k - 1)?;
+    Ok(ItemList::of(items))
+}
+
+// The inverse, with a counter of its own.
+fn invert_from<F: Field, L: Ledger>(
+    alloc: Global,
+    a: &Matrix<F>,
+    blank: Blank,
+) -> Result<Matrix<F>, InvertRefusal<F>>
+    requires name { blank.name ≡ L.name }
+    requires parts { blank.parts ≡ L.parts }
+    requires some_part { 0 < blank.parts }
+    requires square { a.now.columns ≡ length a.now.rows }
+    ensures ok { IfOk result (λ inverse. IsInverse F.zero F.one F.add F.mul a.now inverse) }
+    ensures regular { OnOk result (OnlyZeroToZero F.is_element F.zero F.add F.mul a.now) }
+    ensures refused { IfErr result (λ refusal. IsRefusal F.is_element F.zero F.add F.mul a.now refusal) }
+{
+    let _size = a.rows();
+    let mut work = beside_identity(alloc, a)?;
+    match reduce(&mut work, &mut Steps::<L>::start(blank)) {
+        None => {
+            let half = right_half(alloc, &work)?;
+            Ok(half)
+        }
+        Some(k) => {
+            let block = stuck_block(alloc, &work, k)?;
+            Err(InvertRefusal::Singular { block })
+        }
+    }
+}
+
+/// The inverse of a square matrix, from both sides. It is refused where the matrix sends some block
+/// that is not all zeros to zero.
+pub fn invert<F: Field>(alloc: Global, a: &Matrix<F>) -> Result<Matrix<F>, InvertRefusal<F>>
+    requires { a.now.columns ≡ length a.now.rows }
+    ensures ok { IfOk result (λ inverse. IsInverse F.zero F.one F.add F.mul a.now inverse) }
+    ensures regular { OnOk result (OnlyZeroToZero F.is_element F.zero F.add F.mul a.now) }
+    ensures refused { IfErr result (λ refusal. IsRefusal F.is_element F.zero F.add F.mul a.now refusal) }
+{
+    invert_from::<F, Brand>(alloc, a, Blank::new(1))
 }

@@ -5,8 +5,11 @@ mod inverse;
 mod matrix;
 mod parts;
 mod product;
+mod refusal;
 mod rows;
 
+pub use inverse::invert;
 pub use matrix::Matrix;
 pub use product::{Entry, is_identity_product};
+pub use refusal::InvertRefusal;
 pub use rows::{Row, add_scaled, dot, scale};
