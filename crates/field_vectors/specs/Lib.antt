@@ -10,3 +10,4 @@ pub mod EliminationLaws
 pub mod Inverse
 pub mod InverseLaws
 pub mod Refusal
+pub mod NumberLaws
