@@ -4,4 +4,10 @@ pub mod Grid
 pub mod Cut
 pub mod Difference
 pub mod DifferenceLaws
+pub mod DotOfLaws
+pub mod Elimination
+pub mod EliminationLaws
+pub mod Inverse
+pub mod InverseLaws
+pub mod Refusal
 pub mod NumberLaws
