@@ -1,5 +1,5 @@
 -- What the deeds of a command account for, over the whole outside.
-use Rattle.std.specs.Prelude.{◌≤◌, ℕ, List, Contains}
+use Rattle.std.specs.Prelude.{ℕ, List, Contains}
 use Rattle.lif_outside.specs.declared.sink.Sink.{Ghosts as SinkGhosts}
 use Rattle.lif_outside.specs.declared.store.Store.{Ghosts as StoreGhosts}
 use Rattle.lif_outside.specs.Accounts.{StoreAccounts, SinkAccounts}

@@ -2,7 +2,7 @@
 ghost use Rattle.std.specs.Prelude.{◌≡◌, ◌≤◌, ◌∷◌, [], length, IfOk, OnOk, OnErr};
 ghost use Rattle.lif_outside.specs.Calls.{Calls};
 ghost use Rattle.lif_outside.specs.Events.{append_failed};
-ghost use Rattle.lif_top.specs.Send.Ends.{AppendsAll, AppendsPart};
+ghost use Rattle.lif_top.specs.Send.Ends.{source_limit, AppendsAll, AppendsPart};
 ghost use Rattle.lif_top.specs.Transfer.{AreCounts};
 
 use crate::RATE;
@@ -52,7 +52,7 @@ pub fn carry_source<S: Store>(
     source: &[u8],
 ) -> Result<SentCounts, Failed>
     requires made { S.made store.old output.now }
-    requires short { length source.now ≤ 67108864 }
+    requires short { length source.now ≤ source_limit }
     ensures counted { IfOk result (AreCounts source.now) }
     ensures appended { OnOk result (Calls S.Store store.old store.new (AppendsAll output.now source.now)) }
     ensures failed { OnErr result (Calls S.Store store.old store.new (AppendsPart output.now source.now)) }

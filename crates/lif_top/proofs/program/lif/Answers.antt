@@ -1,10 +1,10 @@
-use Rattle.std.proofs.Common.{◌≡◌, [], None, IfNone, IfSome, map, string_bytes, refl, sym, subst}
+use Rattle.std.proofs.Common.{[], IfNone, IfSome, refl, subst}
 use Rattle.std.specs.Prelude.{Option}
 use Rattle.lif_outside.specs.Calls.{Does, outside}
 use Rattle.lif_outside.specs.DeedLaws.{accounted}
 use Rattle.lif_top.specs.Send.Promise.{Sends}
 use Rattle.lif_top.specs.Usage.{IsMisused}
-use Rattle.lif_top.specs.Words.{Send, send_of, paths_of}
+use Rattle.lif_top.specs.Words.{Send, paths_of}
 use Rattle.lif_top.proofs.Causing.{causes}
 use Rattle.lif_top.proofs.Complete.{answers}
 use Rattle.lif_top.proofs.Leaving.{leaves}

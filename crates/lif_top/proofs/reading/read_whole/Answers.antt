@@ -1,7 +1,7 @@
-use Rattle.std.proofs.Common.{◌≡◌, ◌≤◌, Ok, Err, true, false, length, subst, ap, ◌∙◌, arith}
+use Rattle.std.proofs.Common.{◌≤◌, Ok, Err, true, false, length, subst, ap, ◌∙◌, arith}
 use Rattle.lif_outside.specs.Calls.{Calls}
-use Rattle.lif_outside.specs.CallLaws.{calls_then, calls_weaker}
-use Rattle.lif_outside.specs.Runs.{ReadsPastLimit, ReadsWhole}
+use Rattle.lif_outside.specs.CallLaws.{calls_then}
+use Rattle.lif_outside.specs.Runs.{ReadsWhole}
 use Rattle.lif_top.specs.Reading.{ReadsMore, StopsReading}
 use Rattle.lif_top.proofs.Exits.{if_err}
 use Rattle.lif_top.proofs.ReadingLaws.{Gave, gave_more, gave_all, stops_more}

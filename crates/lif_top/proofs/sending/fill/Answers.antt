@@ -1,10 +1,10 @@
-use Rattle.std.proofs.Common.{◌≡◌, ◌∷◌, [], Ok, Err, refl, ap, subst, inr, arith, lit<}
+use Rattle.std.proofs.Common.{◌≡◌, ◌∷◌, [], Err, refl, ap, subst, inr, arith, lit<}
 use Rattle.lif_outside.specs.CallLaws.{calls_of, calls_then, calls_weaker}
 use Rattle.lif_outside.specs.Calls.{Calls}
 use Rattle.lif_outside.specs.Events.{created}
 use Rattle.lif_outside.specs.Runs.{ReadsWhole}
 use Rattle.lif_top.specs.Reading.{StopsReading, status_of}
-use Rattle.lif_top.specs.Send.Ends.{source_limit, AppendsAll, AppendsPart, AfterCreate, NoCall, Fills, FillStops, FillsPart}
+use Rattle.lif_top.specs.Send.Ends.{source_limit, AppendsAll, AppendsPart, AfterCreate, NoCall, Fills, FillStops}
 use Rattle.lif_top.specs.Transfer.{AreCounts}
 use Rattle.lif_top.specs.declared.status.Status.TheVariants.{WriteFault}
 use Rattle.lif_top.proofs.Exits.{if_err}
