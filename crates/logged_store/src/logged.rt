@@ -1,12 +1,12 @@
 //! A store that makes its calls on another store, and keeps a log of them.
-ghost use Rattle.std.specs.Prelude.{◌≡◌, ◌≤◌, ◌^◌, ◌∷◌, [], map, length, drop, true, false, not, IfOk, IsOk};
+ghost use Rattle.std.specs.Prelude.{◌≡◌, ◌≤◌, ◌^◌, ◌∷◌, [], map, length, drop, true, IfOk, IsOk};
 ghost use Rattle.lif_outside.specs.Events.{read_event, create_event, append_event};
 
 use crate::Event;
 use lif_outside::{Failed, Store};
 use std::alloc::{AllocError, Global};
 
-/// A store over another one. Each call is made on that one, and kept with its answer as long as there is memory.
+/// A store over another one, for tests only. Each call is made on that one, and kept with its answer as long as there is memory.
 #[derive(Drop)]
 pub struct Logged<S> {
     inner: S,
