@@ -1,8 +1,8 @@
 -- What the program promises, with the words as the system gave them.
-use Rattle.std.specs.Prelude.{◌≡◌, ◌≤◌, ◌↔◌, [], map, None, IfNone, IfSome, string_bytes}
+use Rattle.std.specs.Prelude.{◌≡◌, ◌↔◌, [], map, None, IfNone, IfSome, string_bytes}
 use Rattle.lif_outside.specs.declared.sink.Sink.{Ghosts as SinkGhosts}
 use Rattle.lif_outside.specs.declared.store.Store.{Ghosts as StoreGhosts}
-use Rattle.lif_outside.specs.Calls.{Deeds, Does, KeepsStore}
+use Rattle.lif_outside.specs.Calls.{Deeds, Does}
 use Rattle.lif_outside.specs.Puts.{SaysLine}
 use Rattle.lif_top.specs.Lines.{out_of_memory_line}
 use Rattle.lif_top.specs.Send.Promise.{Sends}

@@ -5,6 +5,9 @@ ghost use Rattle.lif_outside.specs.Counts.{one_more};
 ghost use Rattle.lif_outside.specs.Events.{read_event, create_event, append_event};
 ghost use Rattle.lif_cli.specs.Disk.{read_faults_of, write_faults_of, path_read_faults, path_write_faults, any_path, no_files, calls_on_disk};
 
+#[cfg(test)]
+mod tests;
+
 use crate::appending::{Appending, append_to};
 use crate::faults::counted;
 use crate::pieces::{move_to, read_full};
@@ -110,49 +113,5 @@ impl<'r> Store for DiskStore<'r> {
     {
         let outcome = append_to(self.rt, &mut self.last, path, bytes);
         counted(outcome, &mut self.write_faults)
-    }
-}
-
-#[cfg(test)]
-mod tests {
-    use super::*;
-    use std::test::Fail;
-
-    const LONG: usize = 5000;
-
-    #[test]
-    fn keeps_bytes_on_disk(rt: HostRuntime) -> Result<(), Fail> {
-        let path = "disk-store-test";
-        let mut store = DiskStore::new(&rt);
-        assert_eq!(rt; store.create(path), Ok(()));
-        assert_eq!(rt; store.create("another"), Ok(()));
-        assert_eq!(rt; store.append(path, b"ab"), Ok(()));
-        assert_eq!(rt; store.append(path, b"c"), Ok(()));
-        assert_eq!(rt; store.append("another", b"z"), Ok(()));
-        assert_eq!(rt; store.append(path, b"de"), Ok(()));
-        for (at, count, found) in [
-            (0, 4, *b"abcd"),
-            (3, 2, *b"de.."),
-            (5, 0, *b"...."),
-            (9, 0, *b"...."),
-        ] {
-            let mut into = *b"....";
-            assert_eq!(rt; store.read(path, at, &mut into), Ok(count), "at {at}");
-            assert_eq!(rt; into, found, "at {at}");
-        }
-        let mut into = [0; LONG];
-        assert_eq!(rt; store.append(path, &[7; LONG]), Ok(()));
-        assert_eq!(rt; store.read(path, 5, &mut into), Ok(LONG));
-        assert_eq!(rt; into, [7; LONG]);
-        assert_eq!(rt; store.create(path), Ok(()));
-        assert_eq!(rt; store.read(path, 0, &mut into), Ok(0));
-        assert_eq!(rt; (store.read_faults, store.write_faults), (0, 0));
-        fs::remove_file(&rt, path)?;
-        fs::remove_file(&rt, "another")?;
-        assert_eq!(rt; store.read(path, 0, &mut into), Err(Failed));
-        assert_eq!(rt; store.append(path, b"f"), Err(Failed));
-        assert_eq!(rt; store.create("no-such-folder/file"), Err(Failed));
-        assert_eq!(rt; (store.read_faults, store.write_faults), (1, 2));
-        Ok(())
     }
 }

@@ -7,6 +7,8 @@ mod faults;
 mod pieces;
 mod run;
 mod say;
+#[cfg(test)]
+mod tests;
 
 use disk::DiskStore;
 use run::{Words, run};

@@ -3,6 +3,9 @@ ghost use Rattle.std.specs.Prelude.{◌≡◌, ℕ, ◌<◌, ◌≤◌, length, 
 ghost use Rattle.std.specs.Io.KnownBytes.{Appends, Consumes, IsAtEnd, Keeps, ReadConsumes, WriteAppends};
 ghost use Rattle.std.specs.Io.Seek.{MovesTo};
 
+#[cfg(test)]
+mod tests;
+
 use std::io;
 use std::io::{ErrorKind, Read, Seek, SeekFrom, Write};
 
@@ -95,81 +98,4 @@ pub fn write_full<F: Write>(file: &mut F, bytes: &[u8]) -> io::Result<()>
         written += count;
     }
     file.flush()
-}
-
-#[cfg(test)]
-mod tests {
-    use super::*;
-
-    // Four bytes that move one by one. Each second call is interrupted, and past the end a write fails.
-    #[derive(Drop)]
-    struct Slow {
-        bytes: [u8; 4],
-        at: usize,
-        calls: u32,
-    }
-
-    impl Slow {
-        fn turn(&mut self) -> io::Result<()> {
-            self.calls = self.calls.wrapping_add(1);
-            if self.calls % 2 == 1 {
-                return Err(io::Error::from(ErrorKind::Interrupted));
-            }
-            Ok(())
-        }
-    }
-
-    impl Read for Slow {
-        fn read(&mut self, buf: &mut [u8]) -> io::Result<usize> {
-            self.turn()?;
-            let (Some(byte), Some(first)) = (self.bytes.get(self.at), buf.first_mut()) else {
-                return Ok(0);
-            };
-            *first = *byte;
-            self.at += 1;
-            Ok(1)
-        }
-    }
-
-    impl Write for Slow {
-        fn write(&mut self, buf: &[u8]) -> io::Result<usize> {
-            self.turn()?;
-            let (Some(place), Some(byte)) = (self.bytes.get_mut(self.at), buf.first()) else {
-                return Err(io::Error::from(ErrorKind::StorageFull));
-            };
-            *place = *byte;
-            self.at += 1;
-            Ok(1)
-        }
-
-        fn flush(&mut self) -> io::Result<()> {
-            Ok(())
-        }
-    }
-
-    #[test]
-    fn moves_all_by_pieces(rt: HostRuntime) {
-        let mut from = Slow {
-            bytes: *b"abcd",
-            at: 0,
-            calls: 0,
-        };
-        let mut into = *b".......";
-        assert_eq!(rt; read_full(&mut from, &mut into[..3]).ok(), Some(3));
-        assert_eq!(rt; read_full(&mut from, &mut into[3..]).ok(), Some(1));
-        assert_eq!(rt; into, *b"abcd...");
-        let mut to = Slow {
-            bytes: *b"....",
-            at: 0,
-            calls: 0,
-        };
-        assert!(rt; write_full(&mut to, b"abc").is_ok());
-        assert_eq!(rt; to.bytes, *b"abc.");
-        let failed = write_full(&mut to, b"de").err();
-        assert_eq!(rt;
-            failed.map(|error| error.kind()),
-            Some(ErrorKind::StorageFull)
-        );
-        assert_eq!(rt; to.bytes, *b"abcd");
-    }
 }

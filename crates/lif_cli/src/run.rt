@@ -6,6 +6,9 @@ ghost use Rattle.lif_top.specs.Codes.{code_of};
 ghost use Rattle.lif_top.specs.declared.status.Status.{Status};
 ghost use Rattle.lif_cli.specs.Run.{RunsWords};
 
+#[cfg(test)]
+mod tests;
+
 use lif_outside::{Sink, Store};
 use lif_top::{Status, lif};
 use std::alloc::Global;

@@ -6,8 +6,6 @@ use Rattle.std.specs.Cmp.Lexicographic.{slice_cmp}
 use Rattle.std.proofs.lemmas.Bool.{cases_Bool, cond-false, false_from_ne_true, false≢true}
 use Rattle.std.proofs.lemmas.Map.Text.{btree_map_updates_text}
 use Rattle.std.proofs.lemmas.Slice.Eq.{bytes_eq-Decides}
-use Rattle.lif_outside.specs.Events.{Event, append_event, Follow}
-use Rattle.lif_outside.specs.EventLaws.{follow_once}
 use Rattle.lif_outside.specs.Files.{Files, SameFiles}
 use Rattle.lif_outside.specs.Memory.{contents, SetsFile}
 

@@ -1,16 +1,14 @@
 -- What a call on the store in memory accounts for, by what it did to the files and to the count of faults.
-use Rattle.std.proofs.Common.{◌≡◌, ◌≤◌, ◌<◌, ◌-◌, ◌+◌, ◌++◌, ◌∷◌, ℕ, List, [], Some, None, Ok, Err, length, take, drop, min, IsSome, is_some, refl, sym, ap, subst, ◌∙◌, inl, inr, arith}
-use Rattle.std.specs.Prelude.{Result, unwrap_or, ◌⊎◌}
-use Rattle.std.proofs.Math.Nat.{le_refl}
-use Rattle.std.proofs.lemmas.List.{length-take, length-drop, take_min}
-use Rattle.lif_outside.specs.declared.Failed.{Failed}
+use Rattle.std.proofs.Common.{◌≡◌, ◌≤◌, ◌-◌, ◌++◌, ◌∷◌, ℕ, List, [], Some, Ok, Err, length, take, drop, min, is_some, sym, ap, ◌∙◌, inr, arith}
+use Rattle.std.specs.Prelude.{unwrap_or}
+use Rattle.std.proofs.lemmas.List.{length-take}
 use Rattle.lif_outside.specs.declared.memory.MemStore.{MemStore}
 use Rattle.lif_outside.specs.AccountLaws.{read_accounts, append_accounts}
 use Rattle.lif_outside.specs.CountLaws.{one_more-rose}
 use Rattle.lif_outside.specs.Counts.{one_more, KeepsCounts}
-use Rattle.lif_outside.specs.Events.{Event, read, appended, append_failed, Gives}
+use Rattle.lif_outside.specs.Events.{read, appended, append_failed}
 use Rattle.lif_outside.specs.EventLaws.{follow_once}
-use Rattle.lif_outside.specs.Files.{Files, SameFiles}
+use Rattle.lif_outside.specs.Files.{SameFiles}
 use Rattle.lif_outside.specs.Memory.{files_in, HasFile, path_faults, faults_of, calls_in, SetsFile}
 use Rattle.lif_outside.specs.ToldLaws.{becomes_told}
 use Rattle.lif_outside.proofs.Contents.{writes_keep}

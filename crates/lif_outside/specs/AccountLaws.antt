@@ -1,12 +1,12 @@
 -- What calls account for: none, one, and one after another.
-use Rattle.std.specs.Prelude.{◌≡◌, ◌⊎◌, ◌≤◌, ◌<◌, ℕ, zero, suc, List, [], ◌∷◌, ◌++◌, Option, Result, Ok, Err, OnOk, OnErr, Contains, length}
-use Rattle.std.proofs.Common.{refl, sym, ap, ◌∙◌, subst, arith, get_or, ⊎_elim}
+use Rattle.std.specs.Prelude.{◌≡◌, ◌≤◌, ◌<◌, ℕ, zero, suc, List, [], ◌∷◌, ◌++◌, Option, Result, Ok, Err, OnOk, OnErr, Contains}
+use Rattle.std.proofs.Common.{refl, subst, arith, ⊎_elim}
 use Rattle.std.proofs.Math.Nat.{le_refl, le_trans}
 use Rattle.std.proofs.lemmas.List.Elements.{Contains-append_cases}
 use Rattle.lif_outside.specs.declared.Failed.{Failed}
 use Rattle.lif_outside.specs.Counts.{Rose, KeepsCounts}
 use Rattle.lif_outside.specs.CountLaws.{rose_then, then_rose}
-use Rattle.lif_outside.specs.Events.{Event, read, read_failed, created, create_failed, appended, append_failed, read_event, create_event, append_event, Follow}
+use Rattle.lif_outside.specs.Events.{Event, read_failed, created, create_failed, append_failed, read_event, create_event, append_event, Follow}
 use Rattle.lif_outside.specs.EventLaws.{follow-append}
 use Rattle.lif_outside.specs.Files.{Files}
 use Rattle.lif_outside.specs.Puts.{Put, said, put_failed, put_event, Grow}

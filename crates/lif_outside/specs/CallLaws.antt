@@ -1,5 +1,5 @@
 -- Calls of which something holds, none and one after another.
-use Rattle.std.specs.Prelude.{List, [], ◌++◌}
+use Rattle.std.specs.Prelude.{List, ◌++◌}
 use Rattle.lif_outside.specs.Calls.{ByCalls}
 
 module _ {S E : Type 0} {calls : List E → S → S → Type 0} where

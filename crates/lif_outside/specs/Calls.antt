@@ -14,12 +14,12 @@ pub record ByCalls {S E : Type 0} (calls : List E → S → S → Type 0) (old n
   pub holds : P made
 
 -- the calls that were made on a store, of which this holds
-abbrev pub Calls : {S : Type 0} → StoreGhosts S → S → S → (List Event → Type 0) → Type 0
-Calls g old new P = ByCalls g.calls old new P
+abbrev pub MakesCalls : {S : Type 0} → StoreGhosts S → S → S → (List Event → Type 0) → Type 0
+MakesCalls g old new P = ByCalls g.calls old new P
 
 -- the puts that were made on a sink, of which this holds
-abbrev pub Puts : {C : Type 0} → SinkGhosts C → C → C → (List Put → Type 0) → Type 0
-Puts g old new P = ByCalls g.puts old new P
+abbrev pub MakesPuts : {C : Type 0} → SinkGhosts C → C → C → (List Put → Type 0) → Type 0
+MakesPuts g old new P = ByCalls g.puts old new P
 
 -- no count of a store falls, and what was made stays made
 abbrev pub KeepsStore : {S : Type 0} → StoreGhosts S → S → S → Type 0
@@ -45,8 +45,8 @@ pub record Outside : Type 0 where
   pub said : Option (List ℕ)
   pub say_faults : ℕ
 
-abbrev pub outside : {S C : Type 0} → StoreGhosts S → SinkGhosts C → S → C → Outside
-outside g h store say = record {
+abbrev pub outside_at : {S C : Type 0} → StoreGhosts S → SinkGhosts C → S → C → Outside
+outside_at g h store say = record {
   files = g.files store;
   read_faults = g.read_faults store;
   write_faults = g.write_faults store;

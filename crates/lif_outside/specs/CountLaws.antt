@@ -1,8 +1,8 @@
 -- What follows of counts that rose and never fall.
-use Rattle.std.specs.Prelude.{◌≡◌, ℕ, ◌+◌, ◌-◌, ◌^◌, ◌≤◌, min, List}
+use Rattle.std.specs.Prelude.{◌≡◌, ℕ, ◌+◌, ◌-◌, ◌^◌, ◌≤◌}
 use Rattle.std.proofs.Common.{sym, subst}
 use Rattle.std.proofs.Math.Nat.{le_refl, le_trans, add-le-add, le-min, min-le_left, min-le_right}
-use Rattle.lif_outside.specs.Counts.{one_more, Rose, KeepsCounts}
+use Rattle.lif_outside.specs.Counts.{one_more, Rose}
 
 -- a count that rose has risen, also where it grew before or grows afterwards
 pub rose_then : (a b c : ℕ) → Rose a b → b ≤ c → Rose a c

@@ -1,9 +1,9 @@
 -- What the deeds of a command account for, over the whole outside.
-use Rattle.std.specs.Prelude.{◌≤◌, ℕ, List, Contains}
+use Rattle.std.specs.Prelude.{ℕ, List, Contains}
 use Rattle.lif_outside.specs.declared.sink.Sink.{Ghosts as SinkGhosts}
 use Rattle.lif_outside.specs.declared.store.Store.{Ghosts as StoreGhosts}
 use Rattle.lif_outside.specs.Accounts.{StoreAccounts, SinkAccounts}
-use Rattle.lif_outside.specs.Calls.{Deeds, Outside, outside}
+use Rattle.lif_outside.specs.Calls.{Deeds, Outside, outside_at}
 use Rattle.lif_outside.specs.Counts.{Rose}
 use Rattle.lif_outside.specs.Events.{read_failed, create_failed, append_failed, Follow}
 use Rattle.lif_outside.specs.Puts.{put_failed, Grow}
@@ -20,7 +20,7 @@ pub record Accounted (deeds : Deeds) (before after : Outside) : Type 0 where
 
 pub accounted : {S C : Type 0} (g : StoreGhosts S) (h : SinkGhosts C) (deeds : Deeds) (store_old store_new : S) (say_old say_new : C)
     → StoreAccounts g.files g.read_faults g.write_faults g.made deeds.calls store_old store_new → SinkAccounts h.written h.faults deeds.puts say_old say_new
-    → Accounted deeds (outside g h store_old say_old) (outside g h store_new say_new)
+    → Accounted deeds (outside_at g h store_old say_old) (outside_at g h store_new say_new)
 accounted g h deeds store_old store_new say_old say_new store say = record {
   files = store.content;
   failed_read = store.failed_read;

@@ -2,11 +2,11 @@
 use Rattle.std.specs.Prelude.{◌≡◌, ◌≢◌, ◌⊎◌, ℕ, Bool, true, false, List, [], ◌∷◌, ◌++◌, Option}
 use Rattle.std.specs.List.{AllByRecursion}
 use Rattle.std.specs.Str.{bytes_eq}
-use Rattle.std.proofs.Common.{refl, sym, ap, ◌∙◌, subst, inl, inr, ⊎_elim}
+use Rattle.std.proofs.Common.{refl, sym, ◌∙◌, subst, inl, inr, ⊎_elim}
 use Rattle.std.proofs.lemmas.Bool.{false≢true}
 use Rattle.std.proofs.lemmas.Slice.Eq.{bytes_eq-Decides}
 use Rattle.lif_outside.specs.Events.{Event, read, read_failed, created, create_failed, appended, append_failed, path_of, Changes, HappensAt, HappenAt, Follow}
-use Rattle.lif_outside.specs.Files.{Files, SameFiles}
+use Rattle.lif_outside.specs.Files.{Files}
 
 -- calls and then more calls are the calls of both lists
 pub happen-append : (path : List ℕ) (first later : List Event) (a b c : Option (List ℕ)) → HappenAt path first a b → HappenAt path later b c → HappenAt path (first ++ later) a c

@@ -1,7 +1,7 @@
 -- Runs of calls: reads of a whole file, and appends to files.
-use Rattle.std.specs.Prelude.{◌≡◌, ◌<◌, ◌≤◌, ◌+◌, ℕ, List, [], ◌∷◌, ◌++◌, length, take, if◌then◌else◌, Contains}
+use Rattle.std.specs.Prelude.{◌≡◌, ◌<◌, ◌≤◌, ◌+◌, ℕ, List, [], ◌∷◌, ◌++◌, length, if◌then◌else◌, Contains}
 use Rattle.std.specs.Str.{bytes_eq}
-use Rattle.lif_outside.specs.Events.{Event, read, read_failed, created, create_failed, appended, append_failed}
+use Rattle.lif_outside.specs.Events.{Event, read, read_failed, appended}
 
 -- The calls are reads of a path from a place on, each from where the one before ended, and each gave something.
 abbrev pub AreReadsFrom : ℕ → List ℕ → List Event → Type 0

@@ -1,6 +1,6 @@
 -- What follows of content that is told.
 use Rattle.std.specs.Prelude.{◌≡◌, Option, Some, None, is_some, true}
-use Rattle.std.proofs.Common.{refl, sym, ap, ◌∙◌, subst₂}
+use Rattle.std.proofs.Common.{refl, ap, ◌∙◌, subst₂}
 use Rattle.std.proofs.lemmas.Bool.{false≢true}
 use Rattle.lif_outside.specs.Told.{Told, Becomes}
 

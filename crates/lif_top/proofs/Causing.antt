@@ -1,16 +1,16 @@
 -- Which calls of `send` its statuses of faults come from.
-use Rattle.std.proofs.Common.{◌≡◌, ◌≢◌, ◌++◌, ◌∷◌, List, ℕ, [], true, false, refl, sym, subst, ◌∙◌, inl, inr, ⊎_elim}
-use Rattle.std.specs.Prelude.{◌⊎◌, ◌||◌, Bool, IsTrue}
+use Rattle.std.proofs.Common.{◌≡◌, ◌≢◌, ◌∷◌, List, ℕ, [], true, false, refl, sym, subst, ◌∙◌, inl, inr, ⊎_elim}
+use Rattle.std.specs.Prelude.{◌||◌, Bool, IsTrue}
 use Rattle.std.specs.List.{list_any}
 use Rattle.std.proofs.lemmas.Bool.{false≢true}
 use Rattle.lif_outside.specs.Calls.{Deeds}
-use Rattle.lif_outside.specs.Events.{Event, created, append_failed, is_failed_read, is_failed_write}
+use Rattle.lif_outside.specs.Events.{Event}
 use Rattle.lif_outside.specs.FaultLaws.{HaveFailed, failed-append, reads_unfailed, appends_unfailed, whole_unfailed, fault_failed}
-use Rattle.lif_outside.specs.Puts.{Put, said, put_failed, is_failed_put}
+use Rattle.lif_outside.specs.Puts.{is_failed_put}
 use Rattle.lif_outside.specs.Runs.{ReadsPastLimit, ReadsToFault}
 use Rattle.code_file.specs.Items.{bytes_of}
 use Rattle.lif_top.specs.Causes.{HasCauses}
-use Rattle.lif_top.specs.Send.Ends.{code_limit, source_limit, line_of_sent, AfterCode, AppendsAll, AppendsPart, AfterCreate, NoCall, Fills, FillStops, Delivers, Stops, Ends}
+use Rattle.lif_top.specs.Send.Ends.{code_limit, source_limit, AfterCode, AppendsAll, AppendsPart, AfterCreate, NoCall, Fills, FillStops, Delivers, Ends}
 use Rattle.lif_top.specs.Words.{Send}
 use Rattle.lif_top.specs.declared.status.Status.{Status}
 use Rattle.lif_top.specs.declared.status.Status.TheVariants.{Done, Usage, CodeRefused, ReadFault, WriteFault, TooLong, OutOfMemory}

@@ -1,26 +1,25 @@
 -- What `send` leaves, by the calls that it has made.
-use Rattle.std.proofs.Common.{◌≡◌, ◌≢◌, ◌≤◌, ◌<◌, ◌+◌, ◌-◌, ◌++◌, ◌∷◌, ℕ, List, [], Some, length, take, min, refl, sym, ap, subst, ◌∙◌, inl, inr, ⊎_elim, arith, lit<}
+use Rattle.std.proofs.Common.{◌≡◌, ◌≢◌, ◌+◌, ◌++◌, ◌∷◌, ℕ, List, [], Some, length, take, min, refl, sym, ap, subst, ◌∙◌, inl, inr, ⊎_elim, arith, lit<}
 use Rattle.std.specs.Prelude.{◌⊎◌, Option, unwrap_or, Contains}
 use Rattle.std.specs.List.{AllByRecursion}
-use Rattle.std.proofs.lemmas.List.{append-nil, append_assoc, length-append, take_min, take-append-le}
+use Rattle.std.proofs.lemmas.List.{append-nil, take_min, take-append-le}
 use Rattle.std.proofs.Math.Seq.{take-append-add}
 use Rattle.std.proofs.lemmas.List.Elements.{Contains-append_left, Contains-append_right, Contains-push}
 use Rattle.lif_outside.specs.AccountLaws.{contains_one}
 use Rattle.lif_outside.specs.Calls.{Deeds, Outside}
-use Rattle.lif_outside.specs.Counts.{Rose}
 use Rattle.lif_outside.specs.DeedLaws.{Accounted}
-use Rattle.lif_outside.specs.Events.{Event, read, read_failed, created, create_failed, appended, append_failed, HappenAt, Follow}
+use Rattle.lif_outside.specs.Events.{Event, created, create_failed, append_failed, HappenAt, Follow}
 use Rattle.lif_outside.specs.EventLaws.{KeepsPath, happen-split, happens_here, happens_elsewhere, happen_keeping}
 use Rattle.lif_outside.specs.Files.{Files, SameFiles, SameBut, Holds, HoldsPrefix, IsSameOrEmpty}
-use Rattle.lif_outside.specs.Puts.{Put, said, put_failed, Grow, SaysLine}
-use Rattle.lif_outside.specs.Runs.{ReadsWhole, ReadsToFault, ReadsPastLimit, ReadsSome, bytes_appended}
+use Rattle.lif_outside.specs.Puts.{said, put_failed, Grow, SaysLine}
+use Rattle.lif_outside.specs.Runs.{ReadsWhole, ReadsPastLimit, bytes_appended}
 use Rattle.lif_outside.specs.RunLaws.{all_append, reads_keep, whole_keeps, fault_keeps, fault_there, whole_held, long_held, appends_keep, appends_held}
 use Rattle.lif_outside.specs.Told.{Told, Becomes}
 use Rattle.lif_outside.specs.ToldLaws.{becomes_weaker, told_before}
 use Rattle.code_file.specs.Items.{bytes_of}
 use Rattle.node_program.specs.declared.code.Code.{Code}
-use Rattle.lif_top.specs.Send.Ends.{code_limit, source_limit, output_path, line_of_sent, ReadsCode, AfterCode, AppendsAll, AppendsPart, AfterCreate, NoCall, Fills, FillsPart, FillStops, Stops, Ends}
-use Rattle.lif_top.specs.Send.Leaves.{LeavesAll, LeavesAt, HoldsLong, Adds, AddsPart, SaysOrFails, HasCodeFile, WithCode, HasSource, LeavesSource, LeavesUnmade, LeavesUnread, LeavesLong, LeavesPart, HasNoCodeFile, LeavesStopped, Leaves}
+use Rattle.lif_top.specs.Send.Ends.{code_limit, source_limit, output_path, line_of_sent, ReadsCode, AfterCode, AppendsAll, AppendsPart, AfterCreate, NoCall, Fills, FillStops, Stops, Ends}
+use Rattle.lif_top.specs.Send.Leaves.{HoldsLong, Adds, AddsPart, SaysOrFails, WithCode, LeavesSource, LeavesUnmade, LeavesUnread, LeavesLong, LeavesPart, HasNoCodeFile, LeavesStopped, Leaves}
 use Rattle.lif_top.specs.Words.{Send}
 use Rattle.lif_top.specs.declared.status.Status.{Status}
 use Rattle.lif_top.specs.declared.status.Status.TheVariants.{Done, Usage, CodeRefused, ReadFault, WriteFault, TooLong, OutOfMemory}

@@ -7,6 +7,7 @@ use Rattle.std.proofs.lemmas.Bool.{false_from_ne_true, lt-ltb}
 use Rattle.std.proofs.lemmas.List.Elements.{All-head}
 use Rattle.std.proofs.lemmas.Slice.Eq.{bytes_eq-Decides}
 use Rattle.gf_tables.specs.declared.kind.FieldKind.TheVariants.{Eight}
+use Rattle.gf_tables.specs.KindField.{octic}
 use Rattle.gf_tables.specs.Product.{octet_polynomial, product}
 use Rattle.gf_tables.specs.ProductLaws.{product_zero_right}
 use Rattle.net_model.specs.Name.{IsName}
@@ -99,7 +100,7 @@ network a b l way first second apart link = record {
 nonzero : (times entry : ℕ) → product Eight entry times ≡ 1 → nat_lt 0 times ≡ true
 unfolding product
 nonzero zero entry inverse =
-    let none = product_zero_right octet_polynomial (omega arith, omega arith) entry in
+    let none = product_zero_right octet_polynomial octic entry in
     absurd (omega (arith, inverse, none))
 nonzero (suc times) entry inverse = lt-ltb 0 (suc times) (omega arith)
 

@@ -8,6 +8,7 @@ use Rattle.std.proofs.lemmas.List.Elements.{All-nil, All-cons}
 use Rattle.std.proofs.lemmas.Slice.Eq.{bytes_eq-Decides}
 use Rattle.gf_tables.specs.declared.kind.FieldKind.{FieldKind}
 use Rattle.gf_tables.specs.declared.kind.FieldKind.TheVariants.{Eight}
+use Rattle.gf_tables.specs.KindField.{octic}
 use Rattle.gf_tables.specs.Product.{octet_polynomial, product}
 use Rattle.gf_tables.specs.ProductLaws.{product_one_right, product_zero_right}
 use Rattle.net_model.specs.Demands.{sinks_of_demands, demand_count}
@@ -209,7 +210,7 @@ undone entry times back =
     let taken = combination-single Eight 1 entry (product Eight times 1 ∷ []) refl in
     let both : product Eight entry (product Eight times 1) ∷ [] ≡ 1 ∷ [] =
     sym taken ∙ ap (λ (r : List ℕ). combination Eight 1 (entry ∷ []) (r ∷ [])) (sym carried) ∙ back in
-    let unit = product_one_right octet_polynomial (omega arith, omega arith) times in
+    let unit = product_one_right octet_polynomial octic times in
     ap (product Eight entry) (sym unit) ∙ ap (λ (r : List ℕ). get_or r 0 0) both
 
 -- zero doesn't give the 1 back
@@ -217,7 +218,7 @@ not_undone : (entry : ℕ) → combination Eight 1 (entry ∷ []) (zero_row 1 �
 unfolding product
 not_undone entry back =
     let taken = combination-single Eight 1 entry (0 ∷ []) refl in
-    let zero_is = product_zero_right octet_polynomial (omega arith, omega arith) entry in
+    let zero_is = product_zero_right octet_polynomial octic entry in
     let one_is = ap (λ (r : List ℕ). get_or r 0 0) (sym taken ∙ back) in
     absurd (omega (arith, zero_is, one_is))
 

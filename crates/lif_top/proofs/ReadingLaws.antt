@@ -1,9 +1,8 @@
 -- Reads of a file, one after another.
-use Rattle.std.proofs.Common.{◌≡◌, ◌≤◌, ◌<◌, ◌+◌, ◌++◌, ◌∷◌, ℕ, List, [], Ok, Err, true, false, length, refl, sym, ap, subst, ◌∙◌, arith}
-use Rattle.std.specs.Prelude.{IfErr}
+use Rattle.std.proofs.Common.{◌≡◌, ◌≤◌, ◌<◌, ◌+◌, ◌++◌, ◌∷◌, ℕ, List, [], Ok, Err, true, false, length, sym, ap, subst, ◌∙◌, arith}
 use Rattle.std.proofs.lemmas.List.{append-nil, length-append}
 use Rattle.lif_outside.specs.Events.{Event, read, read_failed}
-use Rattle.lif_outside.specs.Runs.{AreReadsFrom, bytes_read, ReadsWhole, ReadsToFault, ReadsPastLimit, ReadsSome}
+use Rattle.lif_outside.specs.Runs.{AreReadsFrom, bytes_read, ReadsWhole}
 use Rattle.lif_outside.specs.RunLaws.{reads_more, bytes_read-append}
 use Rattle.lif_top.specs.Reading.{ReadsMore, StopsReading}
 use Rattle.lif_top.specs.declared.reading.ReadRefusal.{ReadRefusal}

@@ -1,12 +1,12 @@
 -- The calls of `send`, stage by stage.
 use Rattle.std.proofs.Common.{◌≡◌, ◌+◌, ◌*◌, ◌++◌, ◌∷◌, ℕ, List, [], Ok, Err, take, drop, refl, sym, ap, subst, ◌∙◌, inl, inr, arith}
 use Rattle.std.specs.Prelude.{Result, OnOk, Contains}
-use Rattle.std.proofs.lemmas.List.{append-nil, append_assoc, take-append-drop}
+use Rattle.std.proofs.lemmas.List.{append-nil, take-append-drop}
 use Rattle.lif_outside.specs.declared.Failed.{Failed}
 use Rattle.lif_outside.specs.Calls.{ByCalls}
 use Rattle.lif_outside.specs.CallLaws.{calls_of}
 use Rattle.lif_outside.specs.Events.{Event, created, appended, append_failed, append_event}
-use Rattle.lif_outside.specs.Runs.{AreAppendsTo, bytes_appended}
+use Rattle.lif_outside.specs.Runs.{bytes_appended}
 use Rattle.lif_outside.specs.RunLaws.{appends-append, bytes_appended-append, bytes_appended-one}
 use Rattle.lif_outside.specs.Puts.{Put, SaysLine}
 use Rattle.node_program.specs.declared.code.Code.{Code}

@@ -1,6 +1,6 @@
 //! Whole files, read within a limit.
 ghost use Rattle.std.specs.Prelude.{◌≡◌, ◌≤◌, ◌<◌, ◌+◌, ◌^◌, [], length, true, IfOk, IfErr, IsErrOf, vec_len, vec_capacity};
-ghost use Rattle.lif_outside.specs.Calls.{Calls};
+ghost use Rattle.lif_outside.specs.Calls.{MakesCalls};
 ghost use Rattle.lif_outside.specs.Runs.{ReadsWhole};
 ghost use Rattle.lif_top.specs.Reading.{ReadsMore, StopsReading};
 
@@ -48,7 +48,7 @@ fn read_more<S: Store>(
     requires limit { limit < 2 ^ 41 }
     requires within { vec_len front.old ≤ limit }
     requires chunk { 0 < length chunk.old }
-    ensures reads { Calls S.Store store.old store.new (ReadsMore path.now limit front.old.items front.new.items result) }
+    ensures reads { MakesCalls S.Store store.old store.new (ReadsMore path.now limit front.old.items front.new.items result) }
     ensures within { vec_len front.new ≤ limit + 1 }
     ensures more { result ≡ Ok true → vec_len front.old < vec_len front.new }
     ensures memory { IsErrOf result ReadRefusal.OutOfMemory → vec_capacity front.old < limit + 1 }
@@ -76,8 +76,8 @@ pub fn read_whole<S: Store>(
 ) -> Result<Vec<u8>, ReadRefusal>
     requires empty { empty.items ≡ [] }
     requires limit { limit < 2 ^ 41 }
-    ensures whole { IfOk result (λ bytes. Calls S.Store store.old store.new (ReadsWhole path.now limit bytes.items)) }
-    ensures refused { IfErr result (λ refusal. Calls S.Store store.old store.new (StopsReading path.now limit refusal)) }
+    ensures whole { IfOk result (λ bytes. MakesCalls S.Store store.old store.new (ReadsWhole path.now limit bytes.items)) }
+    ensures refused { IfErr result (λ refusal. MakesCalls S.Store store.old store.new (StopsReading path.now limit refusal)) }
     ensures short { IfOk result (λ bytes. length bytes.items ≤ limit) }
     ensures memory { IsErrOf result ReadRefusal.OutOfMemory → vec_capacity empty < limit + 1 }
 {

@@ -1,6 +1,6 @@
 //! What the program says.
 ghost use Rattle.std.specs.Prelude.{◌≡◌, ◌≤◌, ◌+◌, ◌++◌, ◌∷◌, [], length};
-ghost use Rattle.lif_outside.specs.Calls.{Puts};
+ghost use Rattle.lif_outside.specs.Calls.{MakesPuts};
 ghost use Rattle.lif_outside.specs.Puts.{put_event, SaysLine};
 ghost use Rattle.lif_top.specs.Lines.{refusal_line, sent_line};
 
@@ -59,7 +59,7 @@ fn refusal_line(refusal: Status) -> &'static [u8]
 /// Says the line of a refusal, and answers the refusal, which stands also where the line couldn't be said.
 pub fn refuse<C: Sink>(refusal: Status, say: &mut C) -> Status
     ensures refusal { result ≡ refusal }
-    ensures said { Puts C.Sink say.old say.new (SaysLine (refusal_line refusal)) }
+    ensures said { MakesPuts C.Sink say.old say.new (SaysLine (refusal_line refusal)) }
 {
     let _ = say.put(refusal_line(refusal));
     refusal

@@ -1,6 +1,6 @@
 //! The command `send`.
 ghost use Rattle.std.specs.Prelude.{◌≡◌, ◌≤◌, ◌+◌, ℕ, List, [], IfOk, IfErr, string_bytes, vec_capacity};
-ghost use Rattle.lif_outside.specs.Calls.{Calls, Does};
+ghost use Rattle.lif_outside.specs.Calls.{MakesCalls, Does};
 ghost use Rattle.lif_top.specs.Send.Ends.{source_limit, Fills, FillStops, Delivers, Stops, Ends};
 ghost use Rattle.lif_top.specs.Send.Ready.{IsReady};
 ghost use Rattle.lif_top.specs.Transfer.{AreCounts};
@@ -35,8 +35,8 @@ fn fill<S: Store>(
     requires empty { empty.items ≡ [] }
     requires room { source_limit + 1 ≤ vec_capacity empty }
     ensures filled { IfOk result (λ counts. (bytes : List ℕ) × AreCounts bytes counts
-        × Calls S.Store store.old store.new (Fills source.now output.now bytes)) }
-    ensures stops { IfErr result (λ status. Calls S.Store store.old store.new (FillStops source.now output.now status)) }
+        × MakesCalls S.Store store.old store.new (Fills source.now output.now bytes)) }
+    ensures stops { IfErr result (λ status. MakesCalls S.Store store.old store.new (FillStops source.now output.now status)) }
 {
     let Ok(()) = store.create(output) else {
         return Err(Status::WriteFault);
@@ -62,8 +62,8 @@ fn prepare<S: Store>(
     words: &SendWords<'_>,
     store: &mut S,
 ) -> Result<Prepared, Status>
-    ensures ready { IfOk result (λ ready. Calls S.Store store.old store.new (IsReady (paths_of words.now) ready)) }
-    ensures stops { IfErr result (λ status. Calls S.Store store.old store.new (Stops (paths_of words.now) status)) }
+    ensures ready { IfOk result (λ ready. MakesCalls S.Store store.old store.new (IsReady (paths_of words.now) ready)) }
+    ensures stops { IfErr result (λ status. MakesCalls S.Store store.old store.new (Stops (paths_of words.now) status)) }
 {
     let bytes = read_whole(store, words.code, CODE_LIMIT, Vec::new(alloc))?;
     let Some(link) = read_one_link(&bytes) else {
@@ -86,8 +86,8 @@ fn deliver<S: Store>(
     store: &mut S,
 ) -> Result<SentCounts, Status>
     ensures delivered { IfOk result (λ counts. (bytes : List ℕ) × AreCounts bytes counts
-        × Calls S.Store store.old store.new (Delivers (paths_of words.now) bytes)) }
-    ensures stops { IfErr result (λ status. Calls S.Store store.old store.new (Stops (paths_of words.now) status)) }
+        × MakesCalls S.Store store.old store.new (Delivers (paths_of words.now) bytes)) }
+    ensures stops { IfErr result (λ status. MakesCalls S.Store store.old store.new (Stops (paths_of words.now) status)) }
 {
     let Prepared {
         carrier,

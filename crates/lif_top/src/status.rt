@@ -1,5 +1,6 @@
 //! How the program ends.
 use std::alloc::AllocError;
+use thiserror::Error;
 
 /// How the program ended. Each refusal says its line.
 #[derive(Clone, Copy, Debug, PartialEq, Eq)]
@@ -21,9 +22,10 @@ pub enum Status {
 }
 
 /// Why the bytes of a code are refused.
-#[derive(Clone, Copy, Debug, PartialEq, Eq)]
+#[derive(Clone, Copy, Debug, PartialEq, Eq, Error)]
 pub enum CodeRefusal {
     /// They aren't the file of a code that is built.
+    #[error("the bytes aren't the file of a code that is built")]
     Unbuilt,
 }
 

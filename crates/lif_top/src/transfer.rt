@@ -1,8 +1,8 @@
 //! A source that goes over the one link, generation by generation, to the sink's file.
 ghost use Rattle.std.specs.Prelude.{◌≡◌, ◌≤◌, ◌∷◌, [], length, IfOk, OnOk, OnErr};
-ghost use Rattle.lif_outside.specs.Calls.{Calls};
+ghost use Rattle.lif_outside.specs.Calls.{MakesCalls};
 ghost use Rattle.lif_outside.specs.Events.{append_failed};
-ghost use Rattle.lif_top.specs.Send.Ends.{AppendsAll, AppendsPart};
+ghost use Rattle.lif_top.specs.Send.Ends.{source_limit, AppendsAll, AppendsPart};
 ghost use Rattle.lif_top.specs.Transfer.{AreCounts};
 
 use crate::RATE;
@@ -33,8 +33,8 @@ fn carry_block<S: Store>(
     requires fits { length piece.now ≤ 1020 }
     requires block { length block.old ≡ 1024 }
     requires row { length row.old ≡ 1024 }
-    ensures appended { OnOk result (Calls S.Store store.old store.new (AppendsAll output.now piece.now)) }
-    ensures failed { OnErr result (Calls S.Store store.old store.new (λ calls. calls ≡ append_failed output.now piece.now ∷ [])) }
+    ensures appended { OnOk result (MakesCalls S.Store store.old store.new (AppendsAll output.now piece.now)) }
+    ensures failed { OnErr result (MakesCalls S.Store store.old store.new (λ calls. calls ≡ append_failed output.now piece.now ∷ [])) }
 {
     carrier.carry(piece, block, row);
     let received = counted(block);
@@ -52,10 +52,10 @@ pub fn carry_source<S: Store>(
     source: &[u8],
 ) -> Result<SentCounts, Failed>
     requires made { S.made store.old output.now }
-    requires short { length source.now ≤ 67108864 }
+    requires short { length source.now ≤ source_limit }
     ensures counted { IfOk result (AreCounts source.now) }
-    ensures appended { OnOk result (Calls S.Store store.old store.new (AppendsAll output.now source.now)) }
-    ensures failed { OnErr result (Calls S.Store store.old store.new (AppendsPart output.now source.now)) }
+    ensures appended { OnOk result (MakesCalls S.Store store.old store.new (AppendsAll output.now source.now)) }
+    ensures failed { OnErr result (MakesCalls S.Store store.old store.new (AppendsPart output.now source.now)) }
 {
     let capacity = cap(RATE) as usize;
     let generations = source.len() / capacity + 1;

@@ -1,5 +1,5 @@
 -- Which status `send` gives, memory and faults aside.
-use Rattle.std.specs.Prelude.{◌≡◌, ◌≢◌, ◌⊎◌, ◌≤◌, ◌<◌, ℕ, List, length, Some}
+use Rattle.std.specs.Prelude.{◌≡◌, ◌≢◌, ◌⊎◌, ◌≤◌, ℕ, List, length, Some}
 use Rattle.lif_outside.specs.Calls.{Outside}
 use Rattle.lif_outside.specs.Counts.{Rose}
 use Rattle.lif_outside.specs.Files.{Files, Holds}

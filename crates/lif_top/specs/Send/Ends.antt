@@ -12,7 +12,7 @@ use Rattle.lif_top.specs.Lines.{sent_line, code_refused_line, read_fault_line, w
 use Rattle.lif_top.specs.OneLink.{IsOneLink, IsNoFile, sink_name}
 use Rattle.lif_top.specs.Words.{Send}
 use Rattle.lif_top.specs.declared.status.Status.{Status}
-use Rattle.lif_top.specs.declared.status.Status.TheVariants.{Done, Usage, CodeRefused, ReadFault, WriteFault, TooLong, OutOfMemory}
+use Rattle.lif_top.specs.declared.status.Status.TheVariants.{Done, CodeRefused, ReadFault, WriteFault, TooLong, OutOfMemory}
 
 -- the greatest lengths of a code file and of a source
 abbrev pub code_limit : ℕ

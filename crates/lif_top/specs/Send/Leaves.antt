@@ -12,7 +12,7 @@ use Rattle.lif_top.specs.OneLink.{IsOneLink, IsNoFile}
 use Rattle.lif_top.specs.Send.Ends.{code_limit, source_limit, output_path, line_of_sent}
 use Rattle.lif_top.specs.Words.{Send}
 use Rattle.lif_top.specs.declared.status.Status.{Status}
-use Rattle.lif_top.specs.declared.status.Status.TheVariants.{Done, Usage, CodeRefused, ReadFault, WriteFault, TooLong, OutOfMemory}
+use Rattle.lif_top.specs.declared.status.Status.TheVariants.{Done, CodeRefused, ReadFault, WriteFault, TooLong, OutOfMemory}
 
 -- no file is changed
 abbrev pub LeavesAll : Outside → Outside → Type 0

@@ -1,10 +1,10 @@
-use Rattle.std.proofs.Common.{◌≡◌, [], None, IfNone, IfSome, map, string_bytes, refl, sym, subst}
+use Rattle.std.proofs.Common.{[], IfNone, IfSome, refl, subst}
 use Rattle.std.specs.Prelude.{Option}
-use Rattle.lif_outside.specs.Calls.{Does, outside}
+use Rattle.lif_outside.specs.Calls.{Does, outside_at}
 use Rattle.lif_outside.specs.DeedLaws.{accounted}
 use Rattle.lif_top.specs.Send.Promise.{Sends}
 use Rattle.lif_top.specs.Usage.{IsMisused}
-use Rattle.lif_top.specs.Words.{Send, send_of, paths_of}
+use Rattle.lif_top.specs.Words.{Send, paths_of}
 use Rattle.lif_top.proofs.Causing.{causes}
 use Rattle.lif_top.proofs.Complete.{answers}
 use Rattle.lif_top.proofs.Leaving.{leaves}
@@ -16,16 +16,16 @@ returns-in-Some-clause-send g c =
     let say = g.C.Sink in
     let send = paths_of c.in-Some.paths in
     let does = c.send.ensures in
-    let before = outside store say c.args.store.now c.args.say.now in
-    let after = outside store say c.send.new.store c.send.new.say in
+    let before = outside_at store say c.args.store.now c.args.say.now in
+    let after = outside_at store say c.send.new.store c.send.new.say in
     let accounts = accounted store say does.deeds c.args.store.now c.send.new.store c.args.say.now c.send.new.say
     (g.met.S.Store.accounts does.deeds.calls _ _ does.on_store) (g.met.C.Sink.accounts does.deeds.puts _ _ does.on_say) in
     let left = leaves send does.deeds before after accounts c.send.result does.holds in
     subst (λ (words : Option Send). IfSome words (λ send. Sends store say send c.args.store.now c.send.new.store c.args.say.now c.send.new.say c.send.result)) c.in-Some.ensures
     (record {
-      ends = record { deeds = does.deeds; on_store = does.on_store; on_say = does.on_say; holds = (does.holds, causes send does.deeds c.send.result does.holds) };
-      leaves = left;
-      answers = answers send before after c.send.result left;
+      of_calls = record { deeds = does.deeds; on_store = does.on_store; on_say = does.on_say; holds = (does.holds, causes send does.deeds c.send.result does.holds) };
+      of_content = left;
+      of_inputs = answers send before after c.send.result left;
     })
 
 pub returns-in-None-clause-misused : goal.returns-in-None-clause-misused

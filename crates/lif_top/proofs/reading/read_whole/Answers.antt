@@ -1,7 +1,7 @@
-use Rattle.std.proofs.Common.{◌≡◌, ◌≤◌, Ok, Err, true, false, length, subst, ap, ◌∙◌, arith}
-use Rattle.lif_outside.specs.Calls.{Calls}
-use Rattle.lif_outside.specs.CallLaws.{calls_then, calls_weaker}
-use Rattle.lif_outside.specs.Runs.{ReadsPastLimit, ReadsWhole}
+use Rattle.std.proofs.Common.{◌≤◌, Ok, Err, true, false, length, subst, ap, ◌∙◌, arith}
+use Rattle.lif_outside.specs.Calls.{MakesCalls}
+use Rattle.lif_outside.specs.CallLaws.{calls_then}
+use Rattle.lif_outside.specs.Runs.{ReadsWhole}
 use Rattle.lif_top.specs.Reading.{ReadsMore, StopsReading}
 use Rattle.lif_top.proofs.Exits.{if_err}
 use Rattle.lif_top.proofs.ReadingLaws.{Gave, gave_more, gave_all, stops_more}
@@ -14,7 +14,7 @@ returns-in_err-read_more-clause-refused g c =
     let refusal = c.in_err-read_more.field-0.0 in
     let old = c.loop-chunk.bytes.items in
     let new = c.read_more.new.front.items in
-    let last = subst (λ r. Calls g.S.Store c.loop-chunk.store c.read_more.new.store (ReadsMore path limit old new r)) c.in_err-read_more.was c.read_more.ensures.reads in
+    let last = subst (λ r. MakesCalls g.S.Store c.loop-chunk.store c.read_more.new.store (ReadsMore path limit old new r)) c.in_err-read_more.was c.read_more.ensures.reads in
     let short : length old ≤ limit = omega arith in
     let stopped = calls_then g.met.S.Store.more_calls (Gave path old) (ReadsMore path limit old new (Err refusal)) (StopsReading path limit refusal) c.loop-chunk.invariant.reads last
     (λ front later. stops_more path limit refusal old new front later short) in
@@ -26,7 +26,7 @@ returns-then-not-branch-clause-whole g c =
     let limit = c.args.limit in
     let old = c.loop-chunk.bytes.items in
     let new = c.read_more.new.front.items in
-    let last = subst (λ r. Calls g.S.Store c.loop-chunk.store c.read_more.new.store (ReadsMore path limit old new r)) (c.in_ok-read_more.was ∙ ap Ok c.if-not-branch.true) c.read_more.ensures.reads in
+    let last = subst (λ r. MakesCalls g.S.Store c.loop-chunk.store c.read_more.new.store (ReadsMore path limit old new r)) (c.in_ok-read_more.was ∙ ap Ok c.if-not-branch.true) c.read_more.ensures.reads in
     let short : length old ≤ limit = omega arith in
     calls_then g.met.S.Store.more_calls (Gave path old) (ReadsMore path limit old new (Ok false)) (ReadsWhole path limit new) c.loop-chunk.invariant.reads last
     (λ front later. gave_all path limit old new front later short)
@@ -37,7 +37,7 @@ loop-chunk-preserved g c =
     let limit = c.args.limit in
     let old = c.loop-chunk.bytes.items in
     let new = c.read_more.new.front.items in
-    let last = subst (λ r. Calls g.S.Store c.loop-chunk.store c.read_more.new.store (ReadsMore path limit old new r)) (c.in_ok-read_more.was ∙ ap Ok c.if-not-branch.false) c.read_more.ensures.reads in
+    let last = subst (λ r. MakesCalls g.S.Store c.loop-chunk.store c.read_more.new.store (ReadsMore path limit old new r)) (c.in_ok-read_more.was ∙ ap Ok c.if-not-branch.false) c.read_more.ensures.reads in
     record {
       within = c.read_more.ensures.within;
       room = omega arith;

@@ -1,7 +1,7 @@
-use Rattle.std.proofs.Common.{◌≡◌, ◌∙◌}
+use Rattle.std.proofs.Common.{◌∙◌}
 use Rattle.std.proofs.lemmas.Result.{IfOk-weaker, IfErr-weaker}
 use Rattle.lif_outside.specs.CallLaws.{calls_then}
-use Rattle.lif_top.specs.Send.Ends.{output_path, Fills, FillStops, Delivers, Stops}
+use Rattle.lif_top.specs.Send.Ends.{Fills, FillStops, Delivers, Stops}
 use Rattle.lif_top.specs.Send.Ready.{IsReady}
 use Rattle.lif_top.specs.Words.{paths_of}
 use Rattle.lif_top.proofs.SendCalls.{after_code, stops_after_code}

@@ -1,10 +1,10 @@
-use Rattle.std.proofs.Common.{◌≡◌, ◌∷◌, [], Ok, Err, refl, ap, subst, inr, arith, lit<}
+use Rattle.std.proofs.Common.{◌≡◌, ◌∷◌, [], Err, refl, ap, subst, inr, arith, lit<}
 use Rattle.lif_outside.specs.CallLaws.{calls_of, calls_then, calls_weaker}
-use Rattle.lif_outside.specs.Calls.{Calls}
+use Rattle.lif_outside.specs.Calls.{MakesCalls}
 use Rattle.lif_outside.specs.Events.{created}
 use Rattle.lif_outside.specs.Runs.{ReadsWhole}
 use Rattle.lif_top.specs.Reading.{StopsReading, status_of}
-use Rattle.lif_top.specs.Send.Ends.{source_limit, AppendsAll, AppendsPart, AfterCreate, NoCall, Fills, FillStops, FillsPart}
+use Rattle.lif_top.specs.Send.Ends.{source_limit, AppendsAll, AppendsPart, AfterCreate, NoCall, Fills, FillStops}
 use Rattle.lif_top.specs.Transfer.{AreCounts}
 use Rattle.lif_top.specs.declared.status.Status.TheVariants.{WriteFault}
 use Rattle.lif_top.proofs.Exits.{if_err}
@@ -36,7 +36,7 @@ returns-in_default-carry_source-clause-stops g c =
     let made = calls_of (λ calls. calls ≡ created output ∷ []) (created output ∷ []) c.in-Ok.ensures refl in
     let read = calls_then g.met.S.Store.more_calls _ (ReadsWhole source source_limit bytes) (λ calls. AfterCreate output calls (ReadsWhole source source_limit bytes) NoCall) made c.in_ok-bytes.ensures.whole
     (created_and_read source output (ReadsWhole source source_limit bytes)) in
-    let part = subst (λ b. Calls g.S.Store c.read_whole.new.store c.carry_source.new.store (AppendsPart output b)) c.deref.ensures.value c.in_default-carry_source.ensures.failed in
+    let part = subst (λ b. MakesCalls g.S.Store c.read_whole.new.store c.carry_source.new.store (AppendsPart output b)) c.deref.ensures.value c.in_default-carry_source.ensures.failed in
     calls_then g.met.S.Store.more_calls _ (AppendsPart output bytes) (FillStops source output WriteFault) read part
     (λ first later before after. inr (bytes, created_read_and source output (ReadsWhole source source_limit bytes) (AppendsPart output bytes) first later before after))
 
@@ -48,7 +48,7 @@ returns-clause-filled g c =
     let made = calls_of (λ calls. calls ≡ created output ∷ []) (created output ∷ []) c.in-Ok.ensures refl in
     let read = calls_then g.met.S.Store.more_calls _ (ReadsWhole source source_limit bytes) (λ calls. AfterCreate output calls (ReadsWhole source source_limit bytes) NoCall) made c.in_ok-bytes.ensures.whole
     (created_and_read source output (ReadsWhole source source_limit bytes)) in
-    let all = subst (λ b. Calls g.S.Store c.read_whole.new.store c.carry_source.new.store (AppendsAll output b)) c.deref.ensures.value c.in-Ok-carry_source.ensures.appended in (
+    let all = subst (λ b. MakesCalls g.S.Store c.read_whole.new.store c.carry_source.new.store (AppendsAll output b)) c.deref.ensures.value c.in-Ok-carry_source.ensures.appended in (
       bytes,
       subst (λ b. AreCounts b c.in-Ok-carry_source.counts) c.deref.ensures.value c.in-Ok-carry_source.ensures.counted,
       calls_then g.met.S.Store.more_calls _ (AppendsAll output bytes) (Fills source output bytes) read all

@@ -1,4 +1,4 @@
-use Rattle.std.proofs.Common.{◌<◌, ◌++◌, ◌∷◌, length, sym, ap, subst, ◌∙◌, inr, arith}
+use Rattle.std.proofs.Common.{◌<◌, ◌++◌, ◌∷◌, length, sym, ap, subst, ◌∙◌, arith}
 use Rattle.net_model.specs.Name.{IsName}
 use Rattle.net_model.specs.NetworkLaws.{sink_named}
 use Rattle.lif_outside.specs.CallLaws.{calls_weaker}

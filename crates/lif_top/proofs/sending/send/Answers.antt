@@ -1,5 +1,5 @@
-use Rattle.std.proofs.Common.{◌≡◌, ◌∷◌, [], Ok, Err, refl, sym, ap, subst, ◌∙◌, inr}
-use Rattle.lif_outside.specs.Puts.{Put, said, put_failed}
+use Rattle.std.proofs.Common.{◌≡◌, ◌∷◌, [], refl, sym, subst, inr}
+use Rattle.lif_outside.specs.Puts.{said, put_failed}
 use Rattle.lif_top.specs.Lines.{sent_line}
 use Rattle.lif_top.specs.Send.Ends.{line_of_sent, Ends}
 use Rattle.lif_top.proofs.SendCalls.{ends_refused}

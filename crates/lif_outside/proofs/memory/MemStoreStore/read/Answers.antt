@@ -1,4 +1,4 @@
-use Rattle.std.proofs.Common.{◌≡◌, ◌≤◌, ◌-◌, Some, length, min, sym, ap, ◌∙◌, arith, rules}
+use Rattle.std.proofs.Common.{◌≡◌, ◌≤◌, ◌-◌, Some, length, min, sym, ◌∙◌, arith, rules}
 use Rattle.lif_outside.specs.Memory.{contents, files_in}
 use Rattle.lif_outside.proofs.MemoryCalls.{read_done}
 use Rattle.lif_outside.proofs.memory.MemStoreStore.read.Goals as goal

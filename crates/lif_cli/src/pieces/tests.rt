@@ -1,0 +1,104 @@
+//! What no clause says: that all moves while there is room, and that all that was written is flushed.
+use super::*;
+
+// Four bytes that move one by one. Before each of them calls are interrupted, and past the end a write fails.
+#[derive(Drop)]
+struct Slow {
+    bytes: [u8; 4],
+    at: usize,
+    // How many calls are interrupted before each byte, and how many more before the next one.
+    interrupts: u32,
+    left: u32,
+    flushes: u32,
+    flush_fails: bool,
+}
+
+impl Slow {
+    fn new(bytes: [u8; 4], interrupts: u32) -> Slow {
+        Slow {
+            bytes,
+            at: 0,
+            interrupts,
+            left: interrupts,
+            flushes: 0,
+            flush_fails: false,
+        }
+    }
+
+    fn turn(&mut self) -> io::Result<()> {
+        if self.left > 0 {
+            self.left -= 1;
+            return Err(io::Error::from(ErrorKind::Interrupted));
+        }
+        self.left = self.interrupts;
+        Ok(())
+    }
+}
+
+impl Read for Slow {
+    fn read(&mut self, buf: &mut [u8]) -> io::Result<usize> {
+        self.turn()?;
+        let (Some(byte), Some(first)) = (self.bytes.get(self.at), buf.first_mut()) else {
+            return Ok(0);
+        };
+        *first = *byte;
+        self.at += 1;
+        Ok(1)
+    }
+}
+
+impl Write for Slow {
+    fn write(&mut self, buf: &[u8]) -> io::Result<usize> {
+        self.turn()?;
+        let (Some(place), Some(byte)) = (self.bytes.get_mut(self.at), buf.first()) else {
+            return Err(io::Error::from(ErrorKind::StorageFull));
+        };
+        *place = *byte;
+        self.at += 1;
+        Ok(1)
+    }
+
+    fn flush(&mut self) -> io::Result<()> {
+        self.flushes = self.flushes.saturating_add(1);
+        if self.flush_fails {
+            return Err(io::Error::from(ErrorKind::QuotaExceeded));
+        }
+        Ok(())
+    }
+}
+
+#[test]
+fn moves_all_by_pieces(rt: HostRuntime) {
+    for interrupts in [0, 1, 5] {
+        let mut from = Slow::new(*b"abcd", interrupts);
+        let mut into = *b".......";
+        assert_eq!(rt; read_full(&mut from, &mut into[..3]).ok(), Some(3));
+        assert_eq!(rt; read_full(&mut from, &mut into[3..]).ok(), Some(1));
+        assert_eq!(rt; into, *b"abcd...");
+        let mut to = Slow::new(*b"....", interrupts);
+        assert!(rt; write_full(&mut to, b"abc").is_ok());
+        assert_eq!(rt; to.bytes, *b"abc.");
+        assert_eq!(rt; to.flushes, 1);
+        assert!(rt; write_full(&mut to, b"").is_ok());
+        assert_eq!(rt; to.flushes, 2);
+        let failed = write_full(&mut to, b"de").err();
+        assert_eq!(rt;
+            failed.map(|error| error.kind()),
+            Some(ErrorKind::StorageFull)
+        );
+        assert_eq!(rt; to.bytes, *b"abcd");
+    }
+}
+
+#[test]
+fn a_flush_that_fails_is_told(rt: HostRuntime) {
+    let mut to = Slow::new(*b"....", 0);
+    to.flush_fails = true;
+    let failed = write_full(&mut to, b"ab").err();
+    assert_eq!(rt;
+        failed.map(|error| error.kind()),
+        Some(ErrorKind::QuotaExceeded)
+    );
+    assert_eq!(rt; to.bytes, *b"ab..");
+    assert_eq!(rt; to.flushes, 1);
+}

@@ -1,0 +1,10 @@
+//! A store that keeps a log of the calls made on it. It is for tests only.
+#![tactic(auto)]
+
+mod event;
+mod logged;
+#[cfg(test)]
+mod tests;
+
+pub use event::Event;
+pub use logged::Logged;
