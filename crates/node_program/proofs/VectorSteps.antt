@@ -1,5 +1,5 @@
 -- How the rows of a code's vectors are made, one after another.
-use Rattle.std.proofs.Common.{◌≡◌, ◌≢◌, ℕ, zero, suc, ◌+◌, ◌<◌, ◌≤◌, false, List, [], length, map, take, replicate, get_or, set, inl, inr, refl, sym, ap, ◌∙◌, subst, arith, slice_index, slice_set, Bool, true, if◌then◌else◌}
+use Rattle.std.proofs.Common.{◌≡◌, ◌≢◌, ℕ, suc, ◌+◌, ◌<◌, ◌≤◌, false, List, [], length, map, take, replicate, get_or, inl, inr, refl, sym, ap, ◌∙◌, subst, arith, slice_index, slice_set, Bool, true, if◌then◌else◌}
 use Rattle.std.proofs.lemmas.Bool.{cases_lt}
 use Rattle.std.proofs.lemmas.List.{length-map, length-replicate, length-set, get_or-map, get_or-replicate, get_or-set_same, get_or-set_other, take_all}
 use Rattle.field_vectors.specs.Elements.{plus_multiple}
@@ -201,10 +201,10 @@ module _ {F : Type 0} {is_element : F → Type 0} {nil one : F} {add mul : F →
       ≡ add_rows (numbers number row) (scale_row code.field operand.times (if test then unit_row code.rate operand.from else vector_in code pattern operand.from)) in
       underway_more number nil code pattern link count m now (slice_set row operand.from sum) items d these within inside written
       (subst Read (sym leaves) (
-        ap (λ x. numbers number (slice_set row operand.from x)) sum_is
-        ∙ numbers-with_sum laws numbering code.field of_kind row by operand.from (omega (arith, is_operand.source_row leaves, wide)) (matrix.elements link [] place) element
-        ∙ ap (λ n. add_rows (numbers number row) (scale_row code.field n (unit_row (length row) operand.from))) number_of_by
-        ∙ ap (λ n. add_rows (numbers number row) (scale_row code.field operand.times (unit_row n operand.from))) wide))
+      ap (λ x. numbers number (slice_set row operand.from x)) sum_is
+      ∙ numbers-with_sum laws numbering code.field of_kind row by operand.from (omega (arith, is_operand.source_row leaves, wide)) (matrix.elements link [] place) element
+      ∙ ap (λ n. add_rows (numbers number row) (scale_row code.field n (unit_row (length row) operand.from))) number_of_by
+      ∙ ap (λ n. add_rows (numbers number row) (scale_row code.field operand.times (unit_row n operand.from))) wide))
       is
 
   -- the vector of another link is added
@@ -221,8 +221,8 @@ module _ {F : Type 0} {is_element : F → Type 0} {nil one : F} {add mul : F →
       ≡ add_rows (numbers number row) (scale_row code.field operand.times (if test then unit_row code.rate operand.from else vector_in code pattern operand.from)) in
       underway_more number nil code pattern link count m now (plus_multiple add mul row by other) items d these within inside written
       (subst Read (sym inner) (
-        numbers-plus_multiple laws numbering code.field of_kind row by other (matrix.elements link [] place) element (matrix.elements operand.from [] earlier)
-        ∙ ap (λ n. add_rows (numbers number row) (scale_row code.field n (numbers number other))) number_of_by
-        ∙ ap (λ (vector : List ℕ). add_rows (numbers number row) (scale_row code.field operand.times vector))
-        (is.vector operand.from (is_operand.earlier_link inner) (omega (arith, is_operand.earlier_link inner, within)))))
+      numbers-plus_multiple laws numbering code.field of_kind row by other (matrix.elements link [] place) element (matrix.elements operand.from [] earlier)
+      ∙ ap (λ n. add_rows (numbers number row) (scale_row code.field n (numbers number other))) number_of_by
+      ∙ ap (λ (vector : List ℕ). add_rows (numbers number row) (scale_row code.field operand.times vector))
+      (is.vector operand.from (is_operand.earlier_link inner) (omega (arith, is_operand.earlier_link inner, within)))))
       is

@@ -9,8 +9,8 @@ mod liveness;
 
 pub use code::Code;
 pub use gf_tables::FieldKind;
-pub use lists::{DecoderTable, Entries, LiveLinks, OperandList, OperandTable};
 pub use link_vectors::vectors;
+pub use lists::{DecoderTable, Entries, LiveLinks, OperandList, OperandTable};
 pub use live_table::live_links;
 pub use liveness::live;
 use net_model::LinkList;

@@ -16,11 +16,7 @@ use std::sync::ledger::{Blank, Ledger};
 /// The global coding vectors of the links under a pattern: row `e` is that of link `e`, zero where the
 /// link fails. It goes over the links once and makes each row of rows that stand already, so an operand
 /// costs at most as many products as the rate.
-pub fn vectors<F: Field>(
-    alloc: Global,
-    code: &Code,
-    pattern: u32,
-) -> Result<Matrix<F>, AllocError>
+pub fn vectors<F: Field>(alloc: Global, code: &Code, pattern: u32) -> Result<Matrix<F>, AllocError>
     requires pattern { pattern < length code.now.net.patterns }
     requires field { IsOfKind code.now.field F.SIZE F.BYTES F.MARK F.product }
     ensures { IfOk result (AreVectors F.number code.now pattern) }

@@ -3,9 +3,9 @@ ghost use Rattle.node_program.specs.SmallCode.{small_decoders, small_links, smal
 
 use crate::{
     Code, Decoder, DecoderTable, Entries, LiveLinks, Operand, OperandList, OperandTable, live,
-    live_links,
+    live_links, vectors,
 };
-use gf_tables::FieldKind;
+use gf_tables::{Field, FieldKind, Gf8};
 use item_list::ItemList;
 use net_model::{
     FieldChoice, Link, LinkTable, Name, NameList, Net, NodeList, Pattern, PatternList,
@@ -136,6 +136,8 @@ fn decoders(alloc: Global) -> Result<DecoderTable, test::Fail>
 fn small(alloc: Global) -> Result<Code, test::Fail>
     ensures links { IfOk result (λ code. code.net.links ≡ small_links) }
     ensures patterns { IfOk result (λ code. code.net.patterns ≡ small_patterns) }
+    ensures rate { IfOk result (λ code. code.rate ≡ 1) }
+    ensures field { IfOk result (λ code. code.field ≡ FieldKind.Eight) }
 {
     let net = net(alloc)?;
     let operands = operands(alloc)?;
@@ -155,6 +157,25 @@ fn a_failed_link_leaves_those_behind_it_dead(rt: HostRuntime) -> Result<(), test
         for link in 0..4u32 {
             assert_eq!(rt;
                 live(&code, pattern, link),
+                want[link as usize],
+                "{pattern} {link}"
+            );
+        }
+    }
+    Ok(())
+}
+
+#[test]
+#[tactic(auto, unfolding(gf_tables::specs::Product::product))]
+fn a_failed_link_leaves_its_coefficient_out(rt: HostRuntime) -> Result<(), test::Fail> {
+    let code = small(rt.alloc())?;
+    for (pattern, want) in [(0, [1, 1, 1, 3]), (1, [0, 1, 0, 1])] {
+        let rows = vectors::<Gf8>(rt.alloc(), &code, pattern)?;
+        assert_eq!(rt; rows.rows(), 4, "{pattern}");
+        assert_eq!(rt; rows.columns(), 1, "{pattern}");
+        for link in 0..4u32 {
+            assert_eq!(rt;
+                rows.at(link, 0).number(),
                 want[link as usize],
                 "{pattern} {link}"
             );
