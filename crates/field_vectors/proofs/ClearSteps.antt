@@ -41,7 +41,7 @@ clearing-more {nought = nought} {add = add} {mul = mul} F old m k i h other belo
       unit = entry-other F m i k k row (λ e. other (sym e)) ∙ h.unit;
       cleared = λ r within off.
           elim (cases_eq r i) [
-            inl same ↦ ap (λ n. entry_of nought (with_row m i row) n k) same ∙ entry-cleared F m i k kept below' under' inside' h.unit
+            | inl same ↦ ap (λ n. entry_of nought (with_row m i row) n k) same ∙ entry-cleared F m i k kept below' under' inside' h.unit
             | inr apart ↦ (let before : r < i = omega arith in entry-other F m i r k row apart ∙ h.cleared r before off)
           ];
     }

@@ -109,8 +109,8 @@ cut-set (suc count) width zero j entries value below inside =
 cut-set (suc count) width (suc i) j entries value below inside =
     let one : suc i * width + j ≡ width + (i * width + j) = omega (arith, suc-mul i width) in
     rw one (
-      ap₂ (λ (x y : _). x ∷ cut count width y) (take-set-le width entries (width + (i * width + j)) value (omega arith)) (drop-set-add width entries (i * width + j) value)
-      ∙ ap (λ rows. take width entries ∷ rows) (cut-set count width i j (drop width entries) value (omega arith) inside)
+    ap₂ (λ (x y : _). x ∷ cut count width y) (take-set-le width entries (width + (i * width + j)) value (omega arith)) (drop-set-add width entries (i * width + j) value)
+    ∙ ap (λ rows. take width entries ∷ rows) (cut-set count width i j (drop width entries) value (omega arith) inside)
     )
 
 -- entries that are all one value

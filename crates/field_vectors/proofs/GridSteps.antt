@@ -10,7 +10,6 @@ use Rattle.field_vectors.proofs.CutLaws.{length-cut, get_or-cut, cut-with_part, 
 use Rattle.field_vectors.specs.Cut.{cut, grid_in, AreEntries, with_part}
 use Rattle.field_vectors.specs.Grid.{Grid, with_row, grid_of}
 
-
 -- entries that are all zeros
 pub grid_in-zeros : {A : Type 0} (count width : ℕ) (entries : List A) (n : ℕ) (value : A) → entries ≡ replicate n value → n ≡ count * width + 0
     → grid_in count width entries ≡ grid_of count width value

@@ -26,8 +26,7 @@ fn pivot_of<F: Field>(work: &Matrix<F>, k: u32) -> Option<u32>
     ensures some { IfSome result (λ i. IsPivot F.zero work.now k i) }
 {
     for i in k..work.rows() {
-        if work.at(i, k) == F::zero() {
-        } else {
+        if work.at(i, k) == F::zero() {} else {
             return Some(i);
         }
     }
@@ -35,12 +34,7 @@ fn pivot_of<F: Field>(work: &Matrix<F>, k: u32) -> Option<u32>
 }
 
 // Makes the entry on the diagonal of column k nonzero, by the pivot's row.
-fn lift_pivot<F: Field, L: Ledger>(
-    work: &mut Matrix<F>,
-    k: u32,
-    pivot: u32,
-    steps: &mut Steps<L>,
-)
+fn lift_pivot<F: Field, L: Ledger>(work: &mut Matrix<F>, k: u32, pivot: u32, steps: &mut Steps<L>)
     requires column { k < work.old.columns }
     requires reduced { IsReduced F.zero F.one work.old k }
     requires pivot { IsPivot F.zero work.old k pivot }
@@ -87,11 +81,7 @@ fn clear_column<F: Field, L: Ledger>(work: &mut Matrix<F>, k: u32, steps: &mut S
 }
 
 // Makes column k that of the identity, where some row from row k on has a nonzero entry there.
-fn reduce_column<F: Field, L: Ledger>(
-    work: &mut Matrix<F>,
-    k: u32,
-    steps: &mut Steps<L>,
-) -> bool
+fn reduce_column<F: Field, L: Ledger>(work: &mut Matrix<F>, k: u32, steps: &mut Steps<L>) -> bool
     requires row { k < length work.old.rows }
     requires column { k < work.old.columns }
     requires reduced { IsReduced F.zero F.one work.old k }

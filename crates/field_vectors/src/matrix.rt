@@ -144,6 +144,14 @@ impl<F: Field> Matrix<F> {
         let end = place_of(i, columns, columns);
         let from = place_of(j, 0, columns);
         let from_end = place_of(j, columns, columns);
-        add_part(self.entries.as_mut_slice(), start, end, by, from, from_end, steps);
+        add_part(
+            self.entries.as_mut_slice(),
+            start,
+            end,
+            by,
+            from,
+            from_end,
+            steps,
+        );
     }
 }

@@ -98,9 +98,19 @@ pub fn add_part<F: Field, L: Ledger>(
 {
     if into < from {
         let (low, high) = entries.split_at_mut(from);
-        add_scaled(&mut low[into..into_end], by, &high[..from_end - from], steps);
+        add_scaled(
+            &mut low[into..into_end],
+            by,
+            &high[..from_end - from],
+            steps,
+        );
     } else {
         let (low, high) = entries.split_at_mut(into);
-        add_scaled(&mut high[..into_end - into], by, &low[from..from_end], steps);
+        add_scaled(
+            &mut high[..into_end - into],
+            by,
+            &low[from..from_end],
+            steps,
+        );
     }
 }

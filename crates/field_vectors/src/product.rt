@@ -64,8 +64,7 @@ fn difference_in_row<F: Field, L: Ledger>(
 {
     for j in 0..b.columns() {
         let found = product_entry(a, b, i, j, steps);
-        if found == identity_entry(i, j) {
-        } else {
+        if found == identity_entry(i, j) {} else {
             return Some(Entry {
                 row: i,
                 column: j,

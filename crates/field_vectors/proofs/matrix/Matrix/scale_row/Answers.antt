@@ -34,7 +34,7 @@ written g c =
     with_items_is m.entries c.scale_part.new.entries same ∙ c.scale_part.ensures.value
     ∙ ap (λ xs. with_part xs c.place_of-start.result (multiple_of g.F.Field.mul c.args.by (slice_range xs c.place_of-start.result c.place_of-end.result))) c.as_mut_slice.ensures.value
     ∙ ap (λ row. with_part m.entries.items c.place_of-start.result (multiple_of g.F.Field.mul c.args.by row))
-      (range-row m.row_count m.column_count c.args.i c.place_of-start.result c.place_of-end.result m.entries.items (below g c) c.place_of-start.ensures c.place_of-end.ensures)
+    (range-row m.row_count m.column_count c.args.i c.place_of-start.result c.place_of-end.result m.entries.items (below g c) c.place_of-start.ensures c.place_of-end.ensures)
 
 -- it has an entry for each column
 width : (g : _) (c : After-scale_part g) → length (row_made g c) ≡ c.self.inside.column_count
