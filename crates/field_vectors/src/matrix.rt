@@ -135,7 +135,8 @@ impl<F: Field> Matrix<F> {
         requires into { i < length self.old.rows }
         requires from { j < length self.old.rows }
         requires apart { i ≢ j }
-        ensures value { self.new ≡ with_row self.old i (plus_multiple F.add F.mul (row_of self.old i) by (row_of self.old j)) }
+        ensures value { self.new ≡ with_row self.old i
+            (plus_multiple F.add F.mul (row_of self.old i) by (row_of self.old j)) }
         ensures ticks { RoseBy self.old.columns steps.old steps.new }
     {
         let _number = by.number();

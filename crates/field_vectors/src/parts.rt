@@ -72,7 +72,8 @@ pub fn scale_part<F: Field, L: Ledger>(
 )
     requires fits { start ≤ end }
     requires inside { end ≤ length entries.old }
-    ensures value { entries.new ≡ with_part entries.old start (multiple_of F.mul by (slice_range entries.old start end)) }
+    ensures value { entries.new ≡ with_part entries.old start
+        (multiple_of F.mul by (slice_range entries.old start end)) }
     ensures ticks { (count : _) → start + count ≡ end → RoseBy count steps.old steps.new }
 {
     scale(&mut entries[start..end], by, steps);
@@ -93,7 +94,9 @@ pub fn add_part<F: Field, L: Ledger>(
     requires from_inside { from_end ≤ length entries.old }
     requires same_length { into + from_end ≡ from + into_end }
     requires apart { (into_end ≤ from) ⊎ (from_end ≤ into) }
-    ensures value { entries.new ≡ with_part entries.old into (plus_multiple F.add F.mul (slice_range entries.old into into_end) by (slice_range entries.old from from_end)) }
+    ensures value { entries.new ≡ with_part entries.old into
+        (plus_multiple F.add F.mul (slice_range entries.old into into_end) by
+        (slice_range entries.old from from_end)) }
     ensures ticks { (count : _) → into + count ≡ into_end → RoseBy count steps.old steps.new }
 {
     if into < from {

@@ -51,7 +51,8 @@ fn square<F: Field>(alloc: Global, size: u32, numbers: &[u32]) -> Result<Matrix<
     Ok(matrix)
 }
 
-// A square matrix of some rank: as many nonzero elements on the diagonal, and then a multiple of each row added to each other.
+// A square matrix of some rank: as many nonzero elements on the diagonal, and then a multiple of each
+// row added to each other.
 fn mixed<F: Field, L: Ledger>(
     alloc: Global,
     size: u32,
@@ -208,7 +209,8 @@ fn row_calls<F: Field>(
     row_calls_from::<F, Brand>(alloc, first, by, second, Blank::new(1))
 }
 
-// The first entry in which the product of two square matrices differs from the identity: its row, its column and its number.
+// The first entry in which the product of two square matrices differs from the identity: its row, its
+// column and its number.
 fn first_difference_from<F: Field, L: Ledger>(
     alloc: Global,
     size: u32,
