@@ -1,11 +1,11 @@
 -- The steps of the loop that clears a column.
-use Rattle.std.proofs.Common.{◌≡◌, ◌≢◌, ℕ, ◌+◌, ◌<◌, ◌≤◌, List, length, arith, ap, ◌∙◌, sym, inl, inr, subst, refl}
+use Rattle.std.proofs.Common.{◌≡◌, ◌≢◌, ℕ, ◌+◌, ◌<◌, length, arith, ap, ◌∙◌, sym, inl, inr}
 use Rattle.std.proofs.lemmas.Bool.{cases_eq}
 use Rattle.gf_tables.specs.Field.{IsField}
 use Rattle.field_vectors.specs.Elements.{plus_multiple}
 use Rattle.field_vectors.specs.Elimination.{IsStep, IsReduced}
 use Rattle.field_vectors.specs.EliminationLaws.{step-then, step-add, reduced-add, entry-cleared, entry-other, entry_of-element}
-use Rattle.field_vectors.specs.Grid.{Grid, row_of, entry_of, with_row, IsMatrix}
+use Rattle.field_vectors.specs.Grid.{Grid, row_of, entry_of, with_row}
 
 -- column k has one on the diagonal, and zeros beside it in the rows below i
 pub record IsClearing {A : Type 0} (P : A → Type 0) (nought one : A) (add mul : A → A → A) (old m : Grid A) (k i : ℕ) : Type 0 where

@@ -1,6 +1,5 @@
 -- The steps of loops that fill a matrix.
-use Rattle.std.proofs.Common.{◌≡◌, ◌≢◌, ℕ, zero, suc, ◌+◌, ◌-◌, ◌<◌, ◌≤◌, List, [], ◌∷◌, ◌++◌, length, get_or, set, drop, replicate, arith, ap, ◌∙◌, sym, inl, inr, refl}
-use Rattle.std.proofs.Math.Path.{ap₂}
+use Rattle.std.proofs.Common.{◌≡◌, ℕ, zero, suc, ◌+◌, ◌-◌, ◌<◌, ◌≤◌, List, [], ◌∷◌, ◌++◌, length, get_or, set, drop, replicate, arith, ap, ◌∙◌, sym, inl, inr, refl}
 use Rattle.std.proofs.lemmas.Bool.{cases_eq}
 use Rattle.std.proofs.lemmas.List.{length-set, set-set, set-get_or, get_or-set_same, get_or-set_other, set-append_right, drop-replicate, length-replicate, get_or-replicate}
 use Rattle.std.proofs.lemmas.List.FromFn.{fill_by_all}

@@ -1,17 +1,17 @@
 -- What elimination beside the identity leaves: the inverse, or a block that is sent to zero.
-use Rattle.std.specs.Prelude.{◌≡◌, ◌≢◌, ℕ, suc, ◌+◌, ◌-◌, ◌<◌, ◌≤◌, List, [], ◌∷◌, ◌++◌, All, length, map, get_or, take, drop, replicate}
-use Rattle.std.proofs.Common.{arith, refl, sym, ap, ◌∙◌, subst, inl, inr}
+use Rattle.std.specs.Prelude.{◌≡◌, ◌≢◌, ℕ, ◌+◌, ◌-◌, ◌<◌, ◌≤◌, List, [], ◌∷◌, ◌++◌, All, length, map, get_or, take, drop, replicate}
+use Rattle.std.proofs.Common.{arith, refl, sym, ap, ◌∙◌, inl, inr}
 use Rattle.std.proofs.Math.Path.{ap₂}
 use Rattle.std.specs.List.{range_with_len}
 use Rattle.std.proofs.lemmas.Bool.{cases_lt}
-use Rattle.std.proofs.lemmas.List.{append_assoc, length-append, length-take-le, length-drop, length-replicate, get_or-take, get_or_at, take-append-drop, drop_more, ext_get_or, get_or-replicate, replicate-append-replicate}
-use Rattle.std.proofs.lemmas.List.Elements.{All-append, All-cons, All-take, All-drop, All-map, All-get_or, All-from_get_or, All-replicate}
+use Rattle.std.proofs.lemmas.List.{append_assoc, length-append, length-take-le, length-replicate, get_or-take, get_or_at, take-append-drop, drop_more, ext_get_or, get_or-replicate, replicate-append-replicate}
+use Rattle.std.proofs.lemmas.List.Elements.{All-append, All-cons, All-drop, All-map, All-get_or, All-from_get_or, All-replicate}
 use Rattle.std.proofs.lemmas.List.FromFn.{length-map-range_with_len, get_or-map-range_with_len, length-range_with_len, get_or-range_with_len, fill_by_all}
 use Rattle.gf_tables.specs.Field.{IsField}
 use Rattle.field_vectors.specs.Difference.{identity_entry, product_entry}
 use Rattle.field_vectors.specs.DifferenceLaws.{get_or-column_of, length-column_of, product_of-identity}
-use Rattle.field_vectors.specs.DotOfLaws.{identity_entry-comm, identity_entry-off, length-unit_of, get_or-unit_of, add-nought, mul-nought, mul-one, same_from_sum, unit_of-elements, dot_of-element, dot_of-comm, dot_of-append, dot_of-zeros, dot_of-unit_of, unit_of-dot_of}
-use Rattle.field_vectors.specs.Elements.{dot_of, column_of, product_of, identity_of, unit_of}
+use Rattle.field_vectors.specs.DotOfLaws.{identity_entry-comm, identity_entry-off, length-unit_of, get_or-unit_of, add-nought, mul-one, same_from_sum, unit_of-elements, dot_of-element, dot_of-comm, dot_of-append, dot_of-zeros, dot_of-unit_of, unit_of-dot_of}
+use Rattle.field_vectors.specs.Elements.{dot_of, column_of, product_of, unit_of}
 use Rattle.field_vectors.specs.Elimination.{SendsToZero, IsStep, IsReduced, IsStuck, IsBeside}
 use Rattle.field_vectors.specs.EliminationLaws.{length-row_of, row_of-elements, entry_of-element}
 use Rattle.field_vectors.specs.Grid.{Grid, row_of, entry_of, IsMatrix}

@@ -1,11 +1,11 @@
 -- Rows and matrices of a field's elements, by the numbers of the elements in the field of its kind.
-use Rattle.std.specs.Prelude.{◌≡◌, ◌≢◌, ℕ, zero, suc, ◌+◌, ◌<◌, ◌==◌, List, [], ◌∷◌, All, Bool, true, false, length, map, get_or, bit_xor, slice_index, if◌then◌else◌}
-use Rattle.std.proofs.Common.{arith, refl, sym, ap, ◌∙◌, subst}
+use Rattle.std.specs.Prelude.{◌≡◌, ℕ, zero, suc, ◌+◌, ◌<◌, ◌==◌, List, [], ◌∷◌, All, true, false, length, map, get_or, bit_xor, if◌then◌else◌}
+use Rattle.std.proofs.Common.{arith, refl, sym, ap, ◌∙◌}
 use Rattle.std.proofs.Math.Path.{ap₂}
-use Rattle.std.specs.List.{range_with_len, AllByRecursion}
-use Rattle.std.proofs.lemmas.List.{length-map, get_or-map, ext_get_or}
-use Rattle.std.proofs.lemmas.List.Elements.{All-head, All-tail, All-map}
-use Rattle.std.proofs.lemmas.List.FromFn.{length-map-range_with_len, get_or-map-range_with_len, fill_by_all}
+use Rattle.std.specs.List.{range_with_len}
+use Rattle.std.proofs.lemmas.List.{length-map, ext_get_or}
+use Rattle.std.proofs.lemmas.List.Elements.{All-head, All-tail}
+use Rattle.std.proofs.lemmas.List.FromFn.{length-map-range_with_len, get_or-map-range_with_len}
 use Rattle.gf_tables.specs.Field.{IsField, IsNumbering}
 use Rattle.gf_tables.specs.Kind.{IsOfKind}
 use Rattle.gf_tables.specs.Product.{product as kind_product, size_of}
@@ -14,12 +14,11 @@ use Rattle.linear_algebra.specs.CombinationLaws.{length-combination, slice_index
 use Rattle.linear_algebra.specs.Elements.{numbers}
 use Rattle.linear_algebra.specs.Matrices.{column, times_rows, identity}
 use Rattle.linear_algebra.specs.RowLaws.{AreElements-nil, AreElements-cons}
-use Rattle.linear_algebra.specs.Rows.{add_rows, scale_row, unit_row, zero_row, combination, dot, AreElements, IsRow, AreRows}
+use Rattle.linear_algebra.specs.Rows.{add_rows, scale_row, unit_row, combination, dot, AreElements, IsRow, AreRows}
 use Rattle.field_vectors.specs.Difference.{identity_entry}
 use Rattle.field_vectors.specs.DotOfLaws.{dot_of-element}
 use Rattle.field_vectors.specs.Elements.{dot_of, plus_multiple, multiple_of, column_of, row_product, product_of, unit_of, identity_of}
 use Rattle.field_vectors.specs.Grid.{Grid, IsMatrix}
-use Rattle.field_vectors.specs.Inverse.{IsInverse}
 use Rattle.field_vectors.specs.InverseLaws.{column_of-elements}
 
 module _ {A : Type 0} {P : A → Type 0} {nought one : A} {add mul : A → A → A} {inv : A → A} (F : IsField P nought one add mul inv)

@@ -2,7 +2,7 @@ use Rattle.std.proofs.Common.{◌≡◌, ◌<◌, ◌+◌, ◌-◌, arith, ap, �
 use Rattle.std.proofs.Math.Path.{ap₂}
 use Rattle.field_vectors.proofs.ProductSteps.{product_entry-before}
 use Rattle.field_vectors.specs.Elements.{dot_of, column_of}
-use Rattle.field_vectors.specs.Grid.{row_of, entry_of}
+use Rattle.field_vectors.specs.Grid.{row_of}
 use Rattle.field_vectors.proofs.product.product_entry.Goals as goal
 
 pub loop-k-preserved : goal.loop-k-preserved
