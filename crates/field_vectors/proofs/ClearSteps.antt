@@ -1,11 +1,11 @@
 -- The steps of the loop that clears a column.
-use Rattle.std.proofs.Common.{◌≡◌, ◌≢◌, ℕ, ◌+◌, ◌<◌, ◌≤◌, List, length, arith, ap, ◌∙◌, sym, inl, inr, subst, refl}
+use Rattle.std.proofs.Common.{◌≡◌, ◌≢◌, ℕ, ◌+◌, ◌<◌, length, arith, ap, ◌∙◌, sym, inl, inr}
 use Rattle.std.proofs.lemmas.Bool.{cases_eq}
 use Rattle.gf_tables.specs.Field.{IsField}
 use Rattle.field_vectors.specs.Elements.{plus_multiple}
 use Rattle.field_vectors.specs.Elimination.{IsStep, IsReduced}
 use Rattle.field_vectors.specs.EliminationLaws.{step-then, step-add, reduced-add, entry-cleared, entry-other, entry_of-element}
-use Rattle.field_vectors.specs.Grid.{Grid, row_of, entry_of, with_row, IsMatrix}
+use Rattle.field_vectors.specs.Grid.{Grid, row_of, entry_of, with_row}
 
 -- column k has one on the diagonal, and zeros beside it in the rows below i
 pub record IsClearing {A : Type 0} (P : A → Type 0) (nought one : A) (add mul : A → A → A) (old m : Grid A) (k i : ℕ) : Type 0 where
@@ -41,7 +41,7 @@ clearing-more {nought = nought} {add = add} {mul = mul} F old m k i h other belo
       unit = entry-other F m i k k row (λ e. other (sym e)) ∙ h.unit;
       cleared = λ r within off.
           elim (cases_eq r i) [
-            inl same ↦ ap (λ n. entry_of nought (with_row m i row) n k) same ∙ entry-cleared F m i k kept below' under' inside' h.unit
+            | inl same ↦ ap (λ n. entry_of nought (with_row m i row) n k) same ∙ entry-cleared F m i k kept below' under' inside' h.unit
             | inr apart ↦ (let before : r < i = omega arith in entry-other F m i r k row apart ∙ h.cleared r before off)
           ];
     }

@@ -1,10 +1,10 @@
 -- Laws of entries cut into rows.
-use Rattle.std.proofs.Common.{◌≡◌, ℕ, zero, suc, ◌+◌, ◌*◌, ◌-◌, ◌<◌, ◌≤◌, List, [], ◌∷◌, ◌++◌, length, get_or, set, take, drop, replicate, refl, sym, ap, ◌∙◌, arith, add-one, suc-mul, slice_range}
+use Rattle.std.proofs.Common.{◌≡◌, ℕ, zero, suc, ◌+◌, ◌*◌, ◌-◌, ◌<◌, ◌≤◌, List, [], ◌∷◌, ◌++◌, length, get_or, set, take, drop, replicate, refl, sym, ap, ◌∙◌, arith, suc-mul}
 use Rattle.std.proofs.Math.Nat.{mul-le-mul_right, zero-mul}
 use Rattle.std.proofs.Math.Path.{ap₂}
 use Rattle.std.proofs.Math.Seq.{take-set-lt}
-use Rattle.std.proofs.lemmas.List.{append_assoc, length-append, length-take-le, length-drop, length-take, length-set, get_or-take, get_or-drop, take_at, drop_at, take-set-le, drop-set-lt, drop-set-add, drop-drop, take-append-drop, take-replicate, drop-replicate}
-use Rattle.std.proofs.lemmas.List.Elements.{All-take, All-drop, All-nil, All-cons, All-append, All-set}
+use Rattle.std.proofs.lemmas.List.{length-append, length-take-le, length-drop, get_or-take, get_or-drop, take_at, drop_at, take-set-le, drop-set-lt, drop-set-add, drop-drop, take-append-drop, take-replicate, drop-replicate}
+use Rattle.std.proofs.lemmas.List.Elements.{All-take, All-drop, All-nil, All-cons, All-append}
 use Rattle.std.specs.List.{All}
 use Rattle.field_vectors.specs.Cut.{cut, grid_in, AreEntries, with_part}
 use Rattle.field_vectors.specs.Grid.{IsMatrix}
@@ -109,8 +109,8 @@ cut-set (suc count) width zero j entries value below inside =
 cut-set (suc count) width (suc i) j entries value below inside =
     let one : suc i * width + j ≡ width + (i * width + j) = omega (arith, suc-mul i width) in
     rw one (
-      ap₂ (λ (x y : _). x ∷ cut count width y) (take-set-le width entries (width + (i * width + j)) value (omega arith)) (drop-set-add width entries (i * width + j) value)
-      ∙ ap (λ rows. take width entries ∷ rows) (cut-set count width i j (drop width entries) value (omega arith) inside)
+    ap₂ (λ (x y : _). x ∷ cut count width y) (take-set-le width entries (width + (i * width + j)) value (omega arith)) (drop-set-add width entries (i * width + j) value)
+    ∙ ap (λ rows. take width entries ∷ rows) (cut-set count width i j (drop width entries) value (omega arith) inside)
     )
 
 -- entries that are all one value

@@ -1,6 +1,5 @@
 -- The steps of loops that fill a matrix.
-use Rattle.std.proofs.Common.{◌≡◌, ◌≢◌, ℕ, zero, suc, ◌+◌, ◌-◌, ◌<◌, ◌≤◌, List, [], ◌∷◌, ◌++◌, length, get_or, set, drop, replicate, arith, ap, ◌∙◌, sym, inl, inr, refl}
-use Rattle.std.proofs.Math.Path.{ap₂}
+use Rattle.std.proofs.Common.{◌≡◌, ℕ, zero, suc, ◌+◌, ◌-◌, ◌<◌, ◌≤◌, List, [], ◌∷◌, ◌++◌, length, get_or, set, drop, replicate, arith, ap, ◌∙◌, sym, inl, inr, refl}
 use Rattle.std.proofs.lemmas.Bool.{cases_eq}
 use Rattle.std.proofs.lemmas.List.{length-set, set-set, set-get_or, get_or-set_same, get_or-set_other, set-append_right, drop-replicate, length-replicate, get_or-replicate}
 use Rattle.std.proofs.lemmas.List.FromFn.{fill_by_all}
@@ -18,7 +17,7 @@ zeros-set nought one n i below =
     fill_by_all (identity_entry nought one i) (set (replicate n nought) i one) n nought (length-set (replicate n nought) i one ∙ length-replicate n nought)
     (λ k within.
     elim (cases_eq k i) [
-      inl same ↦ ap (λ j. get_or (set (replicate n nought) i one) j nought) same ∙ get_or-set_same (replicate n nought) i one nought inside ∙ sym (identity_entry-on nought one i) ∙ ap (identity_entry nought one i) (sym same)
+      | inl same ↦ ap (λ j. get_or (set (replicate n nought) i one) j nought) same ∙ get_or-set_same (replicate n nought) i one nought inside ∙ sym (identity_entry-on nought one i) ∙ ap (identity_entry nought one i) (sym same)
       | inr other ↦ get_or-set_other (replicate n nought) i k one nought other ∙ get_or-replicate n k nought nought within ∙ sym (identity_entry-off nought one i k (λ e. other (sym e)))
     ])
 
@@ -61,8 +60,8 @@ fill-all {A} nought one old now new i n place row below inside long at zeros bef
     ∙ ap (λ (m : Grid A). with_row m i (set (row_of m i) place one)) before
     ∙ ap make (ap (λ t. set (set old.rows i r) i (set t place one)) (row_of-with_row old i r below) ∙ set-set old.rows i r (set r place one))
     ∙ ap (λ t. with_row old i t)
-      (ap (λ t. set t place one) behind ∙ set-append_right row (replicate n nought) n place one long (omega arith) ∙ ap (λ k. row ++ set (replicate n nought) k one) offset
-      ∙ ap (λ l. row ++ l) (zeros-set nought one n i inside))
+    (ap (λ t. set t place one) behind ∙ set-append_right row (replicate n nought) n place one long (omega arith) ∙ ap (λ k. row ++ set (replicate n nought) k one) offset
+    ∙ ap (λ l. row ++ l) (zeros-set nought one n i inside))
 
 -- rows below i are filled, and the others are zeros
 pub record IsFilling {A : Type 0} (nought one : A) (a work : Grid A) (i : ℕ) : Type 0 where
@@ -95,8 +94,8 @@ filling-more {A} nought one a work new i h below made =
       columns = h.columns;
       filled = λ r within.
           elim (cases_eq r i) [
-            inl same ↦
-            ap (row_of (with_row work i row)) same ∙ row_of-with_row work i row inside ∙ ap (λ k. row_of a k ++ unit_of nought one (length a.rows) k) (sym same)
+            | inl same ↦
+                ap (row_of (with_row work i row)) same ∙ row_of-with_row work i row inside ∙ ap (λ k. row_of a k ++ unit_of nought one (length a.rows) k) (sym same)
             | inr other ↦ (let before : r < i = omega arith in row_of-with_other work i r row other ∙ h.filled r before)
           ];
       left = λ r from within. row_of-with_other work i r row (λ e. omega arith) ∙ h.left r (omega arith) within;

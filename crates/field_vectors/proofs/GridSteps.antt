@@ -1,15 +1,13 @@
 -- What reads and writes of entries do to a matrix.
-use Rattle.std.proofs.Common.{◌≡◌, ◌≢◌, ◌⊎◌, inl, inr, ℕ, ◌+◌, ◌*◌, ◌-◌, ◌<◌, ◌≤◌, List, [], length, get_or, set, take, drop, replicate, refl, sym, ap, ◌∙◌, arith, slice_range}
+use Rattle.std.proofs.Common.{◌≡◌, ◌≢◌, ◌⊎◌, inl, inr, ℕ, ◌+◌, ◌*◌, ◌-◌, ◌<◌, ◌≤◌, List, [], length, get_or, set, take, drop, replicate, sym, ap, ◌∙◌, arith, slice_range}
 use Rattle.std.proofs.Math.Path.{ap₂}
 use Rattle.std.specs.List.{All}
-use Rattle.std.specs.Simd.Lanes.{zip2}
 use Rattle.std.proofs.lemmas.Bool.{cases_lt}
-use Rattle.std.proofs.lemmas.List.{length-set, with_items_is}
+use Rattle.std.proofs.lemmas.List.{length-set}
 use Rattle.std.proofs.lemmas.List.Elements.{All-set, All-get_or}
-use Rattle.field_vectors.proofs.CutLaws.{length-cut, get_or-cut, cut-with_part, cut-set, cut-replicate, cut-widths, cut-elements, get_or-cut_entry, with_part-AreEntries, row_end, entry_within}
+use Rattle.field_vectors.proofs.CutLaws.{length-cut, get_or-cut, cut-with_part, cut-set, cut-replicate, cut-widths, cut-elements, with_part-AreEntries, row_end}
 use Rattle.field_vectors.specs.Cut.{cut, grid_in, AreEntries, with_part}
 use Rattle.field_vectors.specs.Grid.{Grid, with_row, grid_of}
-
 
 -- entries that are all zeros
 pub grid_in-zeros : {A : Type 0} (count width : ℕ) (entries : List A) (n : ℕ) (value : A) → entries ≡ replicate n value → n ≡ count * width + 0

@@ -1,5 +1,5 @@
 -- The steps of loops over products.
-use Rattle.std.proofs.Common.{◌≡◌, ℕ, ◌+◌, ◌<◌, List, [], length, get_or, drop, sym, ap, ◌∙◌, arith}
+use Rattle.std.proofs.Common.{◌≡◌, ℕ, ◌+◌, ◌<◌, List, [], length, drop, ap, ◌∙◌, arith}
 use Rattle.std.specs.List.{All}
 use Rattle.std.proofs.lemmas.List.Elements.{All-get_or}
 use Rattle.field_vectors.proofs.RowSteps.{dot_of-before}
@@ -19,7 +19,7 @@ row_of-elements {A} {P} m i h below = All-get_or (All P) m.rows i [] below h.ele
 pub product_entry-before : {A : Type 0} {P : A → Type 0} (nought : A) (add mul : A → A → A) (a b : Grid A) (i j k : ℕ) → IsMatrix P a → i < length a.rows → k < a.columns
     → a.columns ≡ length b.rows
     → dot_of nought add mul (drop k (row_of a i)) (drop k (column_of nought j b.rows))
-      ≡ add (mul (entry_of nought a i k) (entry_of nought b k j)) (dot_of nought add mul (drop (k + 1) (row_of a i)) (drop (k + 1) (column_of nought j b.rows)))
+    ≡ add (mul (entry_of nought a i k) (entry_of nought b k j)) (dot_of nought add mul (drop (k + 1) (row_of a i)) (drop (k + 1) (column_of nought j b.rows)))
 product_entry-before nought add mul a b i j k h below within inner =
     let row = row_of a i in
     let column = column_of nought j b.rows in

@@ -1,12 +1,12 @@
 -- Matrices and products, entry by entry.
-use Rattle.std.specs.Prelude.{◌≡◌, ℕ, ◌+◌, ◌<◌, ◌==◌, List, [], map, length, get_or, if◌then◌else◌}
-use Rattle.std.proofs.Common.{arith, refl, sym, ap, ◌∙◌}
+use Rattle.std.specs.Prelude.{◌≡◌, ℕ, ◌<◌, List, [], map, length, get_or}
+use Rattle.std.proofs.Common.{arith, ap, ◌∙◌}
 use Rattle.std.specs.List.{range_with_len}
 use Rattle.std.proofs.lemmas.List.{length-map, get_or-map}
 use Rattle.std.proofs.lemmas.List.FromFn.{length-map-range_with_len, get_or-map-range_with_len, fill_by_all}
 use Rattle.field_vectors.specs.Difference.{product_entry, identity_entry}
 use Rattle.field_vectors.specs.Elements.{dot_of, column_of, row_product, product_of, unit_of, identity_of}
-use Rattle.field_vectors.specs.Grid.{Grid, row_of, entry_of}
+use Rattle.field_vectors.specs.Grid.{Grid, row_of}
 
 -- two lists made from functions of the place that agree below the length
 pub same_made : {X : Type 0} (f g : ℕ → X) (n : ℕ) (d : X) → ((j : ℕ) → j < n → f j ≡ g j) → map f (range_with_len 0 n) ≡ map g (range_with_len 0 n)

@@ -1,6 +1,6 @@
 -- Laws of the steps of elimination.
 use Rattle.std.specs.Prelude.{◌≡◌, ◌≢◌, ℕ, ◌+◌, ◌<◌, ◌≤◌, List, [], All, length, get_or, set}
-use Rattle.std.proofs.Common.{arith, refl, sym, ap, ◌∙◌, subst, inl, inr}
+use Rattle.std.proofs.Common.{arith, refl, sym, ap, ◌∙◌, inl, inr}
 use Rattle.std.proofs.Math.Path.{ap₂}
 use Rattle.std.proofs.lemmas.Bool.{cases_eq}
 use Rattle.std.proofs.lemmas.List.{length-set, get_or-set_same, get_or-set_other}
@@ -64,11 +64,11 @@ module _ {A : Type 0} {P : A → Type 0} {nought one : A} {add mul : A → A →
     from = λ z p s.
         All-from_get_or (λ (r : List A). dot_of nought add mul r z ≡ nought) m.rows [] (λ k inside.
         elim (cases_eq k i) [
-          inl same ↦ ap (λ n. dot_of nought add mul (row_of m n) z) same ∙ back z p s
+          | inl same ↦ ap (λ n. dot_of nought add mul (row_of m n) z) same ∙ back z p s
           | inr other ↦
-            (let far : k < length (set m.rows i row) = omega (arith, length-set m.rows i row) in
-            ap (λ r. dot_of nought add mul r z) (sym (row_of-with_other m i k row other))
-            ∙ All-get_or (λ (r : List A). dot_of nought add mul r z ≡ nought) (set m.rows i row) k [] far s)
+              (let far : k < length (set m.rows i row) = omega (arith, length-set m.rows i row) in
+              ap (λ r. dot_of nought add mul r z) (sym (row_of-with_other m i k row other))
+              ∙ All-get_or (λ (r : List A). dot_of nought add mul r z ≡ nought) (set m.rows i row) k [] far s)
         ]);
   }
 
@@ -157,7 +157,7 @@ module _ {A : Type 0} {P : A → Type 0} {nought one : A} {add mul : A → A →
     entry = λ r c inside within.
         let here : r < length m.rows = omega (arith, length-set m.rows i row) in
         elim (cases_eq r i) [
-          inl same ↦ ap (λ n. entry_of nought (with_row m i row) n c) same ∙ new c within ∙ ap (λ n. identity_entry nought one n c) (sym same)
+          | inl same ↦ ap (λ n. entry_of nought (with_row m i row) n c) same ∙ new c within ∙ ap (λ n. identity_entry nought one n c) (sym same)
           | inr other ↦ entry-other m i r c row other ∙ reduced.entry r c here within
         ];
   }
@@ -210,13 +210,13 @@ module _ {A : Type 0} {P : A → Type 0} {nought one : A} {add mul : A → A →
   reduced-more m k reduced unit cleared = record {
     entry = λ i j below within.
         elim (cases_eq j k) [
-          inl same ↦
-          ap (entry_of nought m i) same
-          ∙ elim (cases_eq i k) [
-            inl on ↦ ap (λ n. entry_of nought m n k) on ∙ unit ∙ sym (identity_entry-on nought one k) ∙ ap (λ n. identity_entry nought one n k) (sym on)
-            | inr off ↦ cleared i below off ∙ sym (identity_entry-off nought one i k off)
-          ]
-          ∙ ap (identity_entry nought one i) (sym same)
+          | inl same ↦
+              ap (entry_of nought m i) same
+              ∙ elim (cases_eq i k) [
+                | inl on ↦ ap (λ n. entry_of nought m n k) on ∙ unit ∙ sym (identity_entry-on nought one k) ∙ ap (λ n. identity_entry nought one n k) (sym on)
+                | inr off ↦ cleared i below off ∙ sym (identity_entry-off nought one i k off)
+              ]
+              ∙ ap (identity_entry nought one i) (sym same)
           | inr other ↦ (let before : j < k = omega arith in reduced.entry i j below before)
         ];
   }

@@ -1,17 +1,17 @@
 -- What elimination beside the identity leaves: the inverse, or a block that is sent to zero.
-use Rattle.std.specs.Prelude.{◌≡◌, ◌≢◌, ℕ, suc, ◌+◌, ◌-◌, ◌<◌, ◌≤◌, List, [], ◌∷◌, ◌++◌, All, length, map, get_or, take, drop, replicate}
-use Rattle.std.proofs.Common.{arith, refl, sym, ap, ◌∙◌, subst, inl, inr}
+use Rattle.std.specs.Prelude.{◌≡◌, ◌≢◌, ℕ, ◌+◌, ◌-◌, ◌<◌, ◌≤◌, List, [], ◌∷◌, ◌++◌, All, length, map, get_or, take, drop, replicate}
+use Rattle.std.proofs.Common.{arith, refl, sym, ap, ◌∙◌, inl, inr}
 use Rattle.std.proofs.Math.Path.{ap₂}
 use Rattle.std.specs.List.{range_with_len}
 use Rattle.std.proofs.lemmas.Bool.{cases_lt}
-use Rattle.std.proofs.lemmas.List.{append_assoc, length-append, length-take-le, length-drop, length-replicate, get_or-take, get_or_at, take-append-drop, drop_more, ext_get_or, get_or-replicate, replicate-append-replicate}
-use Rattle.std.proofs.lemmas.List.Elements.{All-append, All-cons, All-take, All-drop, All-map, All-get_or, All-from_get_or, All-replicate}
+use Rattle.std.proofs.lemmas.List.{append_assoc, length-append, length-take-le, length-replicate, get_or-take, get_or_at, take-append-drop, drop_more, ext_get_or, get_or-replicate, replicate-append-replicate}
+use Rattle.std.proofs.lemmas.List.Elements.{All-append, All-cons, All-drop, All-map, All-get_or, All-from_get_or, All-replicate}
 use Rattle.std.proofs.lemmas.List.FromFn.{length-map-range_with_len, get_or-map-range_with_len, length-range_with_len, get_or-range_with_len, fill_by_all}
 use Rattle.gf_tables.specs.Field.{IsField}
 use Rattle.field_vectors.specs.Difference.{identity_entry, product_entry}
 use Rattle.field_vectors.specs.DifferenceLaws.{get_or-column_of, length-column_of, product_of-identity}
-use Rattle.field_vectors.specs.DotOfLaws.{identity_entry-comm, identity_entry-off, length-unit_of, get_or-unit_of, add-nought, mul-nought, mul-one, same_from_sum, unit_of-elements, dot_of-element, dot_of-comm, dot_of-append, dot_of-zeros, dot_of-unit_of, unit_of-dot_of}
-use Rattle.field_vectors.specs.Elements.{dot_of, column_of, product_of, identity_of, unit_of}
+use Rattle.field_vectors.specs.DotOfLaws.{identity_entry-comm, identity_entry-off, length-unit_of, get_or-unit_of, add-nought, mul-one, same_from_sum, unit_of-elements, dot_of-element, dot_of-comm, dot_of-append, dot_of-zeros, dot_of-unit_of, unit_of-dot_of}
+use Rattle.field_vectors.specs.Elements.{dot_of, column_of, product_of, unit_of}
 use Rattle.field_vectors.specs.Elimination.{SendsToZero, IsStep, IsReduced, IsStuck, IsBeside}
 use Rattle.field_vectors.specs.EliminationLaws.{length-row_of, row_of-elements, entry_of-element}
 use Rattle.field_vectors.specs.Grid.{Grid, row_of, entry_of, IsMatrix}
@@ -53,7 +53,7 @@ module _ {A : Type 0} {P : A → Type 0} {nought one : A} {add mul : A → A →
   beside-dot a work i us vs h square beside below p q same =
       ap (λ row. dot_of nought add mul row (us ++ vs)) (beside.row i below)
       ∙ dot_of-append F (row_of a i) (unit_of nought one (length a.rows) i) us vs (row_of-elements a i h below) (unit_of-elements F (length a.rows) i) p q
-        (length-row_of a i h below ∙ square ∙ sym same)
+      (length-row_of a i h below ∙ square ∙ sym same)
 
   -- the product of a row of what is left, where the inverse stands behind the identity
   reduced-dot : (work half : Grid A) (i : ℕ) (us vs : List A) → IsMatrix P work → length work.rows ≤ work.columns → IsReduced nought one work (length work.rows) → IsRightHalf P work half
@@ -126,7 +126,7 @@ module _ {A : Type 0} {P : A → Type 0} {nought one : A} {add mul : A → A →
         let e = entry_of-element F half r j right.kept there narrow in
         reduced-dot work half r col unit step.kept wide reduced right within q p tall
         ∙ ap₂ add (unit_of-dot_of F col (length work.rows) r q within ∙ get_or-column_of nought half.rows r j there)
-          (dot_of-unit_of F (row_of half r) n j (row_of-elements half r right.kept there) inside)
+        (dot_of-unit_of F (row_of half r) n j (row_of-elements half r right.kept there) inside)
         ∙ F.add_self x e)
         in
         let here : i < length start.rows = omega (arith, beside.height) in
@@ -224,16 +224,16 @@ module _ {A : Type 0} {P : A → Type 0} {nought one : A} {add mul : A → A →
         let narrow : k ≤ work.columns = omega (arith, stuck_wide) in
         let first : dot_of nought add mul unit above ≡ x =
         elim (cases_lt r k) [
-          inl up ↦ unit_of-dot_of F above k r above-elements up ∙ get_or-above r up
+          | inl up ↦ unit_of-dot_of F above k r above-elements up ∙ get_or-above r up
           | inr down ↦
-          ap (λ u. dot_of nought add mul u above) (unit_of-outside nought one k r down) ∙ dot_of-comm F (replicate k nought) above (All-replicate P k nought F.zero_element) above-elements
-          ∙ dot_of-zeros F above k above-elements ∙ sym (stuck.entry r down under)
+              ap (λ u. dot_of nought add mul u above) (unit_of-outside nought one k r down) ∙ dot_of-comm F (replicate k nought) above (All-replicate P k nought F.zero_element) above-elements
+              ∙ dot_of-zeros F above k above-elements ∙ sym (stuck.entry r down under)
         ]
         in
         ap (λ s. dot_of nought add mul s (above ++ (one ∷ zeros)))
         (sym (take-append-drop k row) ∙ ap₂ (λ xs ys. xs ++ ys) (reduced-row work k r step.kept reduced under narrow) (drop_more row k nought long))
         ∙ dot_of-append F unit (x ∷ rest) above (one ∷ zeros) (unit_of-elements F k r) (All-cons P x rest e p) above-elements (All-cons P one zeros F.one_element z)
-          (length-unit_of nought one k r ∙ sym length-above)
+        (length-unit_of nought one k r ∙ sym length-above)
         ∙ ap₂ add first (ap₂ add (mul-one F x e) (dot_of-zeros F rest m p) ∙ add-nought F x e) ∙ F.add_self x e
 
     -- it is sent to zero, and is not all zeros

@@ -23,7 +23,6 @@ use Rattle.field_vectors.specs.Difference.{identity_entry}
 use Rattle.field_vectors.specs.DotOfLaws.{dot_of-element}
 use Rattle.field_vectors.specs.Elements.{dot_of, plus_multiple, multiple_of, column_of, row_product, product_of, unit_of, identity_of}
 use Rattle.field_vectors.specs.Grid.{Grid, IsMatrix}
-use Rattle.field_vectors.specs.Inverse.{IsInverse}
 use Rattle.field_vectors.specs.InverseLaws.{column_of-elements}
 
 -- the numbers of zeros
@@ -61,11 +60,10 @@ module _ {A : Type 0} {P : A → Type 0} {nought one : A} {add mul : A → A →
   -- the numbers of rows of one width
   pub numbers-AreRows : (width : ℕ) (rows : List (List A)) → All (λ row. length row ≡ width) rows → All (All P) rows → AreRows kind width (map (numbers number) rows)
   numbers-AreRows width [] h k = tt
-  numbers-AreRows width (row ∷ rows) h k =
-      (
-        numbers-IsRow width row (All-head (λ (r : List A). length r ≡ width) row rows h) (All-head (All P) row rows k),
-        numbers-AreRows width rows (All-tail (λ (r : List A). length r ≡ width) row rows h) (All-tail (All P) row rows k),
-      )
+  numbers-AreRows width (row ∷ rows) h k = (
+    numbers-IsRow width row (All-head (λ (r : List A). length r ≡ width) row rows h) (All-head (All P) row rows k),
+    numbers-AreRows width rows (All-tail (λ (r : List A). length r ≡ width) row rows h) (All-tail (All P) row rows k),
+  )
 
   -- the numbers of a matrix
   pub numbers-matrix : (m : Grid A) → IsMatrix P m → AreRows kind m.columns (map (numbers number) m.rows)

@@ -1,5 +1,4 @@
 -- What a refusal to invert a matrix says.
-use Rattle.std.specs.Prelude.{List}
 use Rattle.field_vectors.specs.Grid.{Grid}
 use Rattle.field_vectors.specs.Inverse.{IsSentToZero}
 use Rattle.field_vectors.specs.declared.refusal.InvertRefusal.{InvertRefusal}

@@ -26,8 +26,7 @@ fn pivot_of<F: Field>(work: &Matrix<F>, k: u32) -> Option<u32>
     ensures some { IfSome result (λ i. IsPivot F.zero work.now k i) }
 {
     for i in k..work.rows() {
-        if work.at(i, k) == F::zero() {
-        } else {
+        if work.at(i, k) == F::zero() {} else {
             return Some(i);
         }
     }
@@ -35,12 +34,7 @@ fn pivot_of<F: Field>(work: &Matrix<F>, k: u32) -> Option<u32>
 }
 
 // Makes the entry on the diagonal of column k nonzero, by the pivot's row.
-fn lift_pivot<F: Field, L: Ledger>(
-    work: &mut Matrix<F>,
-    k: u32,
-    pivot: u32,
-    steps: &mut Steps<L>,
-)
+fn lift_pivot<F: Field, L: Ledger>(work: &mut Matrix<F>, k: u32, pivot: u32, steps: &mut Steps<L>)
     requires column { k < work.old.columns }
     requires reduced { IsReduced F.zero F.one work.old k }
     requires pivot { IsPivot F.zero work.old k pivot }
@@ -87,11 +81,7 @@ fn clear_column<F: Field, L: Ledger>(work: &mut Matrix<F>, k: u32, steps: &mut S
 }
 
 // Makes column k that of the identity, where some row from row k on has a nonzero entry there.
-fn reduce_column<F: Field, L: Ledger>(
-    work: &mut Matrix<F>,
-    k: u32,
-    steps: &mut Steps<L>,
-) -> bool
+fn reduce_column<F: Field, L: Ledger>(work: &mut Matrix<F>, k: u32, steps: &mut Steps<L>) -> bool
     requires row { k < length work.old.rows }
     requires column { k < work.old.columns }
     requires reduced { IsReduced F.zero F.one work.old k }
@@ -117,7 +107,8 @@ fn reduce<F: Field, L: Ledger>(work: &mut Matrix<F>, steps: &mut Steps<L>) -> Op
     requires { length work.old.rows ≤ work.old.columns }
     ensures step { IsStep F.is_element F.zero F.add F.mul work.old work.new }
     ensures none { IfNone result (IsReduced F.zero F.one work.new (length work.new.rows)) }
-    ensures some { IfSome result (λ k. (k < length work.new.rows) × IsReduced F.zero F.one work.new k × IsStuck F.zero work.new k) }
+    ensures some { IfSome result (λ k.
+        (k < length work.new.rows) × IsReduced F.zero F.one work.new k × IsStuck F.zero work.new k) }
 {
     for k in 0..work.rows() {
         if !reduce_column(work, k, steps) {
@@ -134,7 +125,8 @@ fn fill_row<F: Field>(work: &mut Matrix<F>, a: &Matrix<F>, i: u32)
     requires height { length work.old.rows ≡ length a.now.rows }
     requires width { work.old.columns ≡ length a.now.rows + length a.now.rows }
     requires zeros { row_of work.old i ≡ replicate (length a.now.rows + length a.now.rows) F.zero }
-    ensures { work.new ≡ with_row work.old i (row_of a.now i ++ unit_of F.zero F.one (length a.now.rows) i) }
+    ensures { work.new ≡ with_row work.old i
+        (row_of a.now i ++ unit_of F.zero F.one (length a.now.rows) i) }
 {
     let size = a.columns();
     let _width = work.columns();
@@ -221,9 +213,9 @@ fn invert_from<F: Field, L: Ledger>(
     requires parts { blank.parts ≡ L.parts }
     requires some_part { 0 < blank.parts }
     requires square { a.now.columns ≡ length a.now.rows }
-    ensures ok { IfOk result (λ inverse. IsInverse F.zero F.one F.add F.mul a.now inverse) }
+    ensures ok { IfOk result (IsInverse F.zero F.one F.add F.mul a.now) }
     ensures regular { OnOk result (OnlyZeroToZero F.is_element F.zero F.add F.mul a.now) }
-    ensures refused { IfErr result (λ refusal. IsRefusal F.is_element F.zero F.add F.mul a.now refusal) }
+    ensures refused { IfErr result (IsRefusal F.is_element F.zero F.add F.mul a.now) }
 {
     let _size = a.rows();
     let mut work = beside_identity(alloc, a)?;
@@ -239,13 +231,13 @@ fn invert_from<F: Field, L: Ledger>(
     }
 }
 
-/// The inverse of a square matrix, from both sides. It is refused where the matrix sends some block
-/// that is not all zeros to zero.
+/// The inverse of a square matrix, from both sides. It is refused exactly where the matrix sends some
+/// block that is not all zeros to zero, with such a block, or where there is too little memory.
 pub fn invert<F: Field>(alloc: Global, a: &Matrix<F>) -> Result<Matrix<F>, InvertRefusal<F>>
     requires { a.now.columns ≡ length a.now.rows }
-    ensures ok { IfOk result (λ inverse. IsInverse F.zero F.one F.add F.mul a.now inverse) }
+    ensures ok { IfOk result (IsInverse F.zero F.one F.add F.mul a.now) }
     ensures regular { OnOk result (OnlyZeroToZero F.is_element F.zero F.add F.mul a.now) }
-    ensures refused { IfErr result (λ refusal. IsRefusal F.is_element F.zero F.add F.mul a.now refusal) }
+    ensures refused { IfErr result (IsRefusal F.is_element F.zero F.add F.mul a.now) }
 {
     invert_from::<F, Brand>(alloc, a, Blank::new(1))
 }

@@ -13,3 +13,6 @@ pub use matrix::Matrix;
 pub use product::{Entry, is_identity_product};
 pub use refusal::InvertRefusal;
 pub use rows::{Row, add_scaled, dot, scale};
+
+#[cfg(test)]
+mod tests;

@@ -135,7 +135,8 @@ impl<F: Field> Matrix<F> {
         requires into { i < length self.old.rows }
         requires from { j < length self.old.rows }
         requires apart { i ≢ j }
-        ensures value { self.new ≡ with_row self.old i (plus_multiple F.add F.mul (row_of self.old i) by (row_of self.old j)) }
+        ensures value { self.new ≡ with_row self.old i
+            (plus_multiple F.add F.mul (row_of self.old i) by (row_of self.old j)) }
         ensures ticks { RoseBy self.old.columns steps.old steps.new }
     {
         let _number = by.number();
@@ -144,6 +145,14 @@ impl<F: Field> Matrix<F> {
         let end = place_of(i, columns, columns);
         let from = place_of(j, 0, columns);
         let from_end = place_of(j, columns, columns);
-        add_part(self.entries.as_mut_slice(), start, end, by, from, from_end, steps);
+        add_part(
+            self.entries.as_mut_slice(),
+            start,
+            end,
+            by,
+            from,
+            from_end,
+            steps,
+        );
     }
 }

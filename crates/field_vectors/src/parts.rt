@@ -72,7 +72,8 @@ pub fn scale_part<F: Field, L: Ledger>(
 )
     requires fits { start ≤ end }
     requires inside { end ≤ length entries.old }
-    ensures value { entries.new ≡ with_part entries.old start (multiple_of F.mul by (slice_range entries.old start end)) }
+    ensures value { entries.new ≡ with_part entries.old start
+        (multiple_of F.mul by (slice_range entries.old start end)) }
     ensures ticks { (count : _) → start + count ≡ end → RoseBy count steps.old steps.new }
 {
     scale(&mut entries[start..end], by, steps);
@@ -93,14 +94,26 @@ pub fn add_part<F: Field, L: Ledger>(
     requires from_inside { from_end ≤ length entries.old }
     requires same_length { into + from_end ≡ from + into_end }
     requires apart { (into_end ≤ from) ⊎ (from_end ≤ into) }
-    ensures value { entries.new ≡ with_part entries.old into (plus_multiple F.add F.mul (slice_range entries.old into into_end) by (slice_range entries.old from from_end)) }
+    ensures value { entries.new ≡ with_part entries.old into
+        (plus_multiple F.add F.mul (slice_range entries.old into into_end) by
+        (slice_range entries.old from from_end)) }
     ensures ticks { (count : _) → into + count ≡ into_end → RoseBy count steps.old steps.new }
 {
     if into < from {
         let (low, high) = entries.split_at_mut(from);
-        add_scaled(&mut low[into..into_end], by, &high[..from_end - from], steps);
+        add_scaled(
+            &mut low[into..into_end],
+            by,
+            &high[..from_end - from],
+            steps,
+        );
     } else {
         let (low, high) = entries.split_at_mut(into);
-        add_scaled(&mut high[..into_end - into], by, &low[from..from_end], steps);
+        add_scaled(
+            &mut high[..into_end - into],
+            by,
+            &low[from..from_end],
+            steps,
+        );
     }
 }

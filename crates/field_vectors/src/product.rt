@@ -58,14 +58,15 @@ fn difference_in_row<F: Field, L: Ledger>(
 ) -> Option<Entry<F>>
     requires row { i < length a.now.rows }
     requires inner { a.now.columns ≡ length b.now.rows }
-    ensures none { IfNone result ((j : _) → j < b.now.columns → product_entry F.zero F.add F.mul a.now b.now i j ≡ identity_entry F.zero F.one i j) }
-    ensures some { IfSome result (λ e. IsFirstInRow F.zero F.one F.add F.mul a.now b.now i e.row e.column e.found) }
+    ensures none { IfNone result ((j : _) → j < b.now.columns →
+        product_entry F.zero F.add F.mul a.now b.now i j ≡ identity_entry F.zero F.one i j) }
+    ensures some { IfSome result (λ e.
+        IsFirstInRow F.zero F.one F.add F.mul a.now b.now i e.row e.column e.found) }
     ensures ticks { RoseByAtMost (b.now.columns * a.now.columns) steps.old steps.new }
 {
     for j in 0..b.columns() {
         let found = product_entry(a, b, i, j, steps);
-        if found == identity_entry(i, j) {
-        } else {
+        if found == identity_entry(i, j) {} else {
             return Some(Entry {
                 row: i,
                 column: j,
@@ -76,9 +77,9 @@ fn difference_in_row<F: Field, L: Ledger>(
     None
 }
 
-/// Whether the product of two square matrices is the identity. An `Err` has the first entry, by rows,
-/// in which it differs. It counts a step for each product of elements, at most as many as the cube of
-/// the size.
+/// Whether the product of two square matrices is the identity. An `Err` has the first entry, by
+/// rows, in which it differs. It counts a step for each product of elements, at most as many as the
+/// cube of the size.
 pub fn is_identity_product<F: Field, L: Ledger>(
     a: &Matrix<F>,
     b: &Matrix<F>,
@@ -87,8 +88,10 @@ pub fn is_identity_product<F: Field, L: Ledger>(
     requires square { a.now.columns ≡ length a.now.rows }
     requires same_rows { length b.now.rows ≡ length a.now.rows }
     requires same_columns { b.now.columns ≡ length a.now.rows }
-    ensures ok { OnOk result (product_of F.zero F.add F.mul b.now.columns a.now.rows b.now.rows ≡ identity_of F.zero F.one (length a.now.rows)) }
-    ensures err { IfErr result (λ e. IsFirstDifference F.zero F.one F.add F.mul a.now b.now e.row e.column e.found) }
+    ensures ok { let size = length a.now.rows in
+        OnOk result (product_of F.zero F.add F.mul size a.now.rows b.now.rows ≡ identity_of F.zero F.one size) }
+    ensures err { IfErr result (λ e.
+        IsFirstDifference F.zero F.one F.add F.mul a.now b.now e.row e.column e.found) }
     ensures ticks { RoseByAtMost (length a.now.rows * (b.now.columns * a.now.columns)) steps.old steps.new }
 {
     for i in 0..a.rows() {

@@ -20,8 +20,7 @@ pub enum InvertRefusal<F> {
 impl<F> From<AllocError> for InvertRefusal<F> {
     ghost from_gives = { λ _ e. e ≡ OutOfMemory };
 
-    fn from(_error: AllocError) -> InvertRefusal<F>
-    {
+    fn from(_error: AllocError) -> InvertRefusal<F> {
         InvertRefusal::OutOfMemory
     }
 }

@@ -1,8 +1,8 @@
-use Rattle.std.proofs.Common.{◌≡◌, ◌≢◌, ◌<◌, ◌≤◌, ◌+◌, length, arith, ap, ◌∙◌, sym, ℕ}
-use Rattle.field_vectors.proofs.ClearSteps.{IsClearing, clearing-skip, clearing-more}
+use Rattle.std.proofs.Common.{◌<◌, length, arith, ap, ◌∙◌}
+use Rattle.field_vectors.proofs.ClearSteps.{clearing-skip, clearing-more}
 use Rattle.field_vectors.specs.Elements.{plus_multiple}
 use Rattle.field_vectors.specs.EliminationLaws.{step-none, reduced-more}
-use Rattle.field_vectors.specs.Grid.{row_of, entry_of, with_row}
+use Rattle.field_vectors.specs.Grid.{row_of, with_row}
 use Rattle.field_vectors.proofs.inverse.clear_column.Goals as goal
 use Rattle.field_vectors.proofs.inverse.clear_column.Goals.{then-i-k, else-i-k}
 
@@ -24,9 +24,9 @@ loop-i-preserved g c =
     let h = c.loop-i.invariant in
     let below : i < length old.rows = omega (arith, c.rows-i-end.ensures.value) in
     elim c.if-i-k.branch [
-      then-i-k w ↦
-      (let made = w.work-is ∙ w.add_row.ensures.value ∙ ap (λ by. with_row m i (plus_multiple F.add F.mul (row_of m i) by (row_of m k))) w.at-by.ensures.value in
-      rw made (clearing-more g.met.F.Field.field old m k i h w.if-i-k.true below c.requires.row c.requires.column))
+      | then-i-k w ↦
+          (let made = w.work-is ∙ w.add_row.ensures.value ∙ ap (λ by. with_row m i (plus_multiple F.add F.mul (row_of m i) by (row_of m k))) w.at-by.ensures.value in
+          rw made (clearing-more g.met.F.Field.field old m k i h w.if-i-k.true below c.requires.row c.requires.column))
       | else-i-k w ↦ rw w.work-is (clearing-skip old m k i h w.if-i-k.false)
     ]
 

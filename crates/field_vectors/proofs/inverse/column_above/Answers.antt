@@ -1,4 +1,4 @@
-use Rattle.std.proofs.Common.{ℕ, ◌≡◌, ◌+◌, [], ◌∷◌, ◌++◌, arith, ap, ◌∙◌, sym, map}
+use Rattle.std.proofs.Common.{ℕ, [], ◌∷◌, ◌++◌, arith, ap, ◌∙◌, sym, map}
 use Rattle.std.proofs.lemmas.List.FromFn.{map-range_with_len_more}
 use Rattle.std.proofs.lemmas.Slice.{pushed}
 use Rattle.std.specs.List.{range_with_len}

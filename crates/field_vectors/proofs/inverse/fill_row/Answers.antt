@@ -1,11 +1,9 @@
-use Rattle.std.proofs.Common.{◌≡◌, ◌+◌, ◌<◌, length, arith, ap, ◌∙◌, sym, replicate}
+use Rattle.std.proofs.Common.{◌≡◌, ◌+◌, ◌<◌, length, arith, ap, ◌∙◌}
 use Rattle.std.proofs.lemmas.List.{length-replicate}
 use Rattle.field_vectors.proofs.FillSteps.{fill-more, fill-all}
 use Rattle.field_vectors.specs.EliminationLaws.{length-row_of}
-use Rattle.field_vectors.specs.Elements.{unit_of}
 use Rattle.field_vectors.specs.Grid.{row_of, with_row}
 use Rattle.field_vectors.proofs.RowSteps.{joined_below}
-use Rattle.std.proofs.Math.Path.{ap₂}
 use Rattle.std.proofs.Common.{set}
 use Rattle.field_vectors.proofs.inverse.fill_row.Goals as goal
 

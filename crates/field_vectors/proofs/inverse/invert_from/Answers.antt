@@ -1,4 +1,3 @@
-use Rattle.std.proofs.Common.{◌≡◌, ◌+◌, ◌<◌, length, arith, ap, ◌∙◌, sym, rules}
 use Rattle.field_vectors.specs.EliminationLaws.{one_not_nought}
 use Rattle.field_vectors.specs.InverseLaws.{half-IsInverse, only_zero, stuck-IsSentToZero}
 use Rattle.field_vectors.proofs.inverse.invert_from.Goals as goal

@@ -1,4 +1,4 @@
-use Rattle.std.proofs.Common.{◌≡◌, ◌≢◌, ◌<◌, ◌≤◌, length, arith, ap, ◌∙◌, sym}
+use Rattle.std.proofs.Common.{◌<◌, length, arith, ap, ◌∙◌, sym}
 use Rattle.field_vectors.specs.Elements.{plus_multiple}
 use Rattle.field_vectors.specs.EliminationLaws.{step-add, reduced-add, entry-lifted}
 use Rattle.field_vectors.specs.Grid.{row_of, entry_of, with_row}

@@ -1,4 +1,4 @@
-use Rattle.std.proofs.Common.{◌≡◌, ◌≢◌, ◌<◌, ◌≤◌, length, arith, ap, ◌∙◌, sym, subst}
+use Rattle.std.proofs.Common.{◌≡◌, ◌≢◌, ◌≤◌, arith, ap, ◌∙◌, sym}
 use Rattle.field_vectors.specs.DotOfLaws.{mul-nought}
 use Rattle.field_vectors.specs.Elements.{multiple_of}
 use Rattle.field_vectors.specs.EliminationLaws.{step-scale, reduced-scale, entry-normalized, entry_of-element, one_not_nought}

@@ -7,5 +7,5 @@ invariant-loop-k g l =
     let F = g.F.Field in
     record {
       step : IsStep F.is_element F.zero F.add F.mul l.fn.work l.work;
-      reduced : IsReduced F.zero F.one l.work l.k
+      reduced : IsReduced F.zero F.one l.work l.k;
     }

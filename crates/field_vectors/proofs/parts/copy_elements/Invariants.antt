@@ -7,5 +7,5 @@ abbrev pub invariant-loop-place : goal.invariant-loop-place
 invariant-loop-place g l =
     record {
       value : l.into ≡ joined_below (λ x y. y) l.place l.fn.into l.from;
-      elements : All g.F.Field.is_element (take l.place l.from)
+      elements : All g.F.Field.is_element (take l.place l.from);
     }

@@ -9,5 +9,5 @@ invariant-loop-j g l =
     let F = g.F.Field in
     record {
       before : (j : ℕ) → j < l.j → product_entry F.zero F.add F.mul l.a l.b l.i j ≡ identity_entry F.zero F.one l.i j;
-      ticks : RoseByAtMost (l.j * l.a.columns) l.initial.steps l.steps
+      ticks : RoseByAtMost (l.j * l.a.columns) l.initial.steps l.steps;
     }

@@ -9,5 +9,5 @@ invariant-loop-i g l =
     let F = g.F.Field in
     record {
       before : (i j : ℕ) → i < l.i → j < l.b.columns → product_entry F.zero F.add F.mul l.a l.b i j ≡ identity_entry F.zero F.one i j;
-      ticks : RoseByAtMost (l.i * (l.b.columns * l.a.columns)) l.initial.steps l.steps
+      ticks : RoseByAtMost (l.i * (l.b.columns * l.a.columns)) l.initial.steps l.steps;
     }

@@ -2,7 +2,7 @@ use Rattle.std.proofs.Common.{◌≡◌, ◌<◌, ◌+◌, ◌-◌, arith, ap, �
 use Rattle.std.proofs.Math.Path.{ap₂}
 use Rattle.field_vectors.proofs.ProductSteps.{product_entry-before}
 use Rattle.field_vectors.specs.Elements.{dot_of, column_of}
-use Rattle.field_vectors.specs.Grid.{row_of, entry_of}
+use Rattle.field_vectors.specs.Grid.{row_of}
 use Rattle.field_vectors.proofs.product.product_entry.Goals as goal
 
 pub loop-k-preserved : goal.loop-k-preserved
@@ -19,7 +19,7 @@ loop-k-preserved g c =
       value =
           c.add-sum.ensures.value
           ∙ ap₂ F.add (c.mul.ensures.value ∙ ap₂ F.mul c.at.ensures.value c.at-in-loop-k.ensures.value)
-            (c.loop-k.invariant.value ∙ ap (λ n. dot_of F.zero F.add F.mul (drop n (row_of a c.args.i)) (drop n (column_of F.zero c.args.j b.rows))) (sym more))
+          (c.loop-k.invariant.value ∙ ap (λ n. dot_of F.zero F.add F.mul (drop n (row_of a c.args.i)) (drop n (column_of F.zero c.args.j b.rows))) (sym more))
           ∙ sym step;
       ticks = search rules;
     }

@@ -11,5 +11,5 @@ invariant-loop-k g l =
     record {
       within : l.k ≤ l.a.columns;
       value : l.sum ≡ dot_of F.zero F.add F.mul (drop l.k (row_of l.a l.i)) (drop l.k (column_of F.zero l.j l.b.rows));
-      ticks : RoseBy (l.a.columns - l.k) l.initial.steps l.steps
+      ticks : RoseBy (l.a.columns - l.k) l.initial.steps l.steps;
     }

@@ -9,5 +9,5 @@ invariant-loop-place g l =
     let F = g.F.Field in
     record {
       value : l.into ≡ joined_below (λ x y. F.add x (F.mul l.by y)) l.place l.fn.into l.from;
-      ticks : RoseBy l.place l.fn.steps l.steps
+      ticks : RoseBy l.place l.fn.steps l.steps;
     }

@@ -11,5 +11,5 @@ invariant-loop-place g l =
       within : l.place ≤ length l.a;
       element : F.is_element l.sum;
       value : l.sum ≡ dot_of F.zero F.add F.mul (drop l.place l.a) (drop l.place l.b);
-      ticks : RoseBy (length l.a - l.place) l.initial.steps l.steps
+      ticks : RoseBy (length l.a - l.place) l.initial.steps l.steps;
     }

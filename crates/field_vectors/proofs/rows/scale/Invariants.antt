@@ -8,5 +8,5 @@ invariant-loop-place g l =
     let F = g.F.Field in
     record {
       value : l.into ≡ map (F.mul l.by) (take l.place l.fn.into) ++ drop l.place l.fn.into;
-      ticks : RoseBy l.place l.fn.steps l.steps
+      ticks : RoseBy l.place l.fn.steps l.steps;
     }

@@ -1,12 +1,12 @@
-use Rattle.std.proofs.Common.{◌≡◌, ◌<◌, ◌≤◌, length, get_or, arith, ap, ◌∙◌, sym, slice_range, List, []}
+use Rattle.std.proofs.Common.{◌≡◌, ◌<◌, length, get_or, arith, ap, ◌∙◌, sym, slice_range, List, []}
 use Rattle.std.proofs.Math.Path.{ap₂}
 use Rattle.std.proofs.lemmas.List.{with_items_is}
 use Rattle.std.specs.List.{All}
 use Rattle.std.specs.Vec.{with_items}
 use Rattle.field_vectors.proofs.GridSteps.{row_below, columns_are, range-row, range-within, rows_apart, row-width, row-elements, grid_in-with_part, with_part-entries}
 use Rattle.field_vectors.specs.Cut.{cut, with_part}
-use Rattle.field_vectors.specs.Elements.{plus_multiple, multiple_of}
-use Rattle.field_vectors.specs.ElementsLaws.{length-plus_multiple, length-multiple_of, plus_multiple-elements, multiple_of-elements}
+use Rattle.field_vectors.specs.Elements.{plus_multiple}
+use Rattle.field_vectors.specs.ElementsLaws.{length-plus_multiple, plus_multiple-elements}
 use Rattle.field_vectors.proofs.matrix.Matrix.add_row.Goals as goal
 use Rattle.field_vectors.proofs.matrix.Matrix.add_row.Goals.{After-add_part}
 
@@ -50,8 +50,8 @@ written g c =
     with_items_is m.entries c.add_part.new.entries same ∙ c.add_part.ensures.value
     ∙ ap (λ xs. with_part xs c.place_of-start.result (plus_multiple g.F.Field.add g.F.Field.mul (slice_range xs c.place_of-start.result c.place_of-end.result) c.args.by (slice_range xs c.place_of-from.result c.place_of-from_end.result))) c.as_mut_slice.ensures.value
     ∙ ap₂ (λ row other. with_part m.entries.items c.place_of-start.result (plus_multiple g.F.Field.add g.F.Field.mul row c.args.by other))
-      (range-row m.row_count m.column_count c.args.i c.place_of-start.result c.place_of-end.result m.entries.items (below g c) c.place_of-start.ensures c.place_of-end.ensures)
-      (range-row m.row_count m.column_count c.args.j c.place_of-from.result c.place_of-from_end.result m.entries.items (other_below g c) c.place_of-from.ensures c.place_of-from_end.ensures)
+    (range-row m.row_count m.column_count c.args.i c.place_of-start.result c.place_of-end.result m.entries.items (below g c) c.place_of-start.ensures c.place_of-end.ensures)
+    (range-row m.row_count m.column_count c.args.j c.place_of-from.result c.place_of-from_end.result m.entries.items (other_below g c) c.place_of-from.ensures c.place_of-from_end.ensures)
 
 -- it has an entry for each column
 width : (g : _) (c : After-add_part g) → length (row_made g c) ≡ c.self.inside.column_count

@@ -1,4 +1,4 @@
-use Rattle.std.proofs.Common.{◌≡◌, ◌<◌, length, arith, ap, ◌∙◌, sym, subst, get_or}
+use Rattle.std.proofs.Common.{◌<◌, length, arith, ap, ◌∙◌, sym, subst, get_or}
 use Rattle.std.proofs.lemmas.List.{get_or_read}
 use Rattle.std.proofs.lemmas.List.Elements.{All-get_or}
 use Rattle.field_vectors.proofs.CutLaws.{entry_within, get_or-cut_entry}

@@ -1,5 +1,3 @@
-use Rattle.std.proofs.Common.{sym, length, ap, ◌∙◌}
-use Rattle.field_vectors.specs.Grid.{IsMatrix}
 use Rattle.field_vectors.proofs.CutLaws.{entries-IsMatrix}
 use Rattle.field_vectors.proofs.matrix.Matrix.columns.Goals as goal
 

@@ -1,12 +1,9 @@
-use Rattle.std.proofs.Common.{◌≡◌, ◌<◌, ◌≤◌, length, get_or, arith, ap, ◌∙◌, sym, slice_range, List, []}
-use Rattle.std.proofs.Math.Path.{ap₂}
+use Rattle.std.proofs.Common.{◌≡◌, ◌<◌, length, arith, ap, ◌∙◌, List}
 use Rattle.std.proofs.lemmas.List.{with_items_is}
 use Rattle.std.specs.List.{All}
 use Rattle.std.specs.Vec.{with_items}
-use Rattle.field_vectors.proofs.GridSteps.{row_below, columns_are, range-row, range-within, rows_apart, row-width, row-elements, grid_in-with_part, with_part-entries}
-use Rattle.field_vectors.specs.Cut.{cut, with_part}
-use Rattle.field_vectors.specs.Elements.{plus_multiple, multiple_of}
-use Rattle.field_vectors.specs.ElementsLaws.{length-plus_multiple, length-multiple_of, plus_multiple-elements, multiple_of-elements}
+use Rattle.field_vectors.proofs.GridSteps.{row_below, columns_are, range-within, grid_in-with_part, with_part-entries}
+use Rattle.field_vectors.specs.Cut.{with_part}
 use Rattle.field_vectors.proofs.matrix.Matrix.put_row.Goals as goal
 use Rattle.field_vectors.proofs.matrix.Matrix.put_row.Goals.{After-copy_to_part}
 

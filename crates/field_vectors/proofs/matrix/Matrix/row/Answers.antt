@@ -1,6 +1,5 @@
-use Rattle.std.proofs.Common.{◌≡◌, ◌<◌, ◌≤◌, length, arith, ap, ◌∙◌, sym, subst, slice_range}
-use Rattle.std.specs.List.{All}
-use Rattle.field_vectors.proofs.GridSteps.{row_below, columns_are, range-row, range-within, row-width, row-elements}
+use Rattle.std.proofs.Common.{◌≡◌, ◌<◌, length, arith, ap, ◌∙◌, slice_range}
+use Rattle.field_vectors.proofs.GridSteps.{row_below, range-row, range-within, row-width, row-elements}
 use Rattle.field_vectors.specs.Grid.{row_of}
 use Rattle.field_vectors.proofs.matrix.Matrix.row.Goals as goal
 use Rattle.field_vectors.proofs.matrix.Matrix.row.Goals.{After-part}

@@ -1,5 +1,4 @@
-use Rattle.std.proofs.Common.{sym, length, ap, ◌∙◌}
-use Rattle.field_vectors.specs.Grid.{IsMatrix}
+use Rattle.std.proofs.Common.{sym}
 use Rattle.field_vectors.proofs.CutLaws.{length-cut, entries-IsMatrix}
 use Rattle.field_vectors.proofs.matrix.Matrix.rows.Goals as goal
 

@@ -1,12 +1,11 @@
-use Rattle.std.proofs.Common.{◌≡◌, ◌<◌, ◌≤◌, length, get_or, arith, ap, ◌∙◌, sym, slice_range, List, []}
-use Rattle.std.proofs.Math.Path.{ap₂}
+use Rattle.std.proofs.Common.{◌≡◌, ◌<◌, length, get_or, arith, ap, ◌∙◌, slice_range, List, []}
 use Rattle.std.proofs.lemmas.List.{with_items_is}
 use Rattle.std.specs.List.{All}
 use Rattle.std.specs.Vec.{with_items}
-use Rattle.field_vectors.proofs.GridSteps.{row_below, columns_are, range-row, range-within, rows_apart, row-width, row-elements, grid_in-with_part, with_part-entries}
+use Rattle.field_vectors.proofs.GridSteps.{row_below, columns_are, range-row, range-within, row-width, row-elements, grid_in-with_part, with_part-entries}
 use Rattle.field_vectors.specs.Cut.{cut, with_part}
-use Rattle.field_vectors.specs.Elements.{plus_multiple, multiple_of}
-use Rattle.field_vectors.specs.ElementsLaws.{length-plus_multiple, length-multiple_of, plus_multiple-elements, multiple_of-elements}
+use Rattle.field_vectors.specs.Elements.{multiple_of}
+use Rattle.field_vectors.specs.ElementsLaws.{length-multiple_of, multiple_of-elements}
 use Rattle.field_vectors.proofs.matrix.Matrix.scale_row.Goals as goal
 use Rattle.field_vectors.proofs.matrix.Matrix.scale_row.Goals.{After-scale_part}
 
@@ -34,7 +33,7 @@ written g c =
     with_items_is m.entries c.scale_part.new.entries same ∙ c.scale_part.ensures.value
     ∙ ap (λ xs. with_part xs c.place_of-start.result (multiple_of g.F.Field.mul c.args.by (slice_range xs c.place_of-start.result c.place_of-end.result))) c.as_mut_slice.ensures.value
     ∙ ap (λ row. with_part m.entries.items c.place_of-start.result (multiple_of g.F.Field.mul c.args.by row))
-      (range-row m.row_count m.column_count c.args.i c.place_of-start.result c.place_of-end.result m.entries.items (below g c) c.place_of-start.ensures c.place_of-end.ensures)
+    (range-row m.row_count m.column_count c.args.i c.place_of-start.result c.place_of-end.result m.entries.items (below g c) c.place_of-start.ensures c.place_of-end.ensures)
 
 -- it has an entry for each column
 width : (g : _) (c : After-scale_part g) → length (row_made g c) ≡ c.self.inside.column_count

@@ -1,7 +1,6 @@
-use Rattle.std.proofs.Common.{◌≡◌, ◌<◌, length, arith, ap, ◌∙◌, sym, subst, set, refl}
+use Rattle.std.proofs.Common.{◌<◌, arith, refl}
 use Rattle.field_vectors.proofs.CutLaws.{entry_within}
-use Rattle.field_vectors.proofs.GridSteps.{row_below, columns_are, grid_in-set, set-entries}
-use Rattle.field_vectors.specs.Grid.{row_of, with_row}
+use Rattle.field_vectors.proofs.GridSteps.{row_below, columns_are, grid_in-set}
 use Rattle.field_vectors.proofs.matrix.Matrix.set.Goals as goal
 use Rattle.field_vectors.proofs.matrix.Matrix.set.Goals.{After-place_of-place}
 
