@@ -1,10 +1,12 @@
-//! The outside, as the program sees it: stores of files and sinks of bytes, with those in memory.
+//! The outside, as the program sees it: stores of files and sinks of bytes, with those in memory, and the gate of jobs.
 #![tactic(auto)]
 
+mod gate;
 mod memory;
 mod sink;
 mod store;
 
+pub use gate::{Gate, NoGate};
 pub use memory::{Call, Fail, MemSink, MemStore};
 pub use sink::Sink;
 pub use store::Store;

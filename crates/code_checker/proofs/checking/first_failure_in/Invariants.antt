@@ -1,0 +1,9 @@
+use Rattle.std.proofs.Common.{◌≡◌, ◌<◌, ◌+◌, length, IfOk, IfErr, OnOk, ℕ, ◌-◌, ◌*◌, ◌≤◌}
+use Rattle.gf_tables.specs.Kind.{IsOfKind}
+use Rattle.node_program.specs.Decoding.{IsAccepted}
+use Rattle.code_checker.specs.Checking.{IsRefusal}
+use Rattle.code_checker.specs.First.{IsFirstBefore}
+use Rattle.code_checker.proofs.checking.first_failure_in.Given as goal
+
+abbrev pub invariant-loop-pattern : goal.invariant-loop-pattern
+invariant-loop-pattern g l = ?

@@ -1,0 +1,36 @@
+-- Which demand of a code fails first, and where.
+use Rattle.std.specs.Prelude.{◌≡◌, ◌≢◌, ℕ, ◌<◌, List, [], Option, Some, None, slice_index, slice_index_or}
+use Rattle.linear_algebra.specs.Matrices.{identity, times_rows}
+use Rattle.net_model.specs.Demands.{demand_count}
+use Rattle.node_program.specs.Decoding.{decoder_matrix, decoder_vectors}
+use Rattle.node_program.specs.declared.code.Code.{Code}
+use Rattle.code_checker.specs.declared.checked.CheckRefusal.{CheckRefusal}
+use Rattle.code_checker.specs.declared.checked.CheckRefusal.TheVariants.{NotIdentity, OutOfMemory}
+
+-- a demand's decoder times the vectors of its links
+abbrev pub demand_product : Code → ℕ → List (List ℕ)
+demand_product code demand = times_rows code.field code.rate (decoder_matrix code demand) (decoder_vectors code demand)
+
+-- the entry in a row and a column
+abbrev pub entry_at : List (List ℕ) → ℕ → ℕ → ℕ
+entry_at rows i j = slice_index (slice_index_or rows i []) j
+
+-- the first entry, by rows, in which square rows differ from the identity
+pub record DiffersFirst (size : ℕ) (rows : List (List ℕ)) (row column found : ℕ) : Type 0 where
+  pub in_row : row < size
+  pub in_column : column < size
+  pub value : found ≡ entry_at rows row column
+  pub differs : found ≢ entry_at (identity size) row column
+  pub before : (j : ℕ) → j < column → entry_at rows row j ≡ entry_at (identity size) row j
+  pub rows_before : (i j : ℕ) → i < row → j < size → entry_at rows i j ≡ entry_at (identity size) i j
+
+-- the first demand whose product isn't the identity, and where it differs first
+pub record FailsFirst (code : Code) (demand row column found : ℕ) : Type 0 where
+  pub within : demand < demand_count code.net
+  pub before : (earlier : ℕ) → earlier < demand → demand_product code earlier ≡ identity code.rate
+  pub entry : DiffersFirst code.rate (demand_product code demand) row column found
+
+-- what a refusal says
+abbrev pub IsRefusal : Code → CheckRefusal → Type 0
+IsRefusal code (NotIdentity demand row column found) = FailsFirst code demand row column found
+IsRefusal code OutOfMemory = Unit {0}
