@@ -1,5 +1,7 @@
+mod butterfly;
 mod parts;
 mod small;
+mod wide;
 
 use crate::{Code, Decoder, DecoderTable, Entries, LiveLinks, Operand, OperandList, OperandTable};
 
