@@ -1,23 +1,18 @@
 -- The butterfly where the link from `s` to `a` may fail.
-use Rattle.std.specs.Prelude.{◌∷◌, [], codes}
 use Rattle.std.proofs.Common.{refl, lit<, lit≤}
 use Rattle.gf_tables.specs.declared.kind.FieldKind.TheVariants.{Eight}
-use Rattle.net_model.specs.declared.Pattern.{Pattern}
 use Rattle.net_model.specs.declared.net.Net.{Net}
 use Rattle.net_model.specs.declared.net.FieldChoice.TheVariants as choice
 use Rattle.node_program.specs.declared.code.Code.{Code}
-use Rattle.worked_rows.specs.Butterfly.{nodes, links, none, operands, first_decoder, second_decoder}
-
-abbrev cut : Pattern
-cut = record { name = codes "cut"; links = 0 ∷ [] }
+use Rattle.node_program.specs.ButterflyCode.{butterfly_nodes, butterfly_links, butterfly_sinks, cut_patterns, butterfly_operands, cut_decoders}
 
 abbrev network : Net
 network = record {
-  nodes = nodes;
-  links = links;
+  nodes = butterfly_nodes;
+  links = butterfly_links;
   source = 0;
-  sinks = 1 ∷ 2 ∷ [];
-  patterns = none ∷ cut ∷ [];
+  sinks = butterfly_sinks;
+  patterns = cut_patterns;
   field = choice.Eight;
   network = record {
     node_names = refl;
@@ -41,8 +36,8 @@ cut_butterfly = record {
   net = network;
   rate = 2;
   field = Eight;
-  operands = operands;
-  decoders = first_decoder ∷ first_decoder ∷ second_decoder ∷ second_decoder ∷ [];
+  operands = butterfly_operands;
+  decoders = cut_decoders;
   code = record {
     draft = record {
       some_rate = lit≤ tt;
