@@ -7,7 +7,7 @@ use Rattle.field_vectors.proofs.RowSteps.{joined_below, joined_below-more}
 use Rattle.field_vectors.specs.Difference.{identity_entry}
 use Rattle.field_vectors.specs.DotOfLaws.{identity_entry-on, identity_entry-off}
 use Rattle.field_vectors.specs.Elements.{unit_of}
-use Rattle.field_vectors.specs.EliminationLaws.{row_of-with_row, row_of-with_other}
+use Rattle.field_vectors.specs.GridLaws.{row_of-with_row, row_of-with_other}
 use Rattle.field_vectors.specs.Grid.{Grid, row_of, with_row}
 
 -- zeros with one among them are a unit row

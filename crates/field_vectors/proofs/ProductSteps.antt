@@ -1,19 +1,10 @@
 -- The steps of loops over products.
-use Rattle.std.proofs.Common.{◌≡◌, ℕ, ◌+◌, ◌<◌, List, [], length, drop, ap, ◌∙◌, arith}
-use Rattle.std.specs.List.{All}
-use Rattle.std.proofs.lemmas.List.Elements.{All-get_or}
+use Rattle.std.proofs.Common.{◌≡◌, ℕ, ◌+◌, ◌<◌, length, drop, ap, ◌∙◌, arith}
 use Rattle.field_vectors.proofs.RowSteps.{dot_of-before}
 use Rattle.field_vectors.specs.DifferenceLaws.{get_or-column_of, length-column_of}
 use Rattle.field_vectors.specs.Elements.{dot_of, column_of}
 use Rattle.field_vectors.specs.Grid.{Grid, row_of, entry_of, IsMatrix}
-
--- a row of a matrix has an entry for each column
-pub length-row_of : {A : Type 0} {P : A → Type 0} (m : Grid A) (i : ℕ) → IsMatrix P m → i < length m.rows → length (row_of m i) ≡ m.columns
-length-row_of {A} m i h below = All-get_or (λ (row : List A). length row ≡ m.columns) m.rows i [] below h.widths
-
--- and each is an element
-pub row_of-elements : {A : Type 0} {P : A → Type 0} (m : Grid A) (i : ℕ) → IsMatrix P m → i < length m.rows → All P (row_of m i)
-row_of-elements {A} {P} m i h below = All-get_or (All P) m.rows i [] below h.elements
+use Rattle.field_vectors.specs.GridLaws.{length-row_of}
 
 -- the entry of a product from a place on, from that of the places behind it
 pub product_entry-before : {A : Type 0} {P : A → Type 0} (nought : A) (add mul : A → A → A) (a b : Grid A) (i j k : ℕ) → IsMatrix P a → i < length a.rows → k < a.columns

@@ -3,7 +3,7 @@ use Rattle.std.specs.Prelude.{◌≡◌, ◌≢◌, ℕ, ◌+◌, ◌<◌, ◌�
 use Rattle.std.proofs.Common.{arith, refl, sym, ap, ◌∙◌, inl, inr}
 use Rattle.std.proofs.Math.Path.{ap₂}
 use Rattle.std.proofs.lemmas.Bool.{cases_eq}
-use Rattle.std.proofs.lemmas.List.{length-set, get_or-set_same, get_or-set_other}
+use Rattle.std.proofs.lemmas.List.{length-set}
 use Rattle.std.proofs.lemmas.List.Elements.{All-set, All-get_or, All-from_get_or}
 use Rattle.gf_tables.specs.Field.{IsField, IsNumbering}
 use Rattle.field_vectors.specs.DotOfLaws.{add-nought, mul-nought, mul-one, dot_of-element, dot_of-plus_multiple, dot_of-multiple_of, identity_entry-off, identity_entry-on, identity_entry-element}
@@ -12,29 +12,7 @@ use Rattle.field_vectors.specs.Elements.{dot_of, plus_multiple, multiple_of}
 use Rattle.field_vectors.specs.ElementsLaws.{length-plus_multiple, length-multiple_of, plus_multiple-elements, multiple_of-elements, get_or-plus_multiple, get_or-multiple_of}
 use Rattle.field_vectors.specs.Elimination.{SendsToZero, IsStep, IsReduced}
 use Rattle.field_vectors.specs.Grid.{Grid, row_of, entry_of, with_row, IsMatrix}
-
--- a row of a matrix has an entry for each column
-pub length-row_of : {A : Type 0} {P : A → Type 0} (m : Grid A) (i : ℕ) → IsMatrix P m → i < length m.rows → length (row_of m i) ≡ m.columns
-length-row_of {A} m i h below = All-get_or (λ (row : List A). length row ≡ m.columns) m.rows i [] below h.widths
-
--- and each is an element
-pub row_of-elements : {A : Type 0} {P : A → Type 0} (m : Grid A) (i : ℕ) → IsMatrix P m → i < length m.rows → All P (row_of m i)
-row_of-elements {A} {P} m i h below = All-get_or (All P) m.rows i [] below h.elements
-
--- the row that another became
-pub row_of-with_row : {A : Type 0} (m : Grid A) (i : ℕ) (row : List A) → i < length m.rows → row_of (with_row m i row) i ≡ row
-row_of-with_row m i row below = get_or-set_same m.rows i row [] below
-
--- a row that stays
-pub row_of-with_other : {A : Type 0} (m : Grid A) (i j : ℕ) (row : List A) → j ≢ i → row_of (with_row m i row) j ≡ row_of m j
-row_of-with_other m i j row other = get_or-set_other m.rows i j row [] other
-
--- a matrix with another row of elements is one
-pub with_row-IsMatrix : {A : Type 0} {P : A → Type 0} (m : Grid A) (i : ℕ) (row : List A) → IsMatrix P m → length row ≡ m.columns → All P row → IsMatrix P (with_row m i row)
-with_row-IsMatrix {A} {P} m i row h wide elements = record {
-  widths = All-set (λ (r : List A). length r ≡ m.columns) m.rows i row wide h.widths;
-  elements = All-set (All P) m.rows i row elements h.elements;
-}
+use Rattle.field_vectors.specs.GridLaws.{length-row_of, row_of-elements, row_of-with_row, row_of-with_other, with_row-IsMatrix}
 
 module _ {A : Type 0} {P : A → Type 0} {nought one : A} {add mul : A → A → A} {inv : A → A} (F : IsField P nought one add mul inv) where
   -- no step

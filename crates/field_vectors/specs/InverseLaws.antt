@@ -13,8 +13,9 @@ use Rattle.field_vectors.specs.DifferenceLaws.{get_or-column_of, length-column_o
 use Rattle.field_vectors.specs.DotOfLaws.{identity_entry-comm, identity_entry-off, length-unit_of, get_or-unit_of, add-nought, mul-one, same_from_sum, unit_of-elements, dot_of-element, dot_of-comm, dot_of-append, dot_of-zeros, dot_of-unit_of, unit_of-dot_of}
 use Rattle.field_vectors.specs.Elements.{dot_of, column_of, product_of, unit_of}
 use Rattle.field_vectors.specs.Elimination.{SendsToZero, IsStep, IsReduced, IsStuck, IsBeside}
-use Rattle.field_vectors.specs.EliminationLaws.{length-row_of, row_of-elements, entry_of-element}
+use Rattle.field_vectors.specs.EliminationLaws.{entry_of-element}
 use Rattle.field_vectors.specs.Grid.{Grid, row_of, entry_of, IsMatrix}
+use Rattle.field_vectors.specs.GridLaws.{length-row_of, row_of-elements}
 use Rattle.field_vectors.specs.Inverse.{IsInverse, IsSentToZero, IsRightHalf, block_of}
 
 -- a column of a matrix of elements has elements

@@ -1,6 +1,7 @@
 pub mod Elements
 pub mod ElementsLaws
 pub mod Grid
+pub mod GridLaws
 pub mod Cut
 pub mod Difference
 pub mod DifferenceLaws

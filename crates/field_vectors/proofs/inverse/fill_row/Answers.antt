@@ -1,7 +1,7 @@
 use Rattle.std.proofs.Common.{◌≡◌, ◌+◌, ◌<◌, length, arith, ap, ◌∙◌}
 use Rattle.std.proofs.lemmas.List.{length-replicate}
 use Rattle.field_vectors.proofs.FillSteps.{fill-more, fill-all}
-use Rattle.field_vectors.specs.EliminationLaws.{length-row_of}
+use Rattle.field_vectors.specs.GridLaws.{length-row_of}
 use Rattle.field_vectors.specs.Grid.{row_of, with_row}
 use Rattle.field_vectors.proofs.RowSteps.{joined_below}
 use Rattle.std.proofs.Common.{set}
