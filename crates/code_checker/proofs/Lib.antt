@@ -1,1 +1,3 @@
 pub mod ProductSteps
+pub mod DifferenceSteps
+pub mod FirstSteps

@@ -1,5 +1,5 @@
 -- Which demand of a code fails first, and where.
-use Rattle.std.specs.Prelude.{◌≡◌, ◌≢◌, ℕ, ◌<◌, List, [], Option, Some, None, slice_index, slice_index_or}
+use Rattle.std.specs.Prelude.{◌≡◌, ◌≢◌, ℕ, ◌<◌, List, [], slice_index, slice_index_or}
 use Rattle.linear_algebra.specs.Matrices.{identity, times_rows}
 use Rattle.net_model.specs.Demands.{demand_count}
 use Rattle.node_program.specs.Decoding.{decoder_matrix, decoder_vectors}

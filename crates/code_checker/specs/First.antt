@@ -1,5 +1,5 @@
 -- The first failure among the demands gone through so far: patterns outside, sinks inside.
-use Rattle.std.specs.Prelude.{◌≡◌, ℕ, ◌<◌, ◌≤◌, ◌⊎◌, ◌/◌, ◌%◌, Option, Some, None, length}
+use Rattle.std.specs.Prelude.{◌≡◌, ℕ, ◌<◌, ◌⊎◌, ◌/◌, Option, Some, None, Bool, false, nat_lt, length}
 use Rattle.linear_algebra.specs.Matrices.{identity}
 use Rattle.net_model.specs.Demands.{demand_count, pattern_of_demand}
 use Rattle.node_program.specs.declared.code.Code.{Code}
@@ -26,3 +26,8 @@ pub record IsFirst (code : Code) (pattern sink : ℕ) (failure : Failure) : Type
 abbrev pub IsFirstBefore : Code → ℕ → ℕ → Option Failure → Type 0
 IsFirstBefore code pattern sink None = AreIdentities code pattern sink (demand_count code.net)
 IsFirstBefore code pattern sink (Some failure) = IsFirst code pattern sink failure
+
+-- a demand below this one is known to fail
+abbrev pub fails_below : Option Failure → ℕ → Bool
+fails_below None demand = false
+fails_below (Some failure) demand = nat_lt failure.demand demand

@@ -3,7 +3,7 @@ ghost use Rattle.std.specs.Prelude.{◌≡◌, ◌<◌, ◌+◌, length, IfOk, I
 ghost use Rattle.gf_tables.specs.Kind.{IsOfKind};
 ghost use Rattle.node_program.specs.Decoding.{IsAccepted};
 ghost use Rattle.code_checker.specs.Checking.{IsRefusal};
-ghost use Rattle.code_checker.specs.First.{IsFirstBefore};
+ghost use Rattle.code_checker.specs.First.{IsFirstBefore, fails_below};
 
 use crate::checked::{CheckRefusal, Checked, Refused};
 use crate::products::{Failure, difference};
@@ -51,16 +51,25 @@ pub fn check<G: Gate + Sync, R: Threads + Sync>(
 }
 
 // The first demand that fails, and where.
+#[tactic(auto, unfolding(gf_tables::specs::Product::product))]
 fn first_failure(alloc: Global, code: &Code) -> Result<Option<Failure>, AllocError>
     ensures { IfOk result (IsFirstBefore code.now (length code.now.net.patterns) 0) }
 {
     match code.field {
-        FieldKind::Eight => first_failure_in::<Gf8, Brand>(alloc, code, Blank::new(1)),
-        FieldKind::Sixteen => first_failure_in::<Gf16, Brand>(alloc, code, Blank::new(1)),
+        FieldKind::Eight => first_failure_over::<Gf8>(alloc, code),
+        FieldKind::Sixteen => first_failure_over::<Gf16>(alloc, code),
     }
 }
 
 // The same, where `F` is the code's field.
+fn first_failure_over<F: Field>(alloc: Global, code: &Code) -> Result<Option<Failure>, AllocError>
+    requires { IsOfKind code.now.field F.SIZE F.BYTES F.MARK F.product }
+    ensures { IfOk result (IsFirstBefore code.now (length code.now.net.patterns) 0) }
+{
+    first_failure_in::<F, Brand>(alloc, code, Blank::new(1))
+}
+
+// The same, with a counter of its own.
 fn first_failure_in<F: Field, L: Ledger>(
     alloc: Global,
     code: &Code,
@@ -97,14 +106,22 @@ fn first_up_to<F: Field, L: Ledger>(
     let patterns = code.net.patterns.len() as u32;
     for sink in 0..code.net.sinks.len() as u32 {
         let demand = sink * patterns + pattern;
-        if let Some(failure) = first {
-            if failure.demand < demand {
-                return Ok(first);
-            }
+        if fails_below(&first, demand) {
+            return Ok(first);
         }
         if let Some(failure) = difference(alloc, code, demand, &vectors, steps)? {
             return Ok(Some(failure));
         }
     }
     Ok(first)
+}
+
+// Whether a demand below this one is known to fail.
+fn fails_below(first: &Option<Failure>, demand: u32) -> bool
+    ensures { result ≡ fails_below first.now demand }
+{
+    match first {
+        Some(failure) => failure.demand < demand,
+        None => false,
+    }
 }

@@ -8,6 +8,7 @@ use Rattle.std.proofs.lemmas.List.Elements.{All-take, All-drop, All-nil, All-con
 use Rattle.std.specs.List.{All}
 use Rattle.field_vectors.specs.Cut.{cut, grid_in, AreEntries, with_part}
 use Rattle.field_vectors.specs.Grid.{IsMatrix}
+use Rattle.linear_algebra.specs.EntryLaws.{row_end, place_within}
 
 -- how many rows there are
 pub length-cut : {A : Type 0} (count width : ℕ) (entries : List A) → length (cut count width entries) ≡ count
@@ -22,17 +23,6 @@ get_or-cut (suc count) width (suc i) entries below =
     let same : width + i * width ≡ suc i * width = omega (arith, suc-mul i width) in
     get_or-cut count width i (drop width entries) (omega arith)
     ∙ ap (take width) (drop-drop (i * width) width entries ∙ ap (λ n. drop n entries) same)
-
--- a row of entries ends within them
-pub row_end : (i count width : ℕ) → i < count → i * width + width ≤ count * width
-row_end i count width below =
-    let next : suc i ≤ count = omega arith in
-    let fits : suc i * width ≤ count * width = mul-le-mul_right width next in
-    omega (arith, suc-mul i width, fits)
-
--- an entry stands within the entries
-pub entry_within : (i j count width : ℕ) → i < count → j < width → i * width + j < count * width
-entry_within i j count width below inside = let fits = row_end i count width below in omega arith
 
 -- the entry at a place
 pub get_or-cut_entry : {A : Type 0} (count width i j : ℕ) (entries : List A) (d : A) → i < count → j < width

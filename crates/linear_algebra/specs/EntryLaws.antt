@@ -17,11 +17,15 @@ next_place : (a width : ℕ) → (a + 1) * width ≡ a * width + width
 next_place a width = ap (λ k. k * width) (add-one a) ∙ suc-mul a width
 
 -- a row of entries ends within them
-row_end : (i count width : ℕ) → i < count → i * width + width ≤ count * width
+pub row_end : (i count width : ℕ) → i < count → i * width + width ≤ count * width
 row_end i count width below =
     let next : suc i ≤ count = omega arith in
     let fits : suc i * width ≤ count * width = mul-le-mul_right width next in
     omega (arith, suc-mul i width, fits)
+
+-- a place of entries that stand row by row
+pub place_within : (i j count width : ℕ) → i < count → j < width → i * width + j < count * width
+place_within i j count width below inside = let fits = row_end i count width below in omega (arith, fits, inside)
 
 -- the row that begins at a place of entries of elements
 rows_from : (field : FieldKind) (width a n count : ℕ) (entries : List ℕ) → a + n ≤ count → count * width ≤ length entries → AreElements field entries

@@ -1,9 +1,6 @@
-use Rattle.std.proofs.Common.{◌≡◌, ◌<◌, ◌+◌, length, IfOk, IfErr, OnOk, ℕ, ◌-◌, ◌*◌, ◌≤◌}
-use Rattle.gf_tables.specs.Kind.{IsOfKind}
-use Rattle.node_program.specs.Decoding.{IsAccepted}
-use Rattle.code_checker.specs.Checking.{IsRefusal}
 use Rattle.code_checker.specs.First.{IsFirstBefore}
 use Rattle.code_checker.proofs.checking.first_failure_in.Given as goal
 
+-- the first failure is that of the patterns so far
 abbrev pub invariant-loop-pattern : goal.invariant-loop-pattern
-invariant-loop-pattern g l = ?
+invariant-loop-pattern g l = IsFirstBefore l.code l.pattern 0 l.first

@@ -1,7 +1,8 @@
 use Rattle.std.proofs.Common.{◌<◌, length, arith, ap, ◌∙◌, sym, subst, get_or}
 use Rattle.std.proofs.lemmas.List.{get_or_read}
 use Rattle.std.proofs.lemmas.List.Elements.{All-get_or}
-use Rattle.field_vectors.proofs.CutLaws.{entry_within, get_or-cut_entry}
+use Rattle.field_vectors.proofs.CutLaws.{get_or-cut_entry}
+use Rattle.linear_algebra.specs.EntryLaws.{place_within}
 use Rattle.field_vectors.proofs.GridSteps.{row_below, columns_are}
 use Rattle.field_vectors.specs.Grid.{entry_of}
 use Rattle.field_vectors.proofs.matrix.Matrix.at.Goals as goal
@@ -22,7 +23,7 @@ inside g c =
 within : (g : _) (c : After-place_of g) → c.place_of.result < length c.self.inside.entries.items
 within g c =
     let m = c.self.inside in
-    let place = entry_within c.args.i c.args.j m.row_count m.column_count (below g c) (inside g c) in
+    let place = place_within c.args.i c.args.j m.row_count m.column_count (below g c) (inside g c) in
     omega (arith, c.place_of.ensures, c.self.invariant.all)
 
 pub index-requires : goal.index-requires

@@ -1,5 +1,5 @@
 use Rattle.std.proofs.Common.{◌<◌, arith, refl}
-use Rattle.field_vectors.proofs.CutLaws.{entry_within}
+use Rattle.linear_algebra.specs.EntryLaws.{place_within}
 use Rattle.field_vectors.proofs.GridSteps.{row_below, columns_are, grid_in-set}
 use Rattle.field_vectors.proofs.matrix.Matrix.set.Goals as goal
 use Rattle.field_vectors.proofs.matrix.Matrix.set.Goals.{After-place_of-place}
@@ -19,7 +19,7 @@ pub index_mut-requires : goal.index_mut-requires
 index_mut-requires g c =
     let s = (goal.at.index_mut-requires g c).After-place_of-place in
     let m = c.self.inside in
-    let place = entry_within c.args.i c.args.j m.row_count m.column_count (below g s) (inside g s) in
+    let place = place_within c.args.i c.args.j m.row_count m.column_count (below g s) (inside g s) in
     omega (arith, c.place_of-place.ensures, c.self.invariant.all, m.entries.ok.0)
 
 pub returns : goal.returns

@@ -1,0 +1,6 @@
+use Rattle.code_checker.proofs.ProductSteps.{IsCarried}
+use Rattle.code_checker.proofs.products.carried_by.Given as goal
+
+-- the rows before this one are the vectors of their links
+abbrev pub invariant-loop-i : goal.invariant-loop-i
+invariant-loop-i g l = IsCarried l.vectors l.links l.code.rate l.i l.carried
