@@ -1,2 +1,6 @@
-//! Code files: the one spelling of a code in bytes.
+//! Code files: the bytes of a code, and the code of bytes.
 #![tactic(auto)]
+
+mod refusal;
+
+pub use refusal::CodeRefusal;
