@@ -1,5 +1,5 @@
 //! Why bytes aren't a code file.
-use std::alloc::AllocError;
+use std::alloc::{AllocError, AllocFailed};
 use thiserror::Error;
 
 /// Why bytes aren't read as a code. The refusal is that of the first item that isn't good, and of its refusals the
@@ -58,6 +58,17 @@ impl From<AllocError> for CodeRefusal {
     ghost from_gives = { λ _ refusal. refusal ≡ OutOfMemory };
 
     fn from(_: AllocError) -> CodeRefusal {
+        CodeRefusal::OutOfMemory
+    }
+}
+
+impl<T: Drop> From<AllocFailed<T>> for CodeRefusal {
+    ghost use Rattle.std.specs.Prelude.{◌≡◌};
+    ghost use Rattle.code_file.specs.declared.refusal.CodeRefusal.TheVariants.{OutOfMemory};
+
+    ghost from_gives = { λ _ refusal. refusal ≡ OutOfMemory };
+
+    fn from(_: AllocFailed<T>) -> CodeRefusal {
         CodeRefusal::OutOfMemory
     }
 }
