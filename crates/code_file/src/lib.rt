@@ -1,9 +1,16 @@
 //! Code files: the bytes of a code, and the code of bytes.
 #![tactic(auto)]
 
+mod front;
 mod items;
+mod links;
+mod marks;
 mod names;
+mod nodes;
+mod parts;
+mod patterns;
 mod refusal;
 mod rest;
+mod rising;
 
 pub use refusal::CodeRefusal;
