@@ -1,2 +1,5 @@
+pub mod Above
 pub mod Checks
 pub mod Lists
+pub mod Loop
+pub mod Named

@@ -12,7 +12,6 @@ use crate::parts::Front;
 use crate::patterns::patterns;
 use crate::rest::Rest;
 use gf_tables::FieldKind;
-use net_model::{LinkTable, NameList, NodeList, PatternList};
 use std::alloc::Global;
 
 // The mark and the version.
@@ -78,11 +77,11 @@ pub(crate) fn front<'a>(
     let front = Front {
         field,
         rate,
-        nodes: NameList::of(nodes),
-        links: LinkTable::of(links),
+        nodes,
+        links,
         source,
-        sinks: NodeList::of(sinks),
-        patterns: PatternList::of(patterns),
+        sinks,
+        patterns,
     };
     Ok((front, rest))
 }

@@ -1,5 +1,5 @@
 //! The next items of a file: numbers and elements.
-ghost use Rattle.std.specs.Prelude.{◌≡◌, ◌<◌, ◌∷◌, not, [], length, nat_lt, IfOk};
+ghost use Rattle.std.specs.Prelude.{◌≡◌, ◌<◌, ◌≤◌, ◌∷◌, not, [], length, nat_lt, IfOk};
 ghost use Rattle.gf_tables.specs.Product.{size_of};
 ghost use Rattle.code_file.specs.Reading.{item, byte_at, number_at, element_at};
 ghost use Rattle.code_file.specs.Gives.{Gives, left_of};
@@ -65,7 +65,8 @@ pub(crate) fn element<'a>(field: FieldKind, rest: Rest<'a>) -> Result<(u32, Rest
 /// A count that has a limit.
 #[tactic(auto, using(crate::proofs::Checks::number_checked))]
 pub(crate) fn count<'a>(rest: Rest<'a>, limit: u16) -> Result<(u16, Rest<'a>), CodeRefusal>
-    ensures { Gives (λ x. (x.0, left_of x.1)) result (number_at (left_of rest.entry) (λ n. (nat_lt limit n, CodeRefusal.TooMany rest.entry.at) ∷ [])) }
+    ensures gives { Gives (λ x. (x.0, left_of x.1)) result (number_at (left_of rest.entry) (λ n. (nat_lt limit n, CodeRefusal.TooMany rest.entry.at) ∷ [])) }
+    ensures few { IfOk result (λ x. x.0 ≤ limit) }
 {
     let (count, after) = number(rest)?;
     if count > limit {
@@ -77,7 +78,8 @@ pub(crate) fn count<'a>(rest: Rest<'a>, limit: u16) -> Result<(u16, Rest<'a>), C
 /// A number below a limit.
 #[tactic(auto, using(crate::proofs::Checks::number_checked))]
 pub(crate) fn index<'a>(rest: Rest<'a>, limit: usize) -> Result<(u32, Rest<'a>), CodeRefusal>
-    ensures { Gives (λ x. (x.0, left_of x.1)) result (number_at (left_of rest.entry) (λ n. (not (nat_lt n limit), CodeRefusal.BadIndex rest.entry.at) ∷ [])) }
+    ensures gives { Gives (λ x. (x.0, left_of x.1)) result (number_at (left_of rest.entry) (λ n. (not (nat_lt n limit), CodeRefusal.BadIndex rest.entry.at) ∷ [])) }
+    ensures below { IfOk result (λ x. x.0 < limit) }
 {
     let (index, after) = number(rest)?;
     if usize::from(index) >= limit {

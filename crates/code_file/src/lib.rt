@@ -1,14 +1,17 @@
 //! Code files: the bytes of a code, and the code of bytes.
 #![tactic(auto)]
 
+mod decoders;
 mod front;
 mod items;
 mod links;
 mod marks;
 mod names;
 mod nodes;
+mod operands;
 mod parts;
 mod patterns;
+mod reading;
 mod refusal;
 mod rest;
 mod rising;

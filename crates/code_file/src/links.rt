@@ -10,7 +10,7 @@ use crate::items::{count, index, number};
 use crate::marks::{is_marked, mark, no_marks};
 use crate::names::{Names, name};
 use crate::rest::Rest;
-use net_model::Link;
+use net_model::{Link, LinkTable};
 use std::alloc::Global;
 
 // The head of a link, which is neither its tail nor that of an earlier link.
@@ -91,9 +91,10 @@ pub(crate) fn links<'a>(
     alloc: Global,
     nodes: usize,
     rest: Rest<'a>,
-) -> Result<(Vec<Link>, Rest<'a>), CodeRefusal>
-    ensures { Gives (λ x. (x.0.items, left_of x.1)) result (links_at nodes (left_of rest.entry)) }
+) -> Result<(LinkTable, Rest<'a>), CodeRefusal>
+    ensures { Gives (λ x. (x.0, left_of x.1)) result (links_at nodes (left_of rest.entry)) }
 {
     let (count, rest) = count(rest, 8192)?;
-    counted_links(alloc, nodes, count, rest)
+    let (links, rest) = counted_links(alloc, nodes, count, rest)?;
+    Ok((LinkTable::of(links), rest))
 }

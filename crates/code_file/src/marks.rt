@@ -15,7 +15,7 @@ pub(crate) fn no_marks(alloc: Global, limit: usize) -> Result<Vec<bool>, AllocEr
 /// Whether a number has come.
 pub(crate) fn is_marked(marks: &[bool], number: usize) -> bool
     requires { number < length marks.now }
-    ensures { (numbers : List ℕ) → AreMarks (length marks.now) numbers marks.now → result ≡ is_among numbers number }
+    ensures { (limit : ℕ) (numbers : List ℕ) → AreMarks limit numbers marks.now → result ≡ is_among numbers number }
 {
     marks[number]
 }
@@ -23,7 +23,7 @@ pub(crate) fn is_marked(marks: &[bool], number: usize) -> bool
 /// Says that a number has come.
 pub(crate) fn mark(marks: &mut [bool], number: usize)
     requires { number < length marks.old }
-    ensures { (numbers : List ℕ) → AreMarks (length marks.old) numbers marks.old → AreMarks (length marks.old) (numbers ++ number ∷ []) marks.new }
+    ensures { (limit : ℕ) (numbers : List ℕ) → AreMarks limit numbers marks.old → AreMarks limit (numbers ++ number ∷ []) marks.new }
 {
     marks[number] = true;
 }

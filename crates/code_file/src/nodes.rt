@@ -12,7 +12,7 @@ use crate::items::{count, number};
 use crate::marks::{is_marked, mark, no_marks};
 use crate::names::{Names, name};
 use crate::rest::Rest;
-use net_model::Name;
+use net_model::{Name, NameList, NodeList};
 use std::alloc::Global;
 
 // So many names of nodes.
@@ -39,11 +39,12 @@ fn counted_nodes<'a>(
 pub(crate) fn nodes<'a>(
     alloc: Global,
     rest: Rest<'a>,
-) -> Result<(Vec<Name>, Rest<'a>), CodeRefusal>
-    ensures { Gives (λ x. (x.0.items, left_of x.1)) result (nodes_at (left_of rest.entry)) }
+) -> Result<(NameList, Rest<'a>), CodeRefusal>
+    ensures { Gives (λ x. (x.0, left_of x.1)) result (nodes_at (left_of rest.entry)) }
 {
     let (count, rest) = count(rest, 4096)?;
-    counted_nodes(alloc, count, rest)
+    let (nodes, rest) = counted_nodes(alloc, count, rest)?;
+    Ok((NameList::of(nodes), rest))
 }
 
 // One sink, which is neither the source nor an earlier one.
@@ -60,12 +61,13 @@ fn sink<'a>(
     ensures marked { IfOk result (λ x. AreMarks nodes (earlier.now ++ x.0 ∷ []) marks.new) }
 {
     let (sink, after) = number(rest)?;
-    let place = usize::from(sink);
-    if place >= nodes || u32::from(sink) == source || is_marked(marks, place) {
+    let sink = u32::from(sink);
+    let place = sink as usize;
+    if place >= nodes || sink == source || is_marked(marks, place) {
         return Err(CodeRefusal::BadIndex { at: rest.at });
     }
     mark(marks, place);
-    Ok((u32::from(sink), after))
+    Ok((sink, after))
 }
 
 // So many sinks.
@@ -113,10 +115,11 @@ pub(crate) fn sinks<'a>(
     nodes: usize,
     source: u32,
     rest: Rest<'a>,
-) -> Result<(Vec<u32>, Rest<'a>), CodeRefusal>
-    ensures gives { Gives (λ x. (x.0.items, left_of x.1)) result (sinks_at nodes source (left_of rest.entry)) }
-    ensures few { IfOk result (λ x. length x.0.items ≤ 4096) }
+) -> Result<(NodeList, Rest<'a>), CodeRefusal>
+    ensures gives { Gives (λ x. (x.0, left_of x.1)) result (sinks_at nodes source (left_of rest.entry)) }
+    ensures few { IfOk result (λ x. length x.0 ≤ 4096) }
 {
     let (count, rest) = sink_count(rest)?;
-    counted_sinks(alloc, nodes, source, count, rest)
+    let (sinks, rest) = counted_sinks(alloc, nodes, source, count, rest)?;
+    Ok((NodeList::of(sinks), rest))
 }

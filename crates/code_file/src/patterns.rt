@@ -9,7 +9,7 @@ use crate::items::number;
 use crate::names::{Names, name};
 use crate::rest::Rest;
 use crate::rising::is_above_last;
-use net_model::{LinkList, Name, Pattern};
+use net_model::{LinkList, Name, Pattern, PatternList};
 use std::alloc::Global;
 
 /// The name of the pattern without links.
@@ -144,11 +144,12 @@ pub(crate) fn patterns<'a>(
     links: usize,
     sinks: usize,
     rest: Rest<'a>,
-) -> Result<(Vec<Pattern>, Rest<'a>), CodeRefusal>
+) -> Result<(PatternList, Rest<'a>), CodeRefusal>
     requires { sinks ≤ 4096 }
-    ensures gives { Gives (λ x. (x.0.items, left_of x.1)) result (patterns_at links sinks (left_of rest.entry)) }
-    ensures few { IfOk result (λ x. sinks * length x.0.items ≤ 65536) }
+    ensures gives { Gives (λ x. (x.0, left_of x.1)) result (patterns_at links sinks (left_of rest.entry)) }
+    ensures few { IfOk result (λ x. sinks * length x.0 ≤ 65536) }
 {
     let (count, rest) = pattern_count(sinks, rest)?;
-    counted_patterns(alloc, links, count, rest)
+    let (patterns, rest) = counted_patterns(alloc, links, count, rest)?;
+    Ok((PatternList::of(patterns), rest))
 }
