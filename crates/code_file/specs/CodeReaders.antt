@@ -203,3 +203,172 @@ front_reader mark version four small =
         patterns = fit.1.1.1.1.1.1.1.0;
       })
       (λ f is. (tt, (tt, ((is.some_rate, is.low_rate), ((is.few_nodes, is.nodes), ((is.few_links, is.links), ((is.source_fits, is.source), ((is.some_sink, (is.few_sinks, is.sinks)), (is.patterns, refl))))))))))
+
+-- ---- the operands
+
+-- an operand that names what the link may read, above the one before, with a nonzero element
+pub record OperandAfter (front : Front) (link : Link) (earlier : List Operand) (operand : Operand) : Type 0 where
+  pub fits : operand.from < 65536
+  pub rises : is_above_last (map (λ one. one.from) earlier) operand.from ≡ true
+  pub reads : may_read front link operand.from ≡ true
+  pub coefficient : operand.times < size_of front.field
+  pub nonzero : 0 < operand.times
+
+from_conditions : (front : Front) (link : Link) (earlier : List Operand)
+    → AreConditions (λ rest n. (not (is_above_last (map (λ operand. operand.from) earlier) n), NotRising rest.at) ∷ (not (may_read front link n), BadOperand rest.at) ∷ [])
+    (λ n. (is_above_last (map (λ operand. operand.from) earlier) n ≡ true) × (may_read front link n ≡ true))
+from_conditions front link earlier = record {
+  to = λ rest n none. (not-false _ none.0, not-false _ none.1.0);
+  from = λ rest n fit. (not_from_true _ fit.0, (not_from_true _ fit.1, tt));
+  free = λ rest n. (refl, (refl, tt));
+}
+
+times_conditions : AreConditions (λ rest n. (n == 0, ZeroCoefficient rest.at) ∷ []) (λ n. 0 < n)
+times_conditions = record {
+  to = λ rest n none.
+      let apart = eqb-false n 0 none.0 in
+      omega arith;
+  from = λ rest n above. (ne_eqb n 0 (λ e. absurd (omega arith)), tt);
+  free = λ rest n. (refl, tt);
+}
+
+operand_reader : (front : Front) (link : Link) (earlier : List Operand) → IsReader (operand_at front link earlier) (λ operand. concat (operand_items front.field operand)) (OperandAfter front link earlier)
+unfolding operand_at
+operand_reader front link earlier =
+    same_reader
+    (then_reader (λ (operand : Operand). operand.from) (number_reader (from_conditions front link earlier))
+      (λ from. then_reader (λ (operand : Operand). operand.times) (element_reader front.field times_conditions)
+        (λ times. done_reader (record { from = from; times = times }))
+        (λ times operand fit more. ap (λ (o : Operand). o.times) more))
+      (λ from operand fit more. ap (λ (o : Operand). o.from) more.1))
+    (λ operand fit. refl)
+    (λ operand fit. record { fits = fit.0.0; rises = fit.0.1.0; reads = fit.0.1.1; coefficient = fit.1.0.0; nonzero = fit.1.0.1 })
+    (λ operand fit. ((fit.fits, (fit.rises, fit.reads)), ((fit.coefficient, fit.nonzero), refl)))
+
+-- what the items of a link's operands say one by one
+pub record AreOperandsRead (front : Front) (link : Link) (operands : List Operand) : Type 0 where
+  pub few : length operands ≤ 8192
+  pub each : AllAfter (OperandAfter front link) [] operands
+
+pub operands_reader : (front : Front) (link : Link) → IsReader (operands_at_link front link) (λ operands. concat (operand_list_items front.field operands)) (AreOperandsRead front link)
+unfolding operands_at_link
+operands_reader front link =
+    same_reader
+    (counted_reader (number_reader (count_conditions 8192)) (operand_at front link) (λ operand. concat (operand_items front.field operand)) (OperandAfter front link) (operand_reader front link) [])
+    (λ operands fit. ap (λ (t : List ℕ). number_item (length operands) ++ t) (sym (concat-flat_map (operand_items front.field) operands)))
+    (λ operands fit. record { few = fit.0.1; each = fit.1.1 })
+    (λ operands fit. ((omega (arith, fit.few), fit.few), (refl, fit.each)))
+
+-- ---- the decoders
+
+-- a link into the sink, above the one before
+pub record DecoderLinkAfter (front : Front) (sink : ℕ) (earlier : List ℕ) (link : ℕ) : Type 0 where
+  pub fits : link < 65536
+  pub rises : is_above_last earlier link ≡ true
+  pub into : leads_into front.links sink link ≡ true
+
+decoder_link_conditions : (front : Front) (sink : ℕ) (earlier : List ℕ)
+    → AreConditions (λ rest n. (not (is_above_last earlier n), NotRising rest.at) ∷ (not (leads_into front.links sink n), BadOperand rest.at) ∷ [])
+    (λ n. (is_above_last earlier n ≡ true) × (leads_into front.links sink n ≡ true))
+decoder_link_conditions front sink earlier = record {
+  to = λ rest n none. (not-false _ none.0, not-false _ none.1.0);
+  from = λ rest n fit. (not_from_true _ fit.0, (not_from_true _ fit.1, tt));
+  free = λ rest n. (refl, (refl, tt));
+}
+
+decoder_link_reader : (front : Front) (sink : ℕ) (earlier : List ℕ)
+    → IsReader (λ at. number_at at (λ n. (not (is_above_last earlier n), NotRising at.at) ∷ (not (leads_into front.links sink n), BadOperand at.at) ∷ [])) number_item (DecoderLinkAfter front sink earlier)
+decoder_link_reader front sink earlier =
+    same_reader (number_reader (decoder_link_conditions front sink earlier)) (λ n fit. refl)
+    (λ n fit. record { fits = fit.0; rises = fit.1.0; into = fit.1.1 })
+    (λ n fit. (fit.fits, (fit.rises, fit.into)))
+
+no_conditions : AreConditions (λ rest n. []) (λ (n : ℕ). Unit {0})
+no_conditions = record {
+  to = λ rest n none. tt;
+  from = λ rest n fit. tt;
+  free = λ rest n. tt;
+}
+
+entry_reader : (field : FieldKind) (earlier : List ℕ) → IsReader (λ at. element_at field at (λ n. [])) (element_item field) (λ n. n < size_of field)
+entry_reader field earlier = same_reader (element_reader field no_conditions) (λ n fit. refl) (λ n fit. fit.0) (λ n fit. (fit, tt))
+
+-- what the items of a decoder say one by one
+pub record IsDecoderRead (front : Front) (sink : ℕ) (decoder : Decoder) : Type 0 where
+  pub link_count : length decoder.links ≡ front.rate
+  pub links : AllAfter (DecoderLinkAfter front sink) [] decoder.links
+  pub entry_count : length decoder.entries ≡ front.rate * front.rate
+  pub entries : AllAfter (λ earlier n. n < size_of front.field) [] decoder.entries
+
+pub decoder_reader : (front : Front) (sink : ℕ) → IsReader (decoder_at front sink) (λ decoder. concat (decoder_items front.field decoder)) (IsDecoderRead front sink)
+unfolding decoder_at
+decoder_reader front sink =
+    same_reader
+    (then_reader (λ (decoder : Decoder). decoder.links)
+      (repeated_reader (λ earlier at. number_at at (λ n. (not (is_above_last earlier n), NotRising at.at) ∷ (not (leads_into front.links sink n), BadOperand at.at) ∷ []))
+        number_item (DecoderLinkAfter front sink) (decoder_link_reader front sink) front.rate [])
+      (λ links. then_reader (λ (decoder : Decoder). decoder.entries)
+        (repeated_reader (λ earlier at. element_at front.field at (λ n. [])) (element_item front.field) (λ earlier n. n < size_of front.field) (entry_reader front.field) (front.rate * front.rate) [])
+        (λ entries. done_reader (record { links = links; entries = entries }))
+        (λ entries decoder fit more. ap (λ (d : Decoder). d.entries) more))
+      (λ links decoder fit more. ap (λ (d : Decoder). d.links) more.1))
+    (λ decoder fit.
+      ap (λ (t : List ℕ). flat_map number_item decoder.links ++ t) (append-nil (flat_map (element_item front.field) decoder.entries) ∙ sym (concat-map (element_item front.field) decoder.entries))
+      ∙ sym (concat-map_then number_item decoder.links (map (element_item front.field) decoder.entries)))
+    (λ decoder fit. record { link_count = fit.0.0; links = fit.0.1.1; entry_count = fit.1.0.0; entries = fit.1.0.1.1 })
+    (λ decoder fit. ((fit.link_count, (refl, fit.links)), ((fit.entry_count, (refl, fit.entries)), refl)))
+
+-- ---- all
+
+-- what the items of a file say one by one
+pub record AreContentsRead (contents : Contents) : Type 0 where
+  pub front : IsFrontRead contents.front
+  pub operands : EachFits (AreOperandsRead contents.front) contents.front.links contents.operands
+  pub decoders : EachFits (IsDecoderRead contents.front) (demand_sinks contents.front) contents.decoders
+
+-- all but the end of the file
+unfoldable pub body_at : Rest → Reading Contents
+body_at rest = do
+  front ← front_at (codes "LIFC") 1 rest
+  operands ← each_at (operands_at_link front.0) front.0.links front.1
+  decoders ← each_at (decoder_at front.0) (demand_sinks front.0) operands.1
+  Ok (record { front = front.0; operands = operands.0; decoders = decoders.0 }, decoders.1)
+
+-- the operands and the decoders as texts, where elements are spelled as those of a field
+abbrev tables_text : FieldKind → Contents → List ℕ
+tables_text field contents =
+    flat_map (λ operands. concat (operand_list_items field operands)) contents.operands ++ (flat_map (λ decoder. concat (decoder_items field decoder)) contents.decoders ++ [])
+
+-- the texts of the parts in a row
+body_text : (contents : Contents)
+    → concat (front_items_in code_mark code_version contents.front) ++ tables_text contents.front.field contents ≡ spelling_of contents
+unfolding items_in spelling_of
+body_text contents =
+    let field = contents.front.field in
+    let front = front_items_in code_mark code_version contents.front in
+    let tables = operand_table_items field contents.operands ++ decoder_table_items field contents.decoders in
+    ap (λ (t : List ℕ). concat front ++ t)
+    (ap (λ (t : List ℕ). flat_map (λ operands. concat (operand_list_items field operands)) contents.operands ++ t)
+      (append-nil (flat_map (λ decoder. concat (decoder_items field decoder)) contents.decoders) ∙ sym (concat-flat_map (decoder_items field) contents.decoders))
+      ∙ sym (concat-flat_map_then (operand_list_items field) contents.operands (decoder_table_items field contents.decoders)))
+    ∙ sym (concat-append front tables)
+
+pub body_reader : IsReader body_at spelling_of AreContentsRead
+unfolding body_at
+body_reader =
+    same_reader
+    (then_reader (λ (c : Contents). c.front) (front_reader (codes "LIFC") 1 refl (lit< tt))
+      (λ front. same_reader {spell' = λ c. tables_text c.front.field c}
+        (then_reader (λ (c : Contents). c.operands)
+          (each_reader (operands_at_link front) (λ operands. concat (operand_list_items front.field operands)) (AreOperandsRead front) (operands_reader front) front.links)
+          (λ operands. then_reader (λ (c : Contents). c.decoders)
+            (each_reader (decoder_at front) (λ decoder. concat (decoder_items front.field decoder)) (IsDecoderRead front) (decoder_reader front) (demand_sinks front))
+            (λ decoders. done_reader (record { front = front; operands = operands; decoders = decoders }))
+            (λ decoders c fit more. ap (λ (c : Contents). c.decoders) more))
+          (λ operands c fit more. ap (λ (c : Contents). c.operands) more.1))
+        (λ c fit. ap (λ (f : Front). tables_text f.field c) (sym (ap (λ (c : Contents). c.front) fit.1.1)))
+        (λ c fit. fit) (λ c fit. fit))
+      (λ front c fit more. ap (λ (c : Contents). c.front) more.1.1))
+    (λ c fit. body_text c)
+    (λ c fit. record { front = fit.0; operands = fit.1.0; decoders = fit.1.1.0 })
+    (λ c fit. (fit.front, (fit.operands, (fit.decoders, refl))))
