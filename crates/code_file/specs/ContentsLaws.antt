@@ -1,0 +1,232 @@
+-- What the items of a file say one by one is what holds of a code.
+use Rattle.std.specs.Prelude.{◌≡◌, ℕ, zero, suc, ◌+◌, ◌*◌, ◌<◌, ◌≤◌, Bool, true, false, not, ◌||◌, ◌&&◌, ◌==◌, nat_eq, nat_lt, IsTrue, Option, Some, None, List, [], ◌∷◌, ◌++◌, length, map, drop, slice_get, codes, if◌then◌else◌}
+use Rattle.std.specs.List.{list_all, list_any}
+use Rattle.std.specs.Option.{option_map_or}
+use Rattle.std.specs.Str.{bytes_eq}
+use Rattle.std.proofs.Common.{refl, sym, subst, ap, ◌∙◌, arith}
+use Rattle.std.proofs.lemmas.Bool.{false≢true, and_parts, and_from, or_parts, not-true, not_from_false, eqb-true, eq-eqb, ltb-true, lt-ltb}
+use Rattle.std.proofs.lemmas.List.{nil_from_length}
+use Rattle.std.proofs.lemmas.Slice.Eq.{bytes_eq-Decides}
+use Rattle.gf_tables.specs.Product.{size_of}
+use Rattle.gf_tables.specs.declared.kind.FieldKind.{FieldKind}
+use Rattle.gf_tables.specs.declared.kind.FieldKind.TheVariants.{Eight, Sixteen}
+use Rattle.net_model.specs.Demands.{demand_count, sinks_of_demands}
+use Rattle.net_model.specs.Lists.{are_distinct, is_rising, is_among}
+use Rattle.net_model.specs.Name.{is_name}
+use Rattle.net_model.specs.Network.{are_names, is_link_among, is_sink_among, is_listed_pattern, are_patterns, IsNetwork}
+use Rattle.net_model.specs.declared.Link.{Link}
+use Rattle.net_model.specs.declared.Pattern.{Pattern}
+use Rattle.net_model.specs.declared.net.Net.{Net}
+use Rattle.node_program.specs.Code.{choice_of, leads_into, are_in_order, is_source_of, are_operands, are_operands_of, is_decoder, are_decoders, IsDraft, IsCode}
+use Rattle.node_program.specs.declared.Operand.{Operand}
+use Rattle.node_program.specs.declared.Decoder.{Decoder}
+use Rattle.node_program.specs.declared.code.Code.{Code}
+use Rattle.code_file.specs.Reading.{Front, Contents, may_read, is_above_last, demand_sinks}
+use Rattle.code_file.specs.Spelling.{front_of, contents_in, AreContents}
+use Rattle.code_file.specs.Readers.{AllAfter, EachFits}
+use Rattle.code_file.specs.FrontReaders.{NameAfter, LinkAfter, SinkAfter, LinkNumberAfter, PatternAfter, ArePatternsRead, none_pattern}
+use Rattle.code_file.specs.CodeReaders.{OperandAfter, AreOperandsRead, DecoderLinkAfter, IsDecoderRead, IsFrontRead, AreContentsRead}
+use Rattle.code_file.specs.AfterLaws.{Rises, LeadsOn, AllAfter-weaker, AllAfter-both, AllAfter-map, AllAfter-from_map, AllAfter-from_list_all, list_all-from_AllAfter, list_any-map, nat_eq-swap, are_distinct-from_AllAfter, AllAfter-from_are_distinct, are_names-from_AllAfter, AllAfter-from_are_names, is_rising-from_AllAfter, AllAfter-from_is_rising, length-is_rising, length-are_distinct, are_in_order-from_AllAfter, AllAfter-from_are_in_order}
+
+-- a test that implies another at each item
+list_all-implied : {X : Type 0} (strong weak : X → Bool) (xs : List X) → ((x : X) → strong x ≡ true → weak x ≡ true) → list_all strong xs ≡ true → list_all weak xs ≡ true
+list_all-implied strong weak [] implies all = refl
+list_all-implied strong weak (x ∷ xs) implies all =
+    let parts = and_parts _ _ all in
+    and_from _ _ (implies x parts.0) (list_all-implied strong weak xs implies parts.1)
+
+-- ---- links
+
+link_names-from_read : (nodes : ℕ) (links : List Link) → AllAfter (LinkAfter nodes) [] links → are_names (map (λ link. link.name) links) ≡ true
+link_names-from_read nodes links all =
+    are_names-from_AllAfter (map (λ (link : Link). link.name) links)
+    (AllAfter-map (λ (link : Link). link.name) NameAfter [] links
+      (AllAfter-weaker (LinkAfter nodes) (λ before link. NameAfter (map (λ (one : Link). one.name) before) link.name) [] links
+        (λ before link is. (is.name, list_any-map (λ (one : Link). one.name) (bytes_eq link.name) before ∙ is.fresh)) all))
+
+link_ends-from_read : (nodes : ℕ) (links : List Link) → AllAfter (LinkAfter nodes) [] links → list_all (is_link_among nodes) links ≡ true
+link_ends-from_read nodes links all =
+    list_all-from_AllAfter (is_link_among nodes) [] links
+    (AllAfter-weaker (LinkAfter nodes) (λ before link. is_link_among nodes link ≡ true) [] links
+      (λ before link is.
+        let apart = or_parts (link.head == link.tail) (is_among (map (λ one. one.tail) before) link.head) is.ahead in
+        and_from _ _ (and_from _ _ (lt-ltb _ _ is.tail) (lt-ltb _ _ is.head)) (not_from_false _ (nat_eq-swap link.tail link.head ∙ apart.0))) all)
+
+link_order-from_read : (nodes : ℕ) (links : List Link) → AllAfter (LinkAfter nodes) [] links → are_in_order [] links ≡ true
+link_order-from_read nodes links all = are_in_order-from_AllAfter links (AllAfter-weaker (LinkAfter nodes) LeadsOn [] links (λ before link is. is.ahead) all)
+
+links_read : (nodes : ℕ) (links : List Link) → nodes ≤ 4096 → are_names (map (λ link. link.name) links) ≡ true → list_all (is_link_among nodes) links ≡ true → are_in_order [] links ≡ true
+    → AllAfter (LinkAfter nodes) [] links
+links_read nodes links few names ends order =
+    let Named : List Link → Link → Type 0 = λ before link. NameAfter (map (λ (one : Link). one.name) before) link.name in
+    let Ended : List Link → Link → Type 0 = λ before link. is_link_among nodes link ≡ true in
+    let named : AllAfter Named [] links = AllAfter-from_map (λ (link : Link). link.name) NameAfter [] links (AllAfter-from_are_names (map (λ (link : Link). link.name) links) names) in
+    let ended : AllAfter Ended [] links = AllAfter-from_list_all (is_link_among nodes) [] links ends in
+    let ordered : AllAfter LeadsOn [] links = AllAfter-from_are_in_order links order in
+    AllAfter-weaker (λ before link. Named before link × (Ended before link × LeadsOn before link)) (LinkAfter nodes) [] links
+    (λ before link is.
+      let inside = and_parts _ _ (and_parts _ _ is.1.0).0 in
+      let tail : link.tail < nodes = ltb-true _ _ inside.0 in
+      let head : link.head < nodes = ltb-true _ _ inside.1 in
+      record {
+        name = is.0.0;
+        fresh = sym (list_any-map (λ (one : Link). one.name) (bytes_eq link.name) before) ∙ is.0.1;
+        tail_fits = omega arith;
+        tail = tail;
+        head_fits = omega arith;
+        head = head;
+        ahead = is.1.1;
+      })
+    (AllAfter-both Named (λ before link. Ended before link × LeadsOn before link) [] links named (AllAfter-both Ended LeadsOn [] links ended ordered))
+
+-- ---- sinks
+
+sink_nodes-from_read : (nodes source : ℕ) (sinks : List ℕ) → AllAfter (SinkAfter nodes source) [] sinks → list_all (is_sink_among nodes source) sinks ≡ true
+sink_nodes-from_read nodes source sinks all =
+    list_all-from_AllAfter (is_sink_among nodes source) [] sinks
+    (AllAfter-weaker (SinkAfter nodes source) (λ before sink. is_sink_among nodes source sink ≡ true) [] sinks
+      (λ before sink is. and_from _ _ (lt-ltb _ _ is.node) (not_from_false _ is.not_source)) all)
+
+-- a number is among others, whichever side of the test it's on
+is_among-same : (numbers : List ℕ) (n : ℕ) → list_any (nat_eq n) numbers ≡ is_among numbers n
+is_among-same [] n = refl
+is_among-same (one ∷ numbers) n = ap (λ (b : Bool). b || list_any (nat_eq n) numbers) (nat_eq-swap n one) ∙ ap (λ (b : Bool). (one == n) || b) (is_among-same numbers n)
+
+distinct_sinks-from_read : (nodes source : ℕ) (sinks : List ℕ) → AllAfter (SinkAfter nodes source) [] sinks → are_distinct nat_eq sinks ≡ true
+distinct_sinks-from_read nodes source sinks all =
+    are_distinct-from_AllAfter nat_eq nat_eq-swap sinks
+    (AllAfter-weaker (SinkAfter nodes source) (λ before sink. list_any (nat_eq sink) before ≡ false) [] sinks (λ before sink is. is_among-same before sink ∙ is.fresh) all)
+
+sinks_read : (nodes source : ℕ) (sinks : List ℕ) → nodes ≤ 4096 → list_all (is_sink_among nodes source) sinks ≡ true → are_distinct nat_eq sinks ≡ true → AllAfter (SinkAfter nodes source) [] sinks
+sinks_read nodes source sinks few among distinct =
+    let Among : List ℕ → ℕ → Type 0 = λ before sink. is_sink_among nodes source sink ≡ true in
+    let Fresh : List ℕ → ℕ → Type 0 = λ before sink. list_any (nat_eq sink) before ≡ false in
+    AllAfter-weaker (λ before sink. Among before sink × Fresh before sink) (SinkAfter nodes source) [] sinks
+    (λ before sink is.
+      let parts = and_parts _ _ is.0 in
+      let node : sink < nodes = ltb-true _ _ parts.0 in
+      record { fits = omega arith; node = node; not_source = not-true _ parts.1; fresh = sym (is_among-same before sink) ∙ is.1 })
+    (AllAfter-both Among Fresh [] sinks (AllAfter-from_list_all (is_sink_among nodes source) [] sinks among) (AllAfter-from_are_distinct nat_eq nat_eq-swap sinks distinct))
+
+-- ---- patterns
+
+pattern_links-from_read : (links : ℕ) (numbers : List ℕ) → AllAfter (LinkNumberAfter links) [] numbers → (is_rising numbers ≡ true) × (list_all (λ link. nat_lt link links) numbers ≡ true)
+pattern_links-from_read links numbers all =
+    (is_rising-from_AllAfter numbers (AllAfter-weaker (LinkNumberAfter links) Rises [] numbers (λ before n is. is.rises) all),
+      list_all-from_AllAfter (λ link. nat_lt link links) [] numbers (AllAfter-weaker (LinkNumberAfter links) (λ before n. nat_lt n links ≡ true) [] numbers (λ before n is. lt-ltb _ _ is.below) all))
+
+pattern_links_read : (links : ℕ) (numbers : List ℕ) → links ≤ 8192 → is_rising numbers ≡ true → list_all (λ link. nat_lt link links) numbers ≡ true → AllAfter (LinkNumberAfter links) [] numbers
+pattern_links_read links numbers few rising below =
+    AllAfter-weaker (λ before n. Rises before n × (nat_lt n links ≡ true)) (LinkNumberAfter links) [] numbers
+    (λ before n is.
+      let within : n < links = ltb-true _ _ is.1 in
+      record { fits = omega arith; below = within; rises = is.0 })
+    (AllAfter-both Rises (λ before n. nat_lt n links ≡ true) [] numbers (AllAfter-from_is_rising numbers rising) (AllAfter-from_list_all (λ link. nat_lt link links) [] numbers below))
+
+pattern_names-from_read : (links : ℕ) (listed : List Pattern) → AllAfter (PatternAfter links) (none_pattern ∷ []) listed → are_names (map (λ pattern. pattern.name) (none_pattern ∷ listed)) ≡ true
+pattern_names-from_read links listed all =
+    let named = AllAfter-map (λ (pattern : Pattern). pattern.name) NameAfter (none_pattern ∷ []) listed
+      (AllAfter-weaker (PatternAfter links) (λ before pattern. NameAfter (map (λ (one : Pattern). one.name) before) pattern.name) (none_pattern ∷ []) listed
+        (λ before pattern is. (is.name, list_any-map (λ (one : Pattern). one.name) (bytes_eq pattern.name) before ∙ is.fresh)) all) in
+    are_names-from_AllAfter (codes "none" ∷ map (λ (pattern : Pattern). pattern.name) listed) ((refl, refl), named)
+
+are_patterns-from_read : (links : ℕ) (listed : List Pattern) → AllAfter (PatternAfter links) (none_pattern ∷ []) listed → are_patterns links (none_pattern ∷ listed) ≡ true
+are_patterns-from_read links listed all =
+    list_all-from_AllAfter (is_listed_pattern links) (none_pattern ∷ []) listed
+    (AllAfter-weaker (PatternAfter links) (λ before pattern. is_listed_pattern links pattern ≡ true) (none_pattern ∷ []) listed
+      (λ before pattern is.
+        let numbers = pattern_links-from_read links pattern.links is.numbers in
+        and_from _ _ (and_from _ _ (lt-ltb _ _ is.some) numbers.0) numbers.1) all)
+
+-- the first of patterns is `none` without links
+none_is_first : (links : ℕ) (patterns : List Pattern) → are_patterns links patterns ≡ true → patterns ≡ none_pattern ∷ drop 1 patterns
+none_is_first links [] are = absurd (false≢true are)
+none_is_first links (none ∷ listed) are =
+    let front = and_parts _ _ (and_parts (bytes_eq none.name (codes "none") && (length none.links == 0)) (list_all (is_listed_pattern links) listed) are).0 in
+    let name : none.name ≡ codes "none" = (bytes_eq-Decides none.name (codes "none")).0 front.0 in
+    let empty : none.links ≡ [] = nil_from_length none.links (eqb-true _ _ front.1) in
+    let same : none ≡ none_pattern = ap (λ (n : List ℕ). record { name = n; links = none.links }) name ∙ ap (λ (ls : List ℕ). record { name = codes "none"; links = ls }) empty in
+    ap (λ (first : Pattern). first ∷ listed) same
+
+listed_read : (links : ℕ) (listed : List Pattern) → links ≤ 8192 → are_names (map (λ pattern. pattern.name) (none_pattern ∷ listed)) ≡ true → are_patterns links (none_pattern ∷ listed) ≡ true
+    → AllAfter (PatternAfter links) (none_pattern ∷ []) listed
+listed_read links listed few names are =
+    let Named : List Pattern → Pattern → Type 0 = λ before pattern. NameAfter (map (λ (one : Pattern). one.name) before) pattern.name in
+    let Listed : List Pattern → Pattern → Type 0 = λ before pattern. is_listed_pattern links pattern ≡ true in
+    let named : AllAfter Named (none_pattern ∷ []) listed =
+      AllAfter-from_map (λ (pattern : Pattern). pattern.name) NameAfter (none_pattern ∷ []) listed (AllAfter-from_are_names (codes "none" ∷ map (λ (pattern : Pattern). pattern.name) listed) names).1 in
+    AllAfter-weaker (λ before pattern. Named before pattern × Listed before pattern) (PatternAfter links) (none_pattern ∷ []) listed
+    (λ before pattern is.
+      let upper = and_parts (nat_lt 0 (length pattern.links) && is_rising pattern.links) (list_all (λ link. nat_lt link links) pattern.links) is.1 in
+      let lower = and_parts (nat_lt 0 (length pattern.links)) (is_rising pattern.links) upper.0 in
+      let within : length pattern.links ≤ links = length-is_rising pattern.links links lower.1 upper.1 in
+      record {
+        name = is.0.0;
+        fresh = sym (list_any-map (λ (one : Pattern). one.name) (bytes_eq pattern.name) before) ∙ is.0.1;
+        count_fits = omega arith;
+        some = ltb-true _ _ lower.0;
+        few = within;
+        numbers = pattern_links_read links pattern.links few lower.1 upper.1;
+      })
+    (AllAfter-both Named Listed (none_pattern ∷ []) listed named (AllAfter-from_list_all (is_listed_pattern links) (none_pattern ∷ []) listed are))
+
+-- ---- the front
+
+pub IsNetwork-from_read : (front : Front) → IsFrontRead front → IsNetwork front.nodes front.links front.source front.sinks front.patterns
+IsNetwork-from_read front is =
+    let nodes = length front.nodes in
+    let listed = drop 1 front.patterns in
+    let back : none_pattern ∷ listed ≡ front.patterns = sym is.patterns.none_first in
+    let count : length front.patterns ≡ suc (length listed) = ap (λ (ps : List Pattern). length ps) is.patterns.none_first in
+    record {
+      node_names = are_names-from_AllAfter front.nodes is.nodes;
+      link_names = link_names-from_read nodes front.links is.links;
+      link_ends = link_ends-from_read nodes front.links is.links;
+      source_node = is.source;
+      some_sink = is.some_sink;
+      sink_nodes = sink_nodes-from_read nodes front.source front.sinks is.sinks;
+      distinct_sinks = distinct_sinks-from_read nodes front.source front.sinks is.sinks;
+      pattern_names = subst (λ (ps : List Pattern). are_names (map (λ pattern. pattern.name) ps) ≡ true) back (pattern_names-from_read (length front.links) listed is.patterns.listed);
+      pattern_links = subst (λ (ps : List Pattern). are_patterns (length front.links) ps ≡ true) back (are_patterns-from_read (length front.links) listed is.patterns.listed);
+      few_nodes = is.few_nodes;
+      few_links = is.few_links;
+      few_patterns = omega (arith, count, is.patterns.few);
+    }
+
+pub few_demands-from_read : (front : Front) → IsFrontRead front → length front.sinks * length front.patterns ≤ 65536
+few_demands-from_read front is =
+    let count : length front.patterns ≡ length (drop 1 front.patterns) + 1 = ap (λ (ps : List Pattern). length ps) is.patterns.none_first ∙ omega arith in
+    rw count is.patterns.few_demands
+
+pub front_read : (front : Front) → IsNetwork front.nodes front.links front.source front.sinks front.patterns → 1 ≤ front.rate → front.rate ≤ 32
+    → length front.sinks * length front.patterns ≤ 65536 → are_in_order [] front.links ≡ true → IsFrontRead front
+front_read front is some_rate low_rate few_demands order =
+    let nodes = length front.nodes in
+    let links = length front.links in
+    let listed = drop 1 front.patterns in
+    let first : front.patterns ≡ none_pattern ∷ listed = none_is_first links front.patterns is.pattern_links in
+    let count : length front.patterns ≡ length listed + 1 = ap (λ (ps : List Pattern). length ps) first ∙ omega arith in
+    let demands : length front.sinks * (length listed + 1) ≤ 65536 = rw count at few_demands in
+    let sinks : length front.sinks ≤ nodes =
+      length-are_distinct front.sinks nodes is.distinct_sinks (list_all-implied (is_sink_among nodes front.source) (λ sink. nat_lt sink nodes) front.sinks (λ sink among. (and_parts _ _ among).0) is.sink_nodes) in
+    record {
+      some_rate = some_rate;
+      low_rate = low_rate;
+      few_nodes = is.few_nodes;
+      nodes = AllAfter-from_are_names front.nodes is.node_names;
+      few_links = is.few_links;
+      links = links_read nodes front.links is.few_nodes is.link_names is.link_ends order;
+      source_fits = omega (arith, is.source_node, is.few_nodes);
+      source = is.source_node;
+      some_sink = is.some_sink;
+      few_sinks = omega (arith, sinks, is.few_nodes);
+      sinks = sinks_read nodes front.source front.sinks is.few_nodes is.sink_nodes is.distinct_sinks;
+      patterns = record {
+        few = omega (arith, count, is.few_patterns);
+        few_demands = demands;
+        none_first = first;
+        listed = listed_read links listed is.few_links
+          (subst (λ (ps : List Pattern). are_names (map (λ pattern. pattern.name) ps) ≡ true) first is.pattern_names)
+          (subst (λ (ps : List Pattern). are_patterns links ps ≡ true) first is.pattern_links);
+      };
+    }
