@@ -167,12 +167,13 @@ AllAfter-from_is_rising (x ∷ xs) rising = (refl, rises_behind [] x xs rising)
 -- rising numbers below a bound are at most as many
 rising_fits : (x : ℕ) (xs : List ℕ) (bound : ℕ) → is_rising (x ∷ xs) ≡ true → list_all (λ n. nat_lt n bound) (x ∷ xs) ≡ true → x + length (x ∷ xs) ≤ bound
 rising_fits x [] bound rising below =
-    let here = ltb-true x bound (and_parts _ _ below).0 in
+    let here : x < bound = ltb-true x bound (and_parts _ _ below).0 in
     omega arith
 rising_fits x (y ∷ ys) bound rising below =
     let parts = and_parts _ _ rising in
     let above : x < y = ltb-true x y (and_parts _ _ parts.0).0 in
-    let rest : y + length (y ∷ ys) ≤ bound = rising_fits y ys bound parts.1 (and_parts _ _ below).1 in
+    let later : list_all (λ n. nat_lt n bound) (y ∷ ys) ≡ true = (and_parts (nat_lt x bound) (list_all (λ n. nat_lt n bound) (y ∷ ys)) below).1 in
+    let rest : y + length (y ∷ ys) ≤ bound = rising_fits y ys bound parts.1 later in
     omega arith
 
 pub length-is_rising : (xs : List ℕ) (bound : ℕ) → is_rising xs ≡ true → list_all (λ n. nat_lt n bound) xs ≡ true → length xs ≤ bound

@@ -5,7 +5,8 @@ use Rattle.std.specs.Option.{option_map_or}
 use Rattle.std.specs.Str.{bytes_eq}
 use Rattle.std.proofs.Common.{refl, sym, subst, ap, ◌∙◌, arith}
 use Rattle.std.proofs.lemmas.Bool.{false≢true, and_parts, and_from, or_parts, not-true, not_from_false, eqb-true, eq-eqb, ltb-true, lt-ltb}
-use Rattle.std.proofs.lemmas.List.{nil_from_length}
+use Rattle.std.proofs.lemmas.List.{nil_from_length, length-map}
+use Rattle.std.proofs.lemmas.List.Folds.{list_all-map}
 use Rattle.std.proofs.lemmas.Slice.Eq.{bytes_eq-Decides}
 use Rattle.gf_tables.specs.Product.{size_of}
 use Rattle.gf_tables.specs.declared.kind.FieldKind.{FieldKind}
@@ -229,4 +230,154 @@ front_read front is some_rate low_rate few_demands order =
           (subst (λ (ps : List Pattern). are_names (map (λ pattern. pattern.name) ps) ≡ true) first is.pattern_names)
           (subst (λ (ps : List Pattern). are_patterns links ps ≡ true) first is.pattern_links);
       };
+    }
+
+-- ---- the operands and the decoders
+
+-- a link that leads into a node is one of the links
+leads_below : (links : List Link) (node n : ℕ) → leads_into links node n ≡ true → n < length links
+leads_below [] node n into = absurd (false≢true into)
+leads_below (link ∷ links) node zero into = omega arith
+leads_below (link ∷ links) node (suc n) into = omega (arith, leads_below links node n into)
+
+module _ (net : Net) (rate : ℕ) (field : FieldKind) where
+  are_operands-from_read : (link : Link) (operands : List Operand) → AreOperandsRead (front_of net rate field) link operands → are_operands net rate field link operands ≡ true
+  are_operands-from_read link operands is =
+      let front = front_of net rate field in
+      let rising = is_rising-from_AllAfter (map (λ (operand : Operand). operand.from) operands)
+        (AllAfter-map (λ (operand : Operand). operand.from) Rises [] operands
+          (AllAfter-weaker (OperandAfter front link) (λ before operand. Rises (map (λ (one : Operand). one.from) before) operand.from) [] operands (λ before operand fit. fit.rises) is.each)) in
+      let each = list_all-from_AllAfter (λ operand. is_source_of net rate link operand.from && nat_lt 0 operand.times && nat_lt operand.times (size_of field)) [] operands
+        (AllAfter-weaker (OperandAfter front link) (λ before operand. (is_source_of net rate link operand.from && nat_lt 0 operand.times && nat_lt operand.times (size_of field)) ≡ true) [] operands
+          (λ before operand fit. and_from _ _ (and_from _ _ fit.reads (lt-ltb _ _ fit.nonzero)) (lt-ltb _ _ fit.coefficient)) is.each) in
+      and_from _ _ rising each
+
+  are_operands_of-from_read : (links : List Link) (table : List (List Operand)) → EachFits (AreOperandsRead (front_of net rate field)) links table → are_operands_of net rate field links table ≡ true
+  are_operands_of-from_read [] [] fit = refl
+  are_operands_of-from_read [] (operands ∷ table) fit = absurd fit
+  are_operands_of-from_read (link ∷ links) [] fit = absurd fit
+  are_operands_of-from_read (link ∷ links) (operands ∷ table) fit = and_from _ _ (are_operands-from_read link operands fit.0) (are_operands_of-from_read links table fit.1)
+
+  -- what a link may read has a low number
+  reads_low : (link : Link) (n : ℕ) → rate ≤ 32 → length net.links ≤ 8192 → is_source_of net rate link n ≡ true → n < 8192
+  reads_low link n low few reads = either (link.tail == net.source) reads
+    where
+      either : (b : Bool) → (if b then nat_lt n rate else leads_into net.links link.tail n) ≡ true → n < 8192
+      either true h = omega (arith, ltb-true n rate h)
+      either false h = omega (arith, leads_below net.links link.tail n h)
+
+  operands_read : (link : Link) (operands : List Operand) → rate ≤ 32 → length net.links ≤ 8192 → are_operands net rate field link operands ≡ true → AreOperandsRead (front_of net rate field) link operands
+  operands_read link operands low few are =
+      let test : Operand → Bool = λ operand. is_source_of net rate link operand.from && nat_lt 0 operand.times && nat_lt operand.times (size_of field) in
+      let numbers = map (λ (operand : Operand). operand.from) operands in
+      let parts = and_parts (is_rising numbers) (list_all test operands) are in
+      let Rising : List Operand → Operand → Type 0 = λ before operand. Rises (map (λ (one : Operand). one.from) before) operand.from in
+      let Tested : List Operand → Operand → Type 0 = λ before operand. test operand ≡ true in
+      let below : list_all (λ n. nat_lt n 8192) numbers ≡ true =
+        list_all-map (λ n. nat_lt n 8192) (λ (operand : Operand). operand.from) operands
+        ∙ list_all-implied test (λ operand. nat_lt operand.from 8192) operands
+          (λ operand h. lt-ltb _ _ (reads_low link operand.from low few (and_parts (is_source_of net rate link operand.from) (nat_lt 0 operand.times) (and_parts _ _ h).0).0)) parts.1 in
+      record {
+        few = omega (arith, length-is_rising numbers 8192 parts.0 below, length-map operands (λ (operand : Operand). operand.from));
+        each = AllAfter-weaker (λ before operand. Rising before operand × Tested before operand) (OperandAfter (front_of net rate field) link) [] operands
+          (λ before operand is.
+            let upper = and_parts (is_source_of net rate link operand.from && nat_lt 0 operand.times) (nat_lt operand.times (size_of field)) is.1 in
+            let lower = and_parts (is_source_of net rate link operand.from) (nat_lt 0 operand.times) upper.0 in
+            let small : operand.from < 8192 = reads_low link operand.from low few lower.0 in
+            record { fits = omega arith; rises = is.0; reads = lower.0; coefficient = ltb-true _ _ upper.1; nonzero = ltb-true _ _ lower.1 })
+          (AllAfter-both Rising Tested [] operands (AllAfter-from_map (λ (operand : Operand). operand.from) Rises [] operands (AllAfter-from_is_rising numbers parts.0)) (AllAfter-from_list_all test [] operands parts.1));
+      }
+
+  operand_table_read : (links : List Link) (table : List (List Operand)) → rate ≤ 32 → length net.links ≤ 8192 → are_operands_of net rate field links table ≡ true → EachFits (AreOperandsRead (front_of net rate field)) links table
+  operand_table_read [] [] low few are = tt
+  operand_table_read [] (operands ∷ table) low few are = absurd (false≢true are)
+  operand_table_read (link ∷ links) [] low few are = absurd (false≢true are)
+  operand_table_read (link ∷ links) (operands ∷ table) low few are =
+      let parts = and_parts _ _ are in
+      (operands_read link operands low few parts.0, operand_table_read links table low few parts.1)
+
+  is_decoder-from_read : (sink : ℕ) (decoder : Decoder) → IsDecoderRead (front_of net rate field) sink decoder → is_decoder net rate field sink decoder ≡ true
+  is_decoder-from_read sink decoder is =
+      let front = front_of net rate field in
+      let rising = is_rising-from_AllAfter decoder.links (AllAfter-weaker (DecoderLinkAfter front sink) Rises [] decoder.links (λ before n fit. fit.rises) is.links) in
+      let into = list_all-from_AllAfter (leads_into net.links sink) [] decoder.links
+        (AllAfter-weaker (DecoderLinkAfter front sink) (λ before n. leads_into net.links sink n ≡ true) [] decoder.links (λ before n fit. fit.into) is.links) in
+      let entries = list_all-from_AllAfter (λ entry. nat_lt entry (size_of field)) [] decoder.entries
+        (AllAfter-weaker (λ before n. n < size_of field) (λ before n. nat_lt n (size_of field) ≡ true) [] decoder.entries (λ before n below. lt-ltb _ _ below) is.entries) in
+      and_from _ _ (and_from _ _ (and_from _ _ (and_from _ _ (eq-eqb _ _ is.link_count) rising) into) (eq-eqb _ _ is.entry_count)) entries
+
+  are_decoders-from_read : (sinks : List ℕ) (decoders : List Decoder) → EachFits (IsDecoderRead (front_of net rate field)) sinks decoders → are_decoders net rate field sinks decoders ≡ true
+  are_decoders-from_read [] [] fit = refl
+  are_decoders-from_read [] (decoder ∷ decoders) fit = absurd fit
+  are_decoders-from_read (sink ∷ sinks) [] fit = absurd fit
+  are_decoders-from_read (sink ∷ sinks) (decoder ∷ decoders) fit = and_from _ _ (is_decoder-from_read sink decoder fit.0) (are_decoders-from_read sinks decoders fit.1)
+
+  decoder_read : (sink : ℕ) (decoder : Decoder) → length net.links ≤ 8192 → is_decoder net rate field sink decoder ≡ true → IsDecoderRead (front_of net rate field) sink decoder
+  decoder_read sink decoder few is =
+      let all_into = list_all (leads_into net.links sink) decoder.links in
+      let counted = length decoder.links == rate in
+      let rising = is_rising decoder.links in
+      let p4 = and_parts (counted && rising && all_into && (length decoder.entries == rate * rate)) (list_all (λ entry. nat_lt entry (size_of field)) decoder.entries) is in
+      let p3 = and_parts (counted && rising && all_into) (length decoder.entries == rate * rate) p4.0 in
+      let p2 = and_parts (counted && rising) all_into p3.0 in
+      let p1 = and_parts counted rising p2.0 in
+      let Into : List ℕ → ℕ → Type 0 = λ before n. leads_into net.links sink n ≡ true in
+      record {
+        link_count = eqb-true _ _ p1.0;
+        links = AllAfter-weaker (λ before n. Rises before n × Into before n) (DecoderLinkAfter (front_of net rate field) sink) [] decoder.links
+          (λ before n both. record { fits = omega (arith, leads_below net.links sink n both.1); rises = both.0; into = both.1 })
+          (AllAfter-both Rises Into [] decoder.links (AllAfter-from_is_rising decoder.links p1.1) (AllAfter-from_list_all (leads_into net.links sink) [] decoder.links p2.1));
+        entry_count = eqb-true _ _ p3.1;
+        entries = AllAfter-weaker (λ before n. nat_lt n (size_of field) ≡ true) (λ before n. n < size_of field) [] decoder.entries (λ before n below. ltb-true _ _ below)
+          (AllAfter-from_list_all (λ entry. nat_lt entry (size_of field)) [] decoder.entries p4.1);
+      }
+
+  decoders_read : (sinks : List ℕ) (decoders : List Decoder) → length net.links ≤ 8192 → are_decoders net rate field sinks decoders ≡ true → EachFits (IsDecoderRead (front_of net rate field)) sinks decoders
+  decoders_read [] [] few are = tt
+  decoders_read [] (decoder ∷ decoders) few are = absurd (false≢true are)
+  decoders_read (sink ∷ sinks) [] few are = absurd (false≢true are)
+  decoders_read (sink ∷ sinks) (decoder ∷ decoders) few are =
+      let parts = and_parts _ _ are in
+      (decoder_read sink decoder few parts.0, decoders_read sinks decoders few parts.1)
+
+  -- what is read with the parts of a network makes a code with it
+  pub IsCode-from_read : (operands : List (List Operand)) (decoders : List Decoder) → net.field ≡ choice_of field
+      → AreContentsRead (record { front = front_of net rate field; operands = operands; decoders = decoders }) → IsCode net rate field operands decoders
+  IsCode-from_read operands decoders named is = record {
+    draft = record {
+      some_rate = is.front.some_rate;
+      low_rate = is.front.low_rate;
+      few_demands = few_demands-from_read (front_of net rate field) is.front;
+      link_order = link_order-from_read (length net.nodes) net.links is.front.links;
+      link_operands = are_operands_of-from_read net.links operands is.operands;
+      named_field = named;
+    };
+    demand_decoders = are_decoders-from_read (sinks_of_demands net) decoders is.decoders;
+  }
+
+-- ---- all
+
+-- the parts of a network, one after another
+front_is : (net : Net) (front : Front) → net.nodes ≡ front.nodes → net.links ≡ front.links → net.source ≡ front.source → net.sinks ≡ front.sinks → net.patterns ≡ front.patterns → front ≡ front_of net front.rate front.field
+front_is net front nodes links source sinks patterns = sym (rw (nodes, links, source, sinks, patterns) refl)
+
+-- what is read is of a code
+pub AreContents-from_read : (contents : Contents) → AreContentsRead contents → AreContents contents
+AreContents-from_read contents is = record {
+  network = IsNetwork-from_read contents.front is.front;
+  code = λ net nodes links source sinks patterns field.
+      let same = front_is net contents.front nodes links source sinks patterns in
+      IsCode-from_read net contents.front.rate contents.front.field contents.operands contents.decoders field
+      (subst (λ (front : Front). AreContentsRead (record { front = front; operands = contents.operands; decoders = contents.decoders })) same is);
+}
+
+-- what the file of a code says is read
+pub contents_read : (code : Code) → AreContentsRead (contents_in code)
+contents_read code =
+    let net = code.net in
+    let draft = code.code.draft in
+    record {
+      front = front_read (front_of net code.rate code.field) net.network draft.some_rate draft.low_rate draft.few_demands draft.link_order;
+      operands = operand_table_read net code.rate code.field net.links code.operands draft.low_rate net.network.few_links draft.link_operands;
+      decoders = decoders_read net code.rate code.field (sinks_of_demands net) code.decoders net.network.few_links code.code.demand_decoders;
     }
