@@ -210,3 +210,12 @@ contents_of bytes = do
   operands ← each_at (operands_at_link front.0) front.0.links front.1
   decoders ← each_at (decoder_at front.0) (demand_sinks front.0) operands.1
   if length decoders.1.bytes == 0 then Ok (record { front = front.0; operands = operands.0; decoders = decoders.0 }) else Err (TrailingBytes decoders.1.at)
+
+-- the refusal that a result is
+abbrev pub refusal_in : {X : Type 0} → Result X CodeRefusal → Option CodeRefusal
+refusal_in (Ok x) = None
+refusal_in (Err refusal) = Some refusal
+
+-- the refusal of a file, if it's refused
+unfoldable pub refusal_of : List ℕ → Option CodeRefusal
+refusal_of bytes = refusal_in (contents_of bytes)

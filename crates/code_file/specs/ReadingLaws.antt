@@ -1,0 +1,184 @@
+-- Reading and spelling code files: a file that's read is the one spelling of what it says, and that's what a code has;
+-- the file of a code is read; and a file that's no code's is refused.
+use Rattle.std.specs.Prelude.{◌≡◌, ◌≢◌, ℕ, ◌+◌, Bool, true, false, ◌==◌, List, [], ◌∷◌, ◌++◌, length, codes, Option, Some, None, Result, Ok, Err, if◌then◌else◌}
+use Rattle.std.proofs.Common.{refl, sym, subst, ap, ◌∙◌, append-nil, arith}
+use Rattle.std.proofs.lemmas.Bool.{true≢false, eqb-true}
+use Rattle.std.proofs.lemmas.List.{nil_from_length}
+use Rattle.net_model.specs.declared.net.Net.{Net}
+use Rattle.node_program.specs.Code.{choice_of}
+use Rattle.node_program.specs.declared.Operand.{Operand}
+use Rattle.node_program.specs.declared.Decoder.{Decoder}
+use Rattle.node_program.specs.declared.code.Code.{Code}
+use Rattle.code_file.specs.Items.{bytes_of}
+use Rattle.code_file.specs.Reading.{Rest, Reading, ◌>>=◌, Front, Contents, each_at, front_at, operands_at_link, decoder_at, demand_sinks, contents_of, refusal_in, refusal_of}
+use Rattle.code_file.specs.Spelling.{contents_in, spelling_of, AreContents}
+use Rattle.code_file.specs.SpellingLaws.{spelling_of-contents_in}
+use Rattle.code_file.specs.Readers.{IsBytes, is_memory, bind_ok, bind_free, ok_is}
+use Rattle.code_file.specs.CodeReaders.{AreContentsRead, body_at, body_reader}
+use Rattle.code_file.specs.ContentsLaws.{AreContents-from_read, contents_read}
+use Rattle.code_file.specs.declared.refusal.CodeRefusal.{CodeRefusal}
+use Rattle.code_file.specs.declared.refusal.CodeRefusal.TheVariants.{TrailingBytes, OutOfMemory}
+
+abbrev done : {A : Type 0} → A → Result A CodeRefusal
+done x = Ok x
+
+-- the first byte of a file and all behind it
+abbrev start_of : List ℕ → Rest
+start_of bytes = record { at = 0; bytes = bytes }
+
+-- the end of a file
+abbrev end_of : Contents → Rest → Result Contents CodeRefusal
+end_of contents left = if length left.bytes == 0 then Ok contents else Err (TrailingBytes left.at)
+
+-- the contents of their parts
+abbrev made_of : Front → List (List Operand) → List Decoder → Contents
+made_of front operands decoders = record { front = front; operands = operands; decoders = decoders }
+
+-- contents that were read, and what is left
+abbrev body_of : Contents → Rest → Reading Contents
+body_of contents left = Ok (contents, left)
+
+decoders_end : (front : Front) (operands : List (List Operand)) (read : Reading (List Decoder))
+    → ((read >>= λ decoders. body_of (made_of front operands decoders.0) decoders.1) >>= λ body. end_of body.0 body.1) ≡ (read >>= λ decoders. end_of (made_of front operands decoders.0) decoders.1)
+decoders_end front operands (Ok decoders) = refl
+decoders_end front operands (Err refusal) = refl
+
+operands_end : (front : Front) (read : Reading (List (List Operand)))
+    → ((read >>= λ operands. each_at (decoder_at front) (demand_sinks front) operands.1 >>= λ decoders. body_of (made_of front operands.0 decoders.0) decoders.1) >>= λ body. end_of body.0 body.1)
+    ≡ (read >>= λ operands. each_at (decoder_at front) (demand_sinks front) operands.1 >>= λ decoders. end_of (made_of front operands.0 decoders.0) decoders.1)
+operands_end front (Ok operands) = decoders_end front operands.0 (each_at (decoder_at front) (demand_sinks front) operands.1)
+operands_end front (Err refusal) = refl
+
+front_end : (read : Reading Front)
+    → ((read >>= λ front. each_at (operands_at_link front.0) front.0.links front.1 >>= λ operands. each_at (decoder_at front.0) (demand_sinks front.0) operands.1 >>= λ decoders. body_of (made_of front.0 operands.0 decoders.0) decoders.1) >>= λ body. end_of body.0 body.1)
+    ≡ (read >>= λ front. each_at (operands_at_link front.0) front.0.links front.1 >>= λ operands. each_at (decoder_at front.0) (demand_sinks front.0) operands.1 >>= λ decoders. end_of (made_of front.0 operands.0 decoders.0) decoders.1)
+front_end (Ok front) = operands_end front.0 (each_at (operands_at_link front.0) front.0.links front.1)
+front_end (Err refusal) = refl
+
+-- the body and the end
+contents_of-body : (bytes : List ℕ) → (body_at (start_of bytes) >>= λ body. end_of body.0 body.1) ≡ contents_of bytes
+unfolding body_at contents_of
+contents_of-body bytes = front_end (front_at (codes "LIFC") 1 (start_of bytes))
+
+ended_ok : (contents contents' : Contents) (left : Rest) → end_of contents left ≡ Ok contents' → (left.bytes ≡ []) × (contents ≡ contents')
+ended_ok contents contents' left e = either (length left.bytes == 0) refl e
+  where
+    either : (b : Bool) → (length left.bytes == 0) ≡ b → (if b then done contents else Err (TrailingBytes left.at)) ≡ Ok contents' → (left.bytes ≡ []) × (contents ≡ contents')
+    either true is e = (nil_from_length left.bytes (eqb-true _ _ is), ok_is contents contents' e)
+    either false is e = absurd cc
+
+-- what a file says is spelled by the file, and its items say it one by one
+contents_of-read : (bytes : List ℕ) (contents : Contents) → IsBytes bytes → contents_of bytes ≡ Ok contents → (bytes ≡ spelling_of contents) × AreContentsRead contents
+contents_of-read bytes contents fits e =
+    let b = bind_ok (body_at (start_of bytes)) (λ body. end_of body.0 body.1) contents (contents_of-body bytes ∙ e) in
+    let ended = ended_ok b.0.0 contents b.0.1 b.2 in
+    let t = body_reader.takes (start_of bytes) b.0.0 b.0.1 fits b.1 in
+    let spelled : bytes ≡ spelling_of b.0.0 = t.0.parts ∙ ap (λ (left : List ℕ). spelling_of b.0.0 ++ left) ended.0 ∙ append-nil (spelling_of b.0.0) in
+    subst (λ (c : Contents). (bytes ≡ spelling_of c) × AreContentsRead c) ended.1 (spelled, t.1)
+
+-- What a file says is spelled by the file, each byte of it, and it's what a code has.
+pub contents_of-spelled : (bytes : List ℕ) (contents : Contents) → IsBytes bytes → contents_of bytes ≡ Ok contents → (bytes ≡ spelling_of contents) × AreContents contents
+contents_of-spelled bytes contents fits e =
+    let t = contents_of-read bytes contents fits e in
+    (t.0, AreContents-from_read contents t.1)
+
+-- a file of a code and what stands behind it
+pub contents_of-bytes_of-append : (code : Code) (more : List ℕ)
+    → contents_of (bytes_of code ++ more) ≡ (if length more == 0 then Ok (contents_in code) else Err (TrailingBytes (length (bytes_of code))))
+contents_of-bytes_of-append code more =
+    let contents = contents_in code in
+    let at : 0 + length (spelling_of contents) ≡ length (bytes_of code) = omega (arith, ap (λ (t : List ℕ). length t) (spelling_of-contents_in code)) in
+    sym (contents_of-body (bytes_of code ++ more))
+    ∙ ap (λ (t : List ℕ). body_at (start_of (t ++ more)) >>= λ body. end_of body.0 body.1) (sym (spelling_of-contents_in code))
+    ∙ ap (λ (r : Reading Contents). r >>= λ body. end_of body.0 body.1) (body_reader.again 0 more contents (contents_read code))
+    ∙ ap (λ (n : ℕ). if length more == 0 then done contents else Err (TrailingBytes n)) at
+
+-- The file of a code says what the code has.
+pub contents_of-bytes_of : (code : Code) → contents_of (bytes_of code) ≡ Ok (contents_in code)
+contents_of-bytes_of code = ap contents_of (sym (append-nil (bytes_of code))) ∙ contents_of-bytes_of-append code []
+
+-- no file of a code begins another
+pub bytes_of-prefix : (one other : Code) (more : List ℕ) → bytes_of one ++ more ≡ bytes_of other → more ≡ []
+bytes_of-prefix one other more same =
+    either (length more == 0) refl (sym (contents_of-bytes_of-append one more) ∙ ap contents_of same ∙ contents_of-bytes_of other)
+  where
+    either : (b : Bool) → (length more == 0) ≡ b → (if b then done (contents_in one) else Err (TrailingBytes (length (bytes_of one)))) ≡ Ok (contents_in other) → more ≡ []
+    either true is e = nil_from_length more (eqb-true _ _ is)
+    either false is e = absurd cc
+
+-- codes with one file have the same parts
+pub contents_in-same : (one other : Code) → bytes_of one ≡ bytes_of other → contents_in one ≡ contents_in other
+contents_in-same one other same = ok_is (contents_in one) (contents_in other) (sym (contents_of-bytes_of one) ∙ ap contents_of same ∙ contents_of-bytes_of other)
+
+-- the code of contents
+unfoldable pub code_of : (contents : Contents) → AreContents contents → Code
+code_of contents are =
+    let front = contents.front in
+    let net : Net = record {
+      nodes = front.nodes;
+      links = front.links;
+      source = front.source;
+      sinks = front.sinks;
+      patterns = front.patterns;
+      field = choice_of front.field;
+      network = are.network;
+    } in
+    record {
+      net = net;
+      rate = front.rate;
+      field = front.field;
+      operands = contents.operands;
+      decoders = contents.decoders;
+      code = are.code net refl refl refl refl refl refl;
+    }
+
+pub contents_in-code_of : (contents : Contents) (are : AreContents contents) → contents_in (code_of contents are) ≡ contents
+unfolding code_of
+contents_in-code_of contents are = refl
+
+-- contents are spelled as their code
+pub bytes_of-code_of : (contents : Contents) (are : AreContents contents) → bytes_of (code_of contents are) ≡ spelling_of contents
+bytes_of-code_of contents are = sym (spelling_of-contents_in (code_of contents are)) ∙ ap spelling_of (contents_in-code_of contents are)
+
+-- contents of a code are read from their spelling
+pub contents_of-spelling_of : (contents : Contents) → AreContents contents → contents_of (spelling_of contents) ≡ Ok contents
+contents_of-spelling_of contents are =
+    ap contents_of (sym (bytes_of-code_of contents are)) ∙ contents_of-bytes_of (code_of contents are) ∙ ap (λ (c : Contents). done c) (contents_in-code_of contents are)
+
+-- the file of a code isn't refused
+pub refusal_of-bytes_of : (code : Code) → refusal_of (bytes_of code) ≡ None
+unfolding refusal_of
+refusal_of-bytes_of code = ap (λ (r : Result Contents CodeRefusal). refusal_in r) (contents_of-bytes_of code)
+
+-- reading wants no memory
+contents_of-free : (bytes : List ℕ) → is_memory (contents_of bytes) ≡ false
+contents_of-free bytes =
+    subst (λ (r : Result Contents CodeRefusal). is_memory r ≡ false) (contents_of-body bytes)
+    (bind_free (body_at (start_of bytes)) (λ body. end_of body.0 body.1) (body_reader.free (start_of bytes)) (λ body. either (length body.1.bytes == 0) body.0 body.1.at))
+  where
+    either : (b : Bool) (contents : Contents) (at : ℕ) → is_memory (if b then done contents else Err (TrailingBytes at)) ≡ false
+    either true contents at = refl
+    either false contents at = refl
+
+pub contents_of-out_of_memory : (bytes : List ℕ) → contents_of bytes ≢ Err OutOfMemory
+contents_of-out_of_memory bytes e = true≢false (sym (ap (λ (r : Result Contents CodeRefusal). is_memory r) e) ∙ contents_of-free bytes)
+
+-- A file that's no code's is refused, and not for want of memory.
+pub record IsRefused (bytes : List ℕ) : Type 0 where
+  pub refusal : CodeRefusal
+  pub found : refusal_of bytes ≡ Some refusal
+  pub some_fault : refusal ≢ OutOfMemory
+
+pub refusal_of-some : (bytes : List ℕ) → IsBytes bytes → ((code : Code) → bytes_of code ≢ bytes) → IsRefused bytes
+unfolding refusal_of
+refusal_of-some bytes fits no_code = either (contents_of bytes) refl
+  where
+    either : (r : Result Contents CodeRefusal) → contents_of bytes ≡ r → IsRefused bytes
+    either (Ok contents) is =
+        let t = contents_of-spelled bytes contents fits is in
+        absurd (no_code (code_of contents t.1) (bytes_of-code_of contents t.1 ∙ sym t.0))
+    either (Err refusal) is = record {
+      refusal = refusal;
+      found = ap (λ (r : Result Contents CodeRefusal). refusal_in r) is;
+      some_fault = λ e. contents_of-out_of_memory bytes (is ∙ ap (λ (refusal : CodeRefusal). Err refusal) e);
+    }
