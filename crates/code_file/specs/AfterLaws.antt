@@ -14,7 +14,7 @@ use Rattle.net_model.specs.Network.{are_names}
 use Rattle.net_model.specs.declared.Link.{Link}
 use Rattle.node_program.specs.Code.{are_in_order}
 use Rattle.code_file.specs.Reading.{is_above_last}
-use Rattle.code_file.specs.Readers.{AllAfter}
+use Rattle.code_file.specs.Readers.{ok_of, AllAfter}
 use Rattle.code_file.specs.FrontReaders.{NameAfter}
 
 pub AllAfter-weaker : {X : Type 0} (P Q : List X → X → Type 0) (earlier xs : List X) → ((before : List X) (x : X) → P before x → Q before x) → AllAfter P earlier xs → AllAfter Q earlier xs

@@ -17,21 +17,18 @@ use Rattle.node_program.specs.declared.Decoder.{Decoder}
 use Rattle.code_file.specs.Items.{Item, byte_item, number_item, element_item, name_item, link_items, pattern_items, operand_items, operand_list_items, operand_table_items, decoder_items, decoder_table_items, code_mark, code_version}
 use Rattle.code_file.specs.Reading.{Rest, Reading, ◌>>=◌, Front, Contents, item, byte_at, number_at, element_at, repeated_at, each_at, is_above_last, mark_at, field_at, rate_at, nodes_at, links_at, source_at, sinks_at, patterns_at, front_at, may_read, operand_at, operands_at_link, decoder_at, demand_sinks}
 use Rattle.code_file.specs.Spelling.{front_items_in, items_in, spelling_of}
-use Rattle.code_file.specs.Readers.{is_memory, IsBytes, IsReader, Takes, NoneHolds, AreFree, AllAfter, EachFits, Takes-then, bind_ok, bind_free, ok_is, item_takes, item_again, item_free, done_reader, then_reader, same_reader, repeated_reader, each_reader}
+use Rattle.code_file.specs.Readers.{ok_of, is_memory, IsBytes, IsReader, Takes, NoneHolds, AreNotMemory, AllAfter, EachFits, Takes-then, bind_ok, bind_not_memory, ok_is, item_takes, item_again, item_not_memory, empty_reader, then_reader, same_reader, repeated_reader, each_reader}
 use Rattle.code_file.specs.ItemReaders.{AreConditions, byte_reader, number_reader, element_reader}
 use Rattle.code_file.specs.FrontReaders.{NameAfter, LinkAfter, SinkAfter, ArePatternsRead, concat-map, counted_reader, count_conditions, field_reader, rate_reader, nodes_reader, links_reader, source_reader, sinks_reader, patterns_reader}
 use Rattle.code_file.specs.declared.refusal.CodeRefusal.{CodeRefusal}
 use Rattle.code_file.specs.declared.refusal.CodeRefusal.TheVariants.{BadMagic, BadVersion, NotRising, ZeroCoefficient, BadOperand, TooMany}
 
-abbrev done : {A : Type 0} → A → Result A CodeRefusal
-done x = Ok x
-
 -- the same reader by another name
-pub renamed_reader : {X : Type 0} {read read' : Rest → Reading X} {spell : X → List ℕ} {Fits : X → Type 0} → ((rest : Rest) → read rest ≡ read' rest) → IsReader read spell Fits → IsReader read' spell Fits
-renamed_reader {X} {read} {read'} {spell} {Fits} same reader = record {
+pub reader_of_same : {X : Type 0} {read read' : Rest → Reading X} {spell : X → List ℕ} {Fits : X → Type 0} → ((rest : Rest) → read rest ≡ read' rest) → IsReader read spell Fits → IsReader read' spell Fits
+reader_of_same {X} {read} {read'} {spell} {Fits} same reader = record {
   takes = λ rest x left fits e. reader.takes rest x left fits (same rest ∙ e);
   again = λ at more x fits. sym (same (record { at = at; bytes = spell x ++ more })) ∙ reader.again at more x fits;
-  free = λ rest. subst (λ (r : Reading X). is_memory r ≡ false) (same rest) (reader.free rest);
+  not_memory = λ rest. subst (λ (r : Reading X). is_memory r ≡ false) (same rest) (reader.not_memory rest);
 }
 
 -- ---- the mark and the version
@@ -40,7 +37,7 @@ version_conditions : (version : ℕ) → AreConditions (λ rest n. (not (n == ve
 version_conditions version = record {
   to = λ rest n none. eqb-true n version (not-false _ none.0);
   from = λ rest n is. (not_from_true _ (eq-eqb n version is), tt);
-  free = λ rest n. (refl, tt);
+  not_memory = λ rest n. (refl, tt);
 }
 
 abbrev mark_conditions : List ℕ → List ℕ → List (Bool × CodeRefusal)
@@ -55,9 +52,9 @@ mark_takes mark version rest left fits e =
     let a = bind_ok (item 4 rest (mark_conditions mark)) (λ it. byte_at it.1 (λ n. (not (n == version), BadVersion) ∷ []) >>= λ number. Ok number.1) left e in
     let b = bind_ok (byte_at a.0.1 (λ n. (not (n == version), BadVersion) ∷ [])) (λ number. Ok number.1) left a.2 in
     let t = item_takes 4 rest (mark_conditions mark) a.0.0 a.0.1 fits a.1 in
-    let u = (byte_reader (version_conditions version)).takes a.0.1 b.0.0 b.0.1 t.taken.left_fits b.1 in
+    let u = (byte_reader (version_conditions version)).takes a.0.1 b.0.0 b.0.1 t.takes.left_fits b.1 in
     let mark_is : a.0.0 ≡ mark = (bytes_eq-Decides a.0.0 mark).0 (not-false _ t.none_holds.0) in
-    let both = Takes-then rest a.0.0 a.0.1 (byte_item b.0.0) b.0.1 t.taken u.0 in
+    let both = Takes-then rest a.0.0 a.0.1 (byte_item b.0.0) b.0.1 t.takes u.0 in
     let ends : b.0.1 ≡ left = ok_is b.0.1 left b.2 in
     subst (λ (end : Rest). Takes rest (mark_text mark version) end) ends
     (subst (λ (m : List ℕ). Takes rest (m ++ byte_item version) b.0.1) mark_is (subst (λ (n : ℕ). Takes rest (a.0.0 ++ byte_item n) b.0.1) u.1.1 both))
@@ -73,27 +70,27 @@ mark_again mark version at more four small =
     ap (λ (bytes : List ℕ). item 4 (record { at = at; bytes = bytes }) (mark_conditions mark) >>= λ it. byte_at it.1 (λ n. (not (n == version), BadVersion) ∷ []) >>= λ number. Ok number.1) regrouped
     ∙ ap (λ (r : Reading (List ℕ)). r >>= λ it. byte_at it.1 (λ n. (not (n == version), BadVersion) ∷ []) >>= λ number. Ok number.1) begins
     ∙ ap (λ (r : Reading ℕ). r >>= λ number. Ok number.1) ends
-    ∙ ap (λ (n : ℕ). done (record { at = n; bytes = more })) place
+    ∙ ap (λ (n : ℕ). ok_of (record { at = n; bytes = more })) place
 
-mark_free : (mark : List ℕ) (version : ℕ) (rest : Rest) → is_memory (mark_at mark version rest) ≡ false
+mark_not_memory : (mark : List ℕ) (version : ℕ) (rest : Rest) → is_memory (mark_at mark version rest) ≡ false
 unfolding mark_at
-mark_free mark version rest =
-    bind_free (item 4 rest (mark_conditions mark)) (λ it. byte_at it.1 (λ n. (not (n == version), BadVersion) ∷ []) >>= λ number. Ok number.1)
-    (item_free 4 rest (mark_conditions mark) (λ text. (refl, tt)))
-    (λ it. bind_free (byte_at it.1 (λ n. (not (n == version), BadVersion) ∷ [])) (λ number. Ok number.1) ((byte_reader (version_conditions version)).free it.1) (λ number. refl))
+mark_not_memory mark version rest =
+    bind_not_memory (item 4 rest (mark_conditions mark)) (λ it. byte_at it.1 (λ n. (not (n == version), BadVersion) ∷ []) >>= λ number. Ok number.1)
+    (item_not_memory 4 rest (mark_conditions mark) (λ text. (refl, tt)))
+    (λ it. bind_not_memory (byte_at it.1 (λ n. (not (n == version), BadVersion) ∷ [])) (λ number. Ok number.1) ((byte_reader (version_conditions version)).not_memory it.1) (λ number. refl))
 
 -- the mark and the version say nothing
-abbrev marked_at : List ℕ → ℕ → Rest → Reading (Unit {0})
-marked_at mark version rest = mark_at mark version rest >>= λ left. Ok (tt, left)
+abbrev silent_mark_at : List ℕ → ℕ → Rest → Reading (Unit {0})
+silent_mark_at mark version rest = mark_at mark version rest >>= λ left. Ok (tt, left)
 
-marked_reader : (mark : List ℕ) (version : ℕ) → length mark ≡ 4 → version < 256 → IsReader (marked_at mark version) (λ nothing. mark_text mark version) (λ nothing. Unit {0})
-marked_reader mark version four small = record {
+silent_mark_reader : (mark : List ℕ) (version : ℕ) → length mark ≡ 4 → version < 256 → IsReader (silent_mark_at mark version) (λ nothing. mark_text mark version) (λ nothing. Unit {0})
+silent_mark_reader mark version four small = record {
   takes = λ rest nothing left fits e.
-      let b = bind_ok (mark_at mark version rest) (λ left. done (nothing, left)) (nothing, left) e in
+      let b = bind_ok (mark_at mark version rest) (λ left. ok_of (nothing, left)) (nothing, left) e in
       let ends : b.0 ≡ left = ap (λ (p : Unit {0} × Rest). p.1) (ok_is (nothing, b.0) (nothing, left) b.2) in
       (subst (λ (end : Rest). Takes rest (mark_text mark version) end) ends (mark_takes mark version rest b.0 fits b.1), tt);
-  again = λ at more nothing fit. ap (λ (r : Result Rest CodeRefusal). r >>= λ left. done (nothing, left)) (mark_again mark version at more four small);
-  free = λ rest. bind_free (mark_at mark version rest) (λ left. Ok (tt, left)) (mark_free mark version rest) (λ left. refl);
+  again = λ at more nothing fit. ap (λ (r : Result Rest CodeRefusal). r >>= λ left. ok_of (nothing, left)) (mark_again mark version at more four small);
+  not_memory = λ rest. bind_not_memory (mark_at mark version rest) (λ left. Ok (tt, left)) (mark_not_memory mark version rest) (λ left. refl);
 }
 
 -- ---- the front
@@ -117,11 +114,11 @@ concat-flat_map : {X : Type 0} (items : X → List Item) (xs : List X) → conca
 concat-flat_map items [] = refl
 concat-flat_map items (x ∷ xs) = concat-append (items x) (flat_map items xs) ∙ ap (λ (t : List ℕ). concat (items x) ++ t) (concat-flat_map items xs)
 
-concat-map_then : {X : Type 0} (spell : X → List ℕ) (xs : List X) (items : List Item) → concat (map spell xs ++ items) ≡ flat_map spell xs ++ concat items
-concat-map_then spell xs items = concat-append (map spell xs) items ∙ ap (λ (t : List ℕ). t ++ concat items) (concat-map spell xs)
+concat-map-append : {X : Type 0} (spell : X → List ℕ) (xs : List X) (items : List Item) → concat (map spell xs ++ items) ≡ flat_map spell xs ++ concat items
+concat-map-append spell xs items = concat-append (map spell xs) items ∙ ap (λ (t : List ℕ). t ++ concat items) (concat-map spell xs)
 
-concat-flat_map_then : {X : Type 0} (some : X → List Item) (xs : List X) (items : List Item) → concat (flat_map some xs ++ items) ≡ flat_map (λ x. concat (some x)) xs ++ concat items
-concat-flat_map_then some xs items = concat-append (flat_map some xs) items ∙ ap (λ (t : List ℕ). t ++ concat items) (concat-flat_map some xs)
+concat-flat_map-append : {X : Type 0} (some : X → List Item) (xs : List X) (items : List Item) → concat (flat_map some xs ++ items) ≡ flat_map (λ x. concat (some x)) xs ++ concat items
+concat-flat_map-append some xs items = concat-append (flat_map some xs) items ∙ ap (λ (t : List ℕ). t ++ concat items) (concat-flat_map some xs)
 
 -- the texts of the front in a row
 in_a_row : (mark version field rate nodes nodes' links links' source sinks sinks' listed listed' : List ℕ)
@@ -143,30 +140,30 @@ front_text mark version front =
     let middle = number_item front.source ∷ number_item (length front.sinks) ∷ sinks in
     let links = number_item (length front.links) ∷ (flat_map link_items front.links ++ middle) in
     ap (λ (t : List ℕ). mark ++ (byte_item version ++ (byte_item (mark_of front.field) ++ (byte_item front.rate ++ (number_item (length front.nodes) ++ t)))))
-    (sym (concat-map_then name_item front.nodes links
+    (sym (concat-map-append name_item front.nodes links
       ∙ ap (λ (t : List ℕ). flat_map name_item front.nodes ++ (number_item (length front.links) ++ t))
-      (concat-flat_map_then link_items front.links middle
+      (concat-flat_map-append link_items front.links middle
         ∙ ap (λ (t : List ℕ). flat_map (λ link. concat (link_items link)) front.links ++ (number_item front.source ++ (number_item (length front.sinks) ++ t)))
-        (concat-map_then number_item front.sinks last
+        (concat-map-append number_item front.sinks last
           ∙ ap (λ (t : List ℕ). flat_map number_item front.sinks ++ (number_item (length listed) ++ t)) (concat-flat_map pattern_items listed)))))
 
-abbrev nothing_read : Rest → Reading (Unit {0})
-nothing_read left = Ok (tt, left)
+abbrev nothing_of : Rest → Reading (Unit {0})
+nothing_of left = Ok (tt, left)
 
-marked_first : (mark : List ℕ) (version : ℕ) (rest : Rest) (read : Rest → Reading Front) → (marked_at mark version rest >>= λ x. read x.1) ≡ (mark_at mark version rest >>= read)
-marked_first mark version rest read = either (mark_at mark version rest)
+silent_mark_first : (mark : List ℕ) (version : ℕ) (rest : Rest) (read : Rest → Reading Front) → (silent_mark_at mark version rest >>= λ x. read x.1) ≡ (mark_at mark version rest >>= read)
+silent_mark_first mark version rest read = either (mark_at mark version rest)
   where
-    either : (r : Result Rest CodeRefusal) → ((r >>= nothing_read) >>= λ x. read x.1) ≡ (r >>= read)
+    either : (r : Result Rest CodeRefusal) → ((r >>= nothing_of) >>= λ x. read x.1) ≡ (r >>= read)
     either (Ok x) = refl
     either (Err d) = refl
 
 pub front_reader : (mark : List ℕ) (version : ℕ) → length mark ≡ 4 → version < 256 → IsReader (front_at mark version) (λ front. concat (front_items_in mark version front)) IsFrontRead
 unfolding front_at
 front_reader mark version four small =
-    renamed_reader
-    (λ rest. marked_first mark version rest (λ rest. field_at rest >>= λ field. rate_at field.1 >>= λ rate. nodes_at rate.1 >>= λ nodes. links_at (length nodes.0) nodes.1 >>= λ links. source_at (length nodes.0) links.1 >>= λ source. sinks_at (length nodes.0) source.0 source.1 >>= λ sinks. patterns_at (length links.0) (length sinks.0) sinks.1 >>= λ patterns. Ok (record { field = field.0; rate = rate.0; nodes = nodes.0; links = links.0; source = source.0; sinks = sinks.0; patterns = patterns.0 }, patterns.1)))
+    reader_of_same
+    (λ rest. silent_mark_first mark version rest (λ rest. field_at rest >>= λ field. rate_at field.1 >>= λ rate. nodes_at rate.1 >>= λ nodes. links_at (length nodes.0) nodes.1 >>= λ links. source_at (length nodes.0) links.1 >>= λ source. sinks_at (length nodes.0) source.0 source.1 >>= λ sinks. patterns_at (length links.0) (length sinks.0) sinks.1 >>= λ patterns. Ok (record { field = field.0; rate = rate.0; nodes = nodes.0; links = links.0; source = source.0; sinks = sinks.0; patterns = patterns.0 }, patterns.1)))
     (same_reader
-      (then_reader (λ (f : Front). tt {0}) (marked_reader mark version four small)
+      (then_reader (λ (f : Front). tt {0}) (silent_mark_reader mark version four small)
         (λ nothing. then_reader (λ (f : Front). f.field) field_reader
           (λ field. then_reader (λ (f : Front). f.rate) rate_reader
             (λ rate. then_reader (λ (f : Front). f.nodes) nodes_reader
@@ -174,7 +171,7 @@ front_reader mark version four small =
                 (λ links. then_reader (λ (f : Front). f.source) (source_reader (length nodes))
                   (λ source. then_reader (λ (f : Front). f.sinks) (sinks_reader (length nodes) source)
                     (λ sinks. then_reader (λ (f : Front). f.patterns) (patterns_reader (length links) (length sinks))
-                      (λ patterns. done_reader (record { field = field; rate = rate; nodes = nodes; links = links; source = source; sinks = sinks; patterns = patterns }))
+                      (λ patterns. empty_reader (record { field = field; rate = rate; nodes = nodes; links = links; source = source; sinks = sinks; patterns = patterns }))
                       (λ patterns f fit more. ap (λ (f : Front). f.patterns) more))
                     (λ sinks f fit more. ap (λ (f : Front). f.sinks) more.1))
                   (λ source f fit more. ap (λ (f : Front). f.source) more.1.1))
@@ -220,7 +217,7 @@ from_conditions : (front : Front) (link : Link) (earlier : List Operand)
 from_conditions front link earlier = record {
   to = λ rest n none. (not-false _ none.0, not-false _ none.1.0);
   from = λ rest n fit. (not_from_true _ fit.0, (not_from_true _ fit.1, tt));
-  free = λ rest n. (refl, (refl, tt));
+  not_memory = λ rest n. (refl, (refl, tt));
 }
 
 times_conditions : AreConditions (λ rest n. (n == 0, ZeroCoefficient rest.at) ∷ []) (λ n. 0 < n)
@@ -229,7 +226,7 @@ times_conditions = record {
       let apart = eqb-false n 0 none.0 in
       omega arith;
   from = λ rest n above. (ne_eqb n 0 (λ e. absurd (omega arith)), tt);
-  free = λ rest n. (refl, tt);
+  not_memory = λ rest n. (refl, tt);
 }
 
 operand_reader : (front : Front) (link : Link) (earlier : List Operand) → IsReader (operand_at front link earlier) (λ operand. concat (operand_items front.field operand)) (OperandAfter front link earlier)
@@ -238,7 +235,7 @@ operand_reader front link earlier =
     same_reader
     (then_reader (λ (operand : Operand). operand.from) (number_reader (from_conditions front link earlier))
       (λ from. then_reader (λ (operand : Operand). operand.times) (element_reader front.field times_conditions)
-        (λ times. done_reader (record { from = from; times = times }))
+        (λ times. empty_reader (record { from = from; times = times }))
         (λ times operand fit more. ap (λ (o : Operand). o.times) more))
       (λ from operand fit more. ap (λ (o : Operand). o.from) more.1))
     (λ operand fit. refl)
@@ -247,7 +244,7 @@ operand_reader front link earlier =
 
 -- what the items of a link's operands say one by one
 pub record AreOperandsRead (front : Front) (link : Link) (operands : List Operand) : Type 0 where
-  pub few : length operands ≤ 8192
+  pub few_operands : length operands ≤ 8192
   pub each : AllAfter (OperandAfter front link) [] operands
 
 pub operands_reader : (front : Front) (link : Link) → IsReader (operands_at_link front link) (λ operands. concat (operand_list_items front.field operands)) (AreOperandsRead front link)
@@ -256,8 +253,8 @@ operands_reader front link =
     same_reader
     (counted_reader (number_reader (count_conditions 8192)) (operand_at front link) (λ operand. concat (operand_items front.field operand)) (OperandAfter front link) (operand_reader front link) [])
     (λ operands fit. ap (λ (t : List ℕ). number_item (length operands) ++ t) (sym (concat-flat_map (operand_items front.field) operands)))
-    (λ operands fit. record { few = fit.0.1; each = fit.1.1 })
-    (λ operands fit. ((omega (arith, fit.few), fit.few), (refl, fit.each)))
+    (λ operands fit. record { few_operands = fit.0.1; each = fit.1.1 })
+    (λ operands fit. ((omega (arith, fit.few_operands), fit.few_operands), (refl, fit.each)))
 
 -- ---- the decoders
 
@@ -273,7 +270,7 @@ decoder_link_conditions : (front : Front) (sink : ℕ) (earlier : List ℕ)
 decoder_link_conditions front sink earlier = record {
   to = λ rest n none. (not-false _ none.0, not-false _ none.1.0);
   from = λ rest n fit. (not_from_true _ fit.0, (not_from_true _ fit.1, tt));
-  free = λ rest n. (refl, (refl, tt));
+  not_memory = λ rest n. (refl, (refl, tt));
 }
 
 decoder_link_reader : (front : Front) (sink : ℕ) (earlier : List ℕ)
@@ -287,7 +284,7 @@ no_conditions : AreConditions (λ rest n. []) (λ (n : ℕ). Unit {0})
 no_conditions = record {
   to = λ rest n none. tt;
   from = λ rest n fit. tt;
-  free = λ rest n. tt;
+  not_memory = λ rest n. tt;
 }
 
 entry_reader : (field : FieldKind) (earlier : List ℕ) → IsReader (λ at. element_at field at (λ n. [])) (element_item field) (λ n. n < size_of field)
@@ -309,12 +306,12 @@ decoder_reader front sink =
         number_item (DecoderLinkAfter front sink) (decoder_link_reader front sink) front.rate [])
       (λ links. then_reader (λ (decoder : Decoder). decoder.entries)
         (repeated_reader (λ earlier at. element_at front.field at (λ n. [])) (element_item front.field) (λ earlier n. n < size_of front.field) (entry_reader front.field) (front.rate * front.rate) [])
-        (λ entries. done_reader (record { links = links; entries = entries }))
+        (λ entries. empty_reader (record { links = links; entries = entries }))
         (λ entries decoder fit more. ap (λ (d : Decoder). d.entries) more))
       (λ links decoder fit more. ap (λ (d : Decoder). d.links) more.1))
     (λ decoder fit.
       ap (λ (t : List ℕ). flat_map number_item decoder.links ++ t) (append-nil (flat_map (element_item front.field) decoder.entries) ∙ sym (concat-map (element_item front.field) decoder.entries))
-      ∙ sym (concat-map_then number_item decoder.links (map (element_item front.field) decoder.entries)))
+      ∙ sym (concat-map-append number_item decoder.links (map (element_item front.field) decoder.entries)))
     (λ decoder fit. record { link_count = fit.0.0; links = fit.0.1.1; entry_count = fit.1.0.0; entries = fit.1.0.1.1 })
     (λ decoder fit. ((fit.link_count, (refl, fit.links)), ((fit.entry_count, (refl, fit.entries)), refl)))
 
@@ -350,7 +347,7 @@ body_text contents =
     ap (λ (t : List ℕ). concat front ++ t)
     (ap (λ (t : List ℕ). flat_map (λ operands. concat (operand_list_items field operands)) contents.operands ++ t)
       (append-nil (flat_map (λ decoder. concat (decoder_items field decoder)) contents.decoders) ∙ sym (concat-flat_map (decoder_items field) contents.decoders))
-      ∙ sym (concat-flat_map_then (operand_list_items field) contents.operands (decoder_table_items field contents.decoders)))
+      ∙ sym (concat-flat_map-append (operand_list_items field) contents.operands (decoder_table_items field contents.decoders)))
     ∙ sym (concat-append front tables)
 
 pub body_reader : IsReader body_at spelling_of AreContentsRead
@@ -363,7 +360,7 @@ body_reader =
           (each_reader (operands_at_link front) (λ operands. concat (operand_list_items front.field operands)) (AreOperandsRead front) (operands_reader front) front.links)
           (λ operands. then_reader (λ (c : Contents). c.decoders)
             (each_reader (decoder_at front) (λ decoder. concat (decoder_items front.field decoder)) (IsDecoderRead front) (decoder_reader front) (demand_sinks front))
-            (λ decoders. done_reader (record { front = front; operands = operands; decoders = decoders }))
+            (λ decoders. empty_reader (record { front = front; operands = operands; decoders = decoders }))
             (λ decoders c fit more. ap (λ (c : Contents). c.decoders) more))
           (λ operands c fit more. ap (λ (c : Contents). c.operands) more.1))
         (λ c fit. ap (λ (f : Front). tables_text f.field c) (sym (ap (λ (c : Contents). c.front) fit.1.1)))

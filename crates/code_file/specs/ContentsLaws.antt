@@ -24,7 +24,7 @@ use Rattle.node_program.specs.declared.Decoder.{Decoder}
 use Rattle.node_program.specs.declared.code.Code.{Code}
 use Rattle.code_file.specs.Reading.{Front, Contents, may_read, is_above_last, demand_sinks}
 use Rattle.code_file.specs.Spelling.{front_of, contents_in, AreContents}
-use Rattle.code_file.specs.Readers.{AllAfter, EachFits}
+use Rattle.code_file.specs.Readers.{ok_of, AllAfter, EachFits}
 use Rattle.code_file.specs.FrontReaders.{NameAfter, LinkAfter, SinkAfter, LinkNumberAfter, PatternAfter, ArePatternsRead, none_pattern}
 use Rattle.code_file.specs.CodeReaders.{OperandAfter, AreOperandsRead, DecoderLinkAfter, IsDecoderRead, IsFrontRead, AreContentsRead}
 use Rattle.code_file.specs.AfterLaws.{Rises, LeadsOn, AllAfter-weaker, AllAfter-both, AllAfter-map, AllAfter-from_map, AllAfter-from_list_all, list_all-from_AllAfter, list_any-map, nat_eq-swap, are_distinct-from_AllAfter, AllAfter-from_are_distinct, are_names-from_AllAfter, AllAfter-from_are_names, is_rising-from_AllAfter, AllAfter-from_is_rising, length-is_rising, length-are_distinct, are_in_order-from_AllAfter, AllAfter-from_are_in_order}
@@ -43,22 +43,22 @@ link_names-from_read nodes links all =
     are_names-from_AllAfter (map (λ (link : Link). link.name) links)
     (AllAfter-map (λ (link : Link). link.name) NameAfter [] links
       (AllAfter-weaker (LinkAfter nodes) (λ before link. NameAfter (map (λ (one : Link). one.name) before) link.name) [] links
-        (λ before link is. (is.name, list_any-map (λ (one : Link). one.name) (bytes_eq link.name) before ∙ is.fresh)) all))
+        (λ before link is. (is.name, list_any-map (λ (one : Link). one.name) (bytes_eq link.name) before ∙ is.is_new)) all))
 
 link_ends-from_read : (nodes : ℕ) (links : List Link) → AllAfter (LinkAfter nodes) [] links → list_all (is_link_among nodes) links ≡ true
 link_ends-from_read nodes links all =
     list_all-from_AllAfter (is_link_among nodes) [] links
     (AllAfter-weaker (LinkAfter nodes) (λ before link. is_link_among nodes link ≡ true) [] links
       (λ before link is.
-        let apart = or_parts (link.head == link.tail) (is_among (map (λ one. one.tail) before) link.head) is.ahead in
+        let apart = or_parts (link.head == link.tail) (is_among (map (λ one. one.tail) before) link.head) is.leads_on in
         and_from _ _ (and_from _ _ (lt-ltb _ _ is.tail) (lt-ltb _ _ is.head)) (not_from_false _ (nat_eq-swap link.tail link.head ∙ apart.0))) all)
 
 link_order-from_read : (nodes : ℕ) (links : List Link) → AllAfter (LinkAfter nodes) [] links → are_in_order [] links ≡ true
-link_order-from_read nodes links all = are_in_order-from_AllAfter links (AllAfter-weaker (LinkAfter nodes) LeadsOn [] links (λ before link is. is.ahead) all)
+link_order-from_read nodes links all = are_in_order-from_AllAfter links (AllAfter-weaker (LinkAfter nodes) LeadsOn [] links (λ before link is. is.leads_on) all)
 
-links_read : (nodes : ℕ) (links : List Link) → nodes ≤ 4096 → are_names (map (λ link. link.name) links) ≡ true → list_all (is_link_among nodes) links ≡ true → are_in_order [] links ≡ true
+LinkAfter-from_network : (nodes : ℕ) (links : List Link) → nodes ≤ 4096 → are_names (map (λ link. link.name) links) ≡ true → list_all (is_link_among nodes) links ≡ true → are_in_order [] links ≡ true
     → AllAfter (LinkAfter nodes) [] links
-links_read nodes links few names ends order =
+LinkAfter-from_network nodes links few names ends order =
     let Named : List Link → Link → Type 0 = λ before link. NameAfter (map (λ (one : Link). one.name) before) link.name in
     let Ended : List Link → Link → Type 0 = λ before link. is_link_among nodes link ≡ true in
     let named : AllAfter Named [] links = AllAfter-from_map (λ (link : Link). link.name) NameAfter [] links (AllAfter-from_are_names (map (λ (link : Link). link.name) links) names) in
@@ -71,12 +71,12 @@ links_read nodes links few names ends order =
       let head : link.head < nodes = ltb-true _ _ inside.1 in
       record {
         name = is.0.0;
-        fresh = sym (list_any-map (λ (one : Link). one.name) (bytes_eq link.name) before) ∙ is.0.1;
+        is_new = sym (list_any-map (λ (one : Link). one.name) (bytes_eq link.name) before) ∙ is.0.1;
         tail_fits = omega arith;
         tail = tail;
         head_fits = omega arith;
         head = head;
-        ahead = is.1.1;
+        leads_on = is.1.1;
       })
     (AllAfter-both Named (λ before link. Ended before link × LeadsOn before link) [] links named (AllAfter-both Ended LeadsOn [] links ended ordered))
 
@@ -96,18 +96,18 @@ is_among-same (one ∷ numbers) n = ap (λ (b : Bool). b || list_any (nat_eq n) 
 distinct_sinks-from_read : (nodes source : ℕ) (sinks : List ℕ) → AllAfter (SinkAfter nodes source) [] sinks → are_distinct nat_eq sinks ≡ true
 distinct_sinks-from_read nodes source sinks all =
     are_distinct-from_AllAfter nat_eq nat_eq-swap sinks
-    (AllAfter-weaker (SinkAfter nodes source) (λ before sink. list_any (nat_eq sink) before ≡ false) [] sinks (λ before sink is. is_among-same before sink ∙ is.fresh) all)
+    (AllAfter-weaker (SinkAfter nodes source) (λ before sink. list_any (nat_eq sink) before ≡ false) [] sinks (λ before sink is. is_among-same before sink ∙ is.is_new) all)
 
-sinks_read : (nodes source : ℕ) (sinks : List ℕ) → nodes ≤ 4096 → list_all (is_sink_among nodes source) sinks ≡ true → are_distinct nat_eq sinks ≡ true → AllAfter (SinkAfter nodes source) [] sinks
-sinks_read nodes source sinks few among distinct =
+SinkAfter-from_network : (nodes source : ℕ) (sinks : List ℕ) → nodes ≤ 4096 → list_all (is_sink_among nodes source) sinks ≡ true → are_distinct nat_eq sinks ≡ true → AllAfter (SinkAfter nodes source) [] sinks
+SinkAfter-from_network nodes source sinks few among distinct =
     let Among : List ℕ → ℕ → Type 0 = λ before sink. is_sink_among nodes source sink ≡ true in
-    let Fresh : List ℕ → ℕ → Type 0 = λ before sink. list_any (nat_eq sink) before ≡ false in
-    AllAfter-weaker (λ before sink. Among before sink × Fresh before sink) (SinkAfter nodes source) [] sinks
+    let New : List ℕ → ℕ → Type 0 = λ before sink. list_any (nat_eq sink) before ≡ false in
+    AllAfter-weaker (λ before sink. Among before sink × New before sink) (SinkAfter nodes source) [] sinks
     (λ before sink is.
       let parts = and_parts _ _ is.0 in
       let node : sink < nodes = ltb-true _ _ parts.0 in
-      record { fits = omega arith; node = node; not_source = not-true _ parts.1; fresh = sym (is_among-same before sink) ∙ is.1 })
-    (AllAfter-both Among Fresh [] sinks (AllAfter-from_list_all (is_sink_among nodes source) [] sinks among) (AllAfter-from_are_distinct nat_eq nat_eq-swap sinks distinct))
+      record { fits = omega arith; node = node; not_source = not-true _ parts.1; is_new = sym (is_among-same before sink) ∙ is.1 })
+    (AllAfter-both Among New [] sinks (AllAfter-from_list_all (is_sink_among nodes source) [] sinks among) (AllAfter-from_are_distinct nat_eq nat_eq-swap sinks distinct))
 
 -- ---- patterns
 
@@ -116,8 +116,8 @@ pattern_links-from_read links numbers all =
     (is_rising-from_AllAfter numbers (AllAfter-weaker (LinkNumberAfter links) Rises [] numbers (λ before n is. is.rises) all),
       list_all-from_AllAfter (λ link. nat_lt link links) [] numbers (AllAfter-weaker (LinkNumberAfter links) (λ before n. nat_lt n links ≡ true) [] numbers (λ before n is. lt-ltb _ _ is.below) all))
 
-pattern_links_read : (links : ℕ) (numbers : List ℕ) → links ≤ 8192 → is_rising numbers ≡ true → list_all (λ link. nat_lt link links) numbers ≡ true → AllAfter (LinkNumberAfter links) [] numbers
-pattern_links_read links numbers few rising below =
+LinkNumberAfter-from_network : (links : ℕ) (numbers : List ℕ) → links ≤ 8192 → is_rising numbers ≡ true → list_all (λ link. nat_lt link links) numbers ≡ true → AllAfter (LinkNumberAfter links) [] numbers
+LinkNumberAfter-from_network links numbers few rising below =
     AllAfter-weaker (λ before n. Rises before n × (nat_lt n links ≡ true)) (LinkNumberAfter links) [] numbers
     (λ before n is.
       let within : n < links = ltb-true _ _ is.1 in
@@ -128,7 +128,7 @@ pattern_names-from_read : (links : ℕ) (listed : List Pattern) → AllAfter (Pa
 pattern_names-from_read links listed all =
     let named = AllAfter-map (λ (pattern : Pattern). pattern.name) NameAfter (none_pattern ∷ []) listed
       (AllAfter-weaker (PatternAfter links) (λ before pattern. NameAfter (map (λ (one : Pattern). one.name) before) pattern.name) (none_pattern ∷ []) listed
-        (λ before pattern is. (is.name, list_any-map (λ (one : Pattern). one.name) (bytes_eq pattern.name) before ∙ is.fresh)) all) in
+        (λ before pattern is. (is.name, list_any-map (λ (one : Pattern). one.name) (bytes_eq pattern.name) before ∙ is.is_new)) all) in
     are_names-from_AllAfter (codes "none" ∷ map (λ (pattern : Pattern). pattern.name) listed) ((refl, refl), named)
 
 are_patterns-from_read : (links : ℕ) (listed : List Pattern) → AllAfter (PatternAfter links) (none_pattern ∷ []) listed → are_patterns links (none_pattern ∷ listed) ≡ true
@@ -137,7 +137,7 @@ are_patterns-from_read links listed all =
     (AllAfter-weaker (PatternAfter links) (λ before pattern. is_listed_pattern links pattern ≡ true) (none_pattern ∷ []) listed
       (λ before pattern is.
         let numbers = pattern_links-from_read links pattern.links is.numbers in
-        and_from _ _ (and_from _ _ (lt-ltb _ _ is.some) numbers.0) numbers.1) all)
+        and_from _ _ (and_from _ _ (lt-ltb _ _ is.some_link) numbers.0) numbers.1) all)
 
 -- the first of patterns is `none` without links
 none_is_first : (links : ℕ) (patterns : List Pattern) → are_patterns links patterns ≡ true → patterns ≡ none_pattern ∷ drop 1 patterns
@@ -149,9 +149,9 @@ none_is_first links (none ∷ listed) are =
     let same : none ≡ none_pattern = ap (λ (n : List ℕ). record { name = n; links = none.links }) name ∙ ap (λ (ls : List ℕ). record { name = codes "none"; links = ls }) empty in
     ap (λ (first : Pattern). first ∷ listed) same
 
-listed_read : (links : ℕ) (listed : List Pattern) → links ≤ 8192 → are_names (map (λ pattern. pattern.name) (none_pattern ∷ listed)) ≡ true → are_patterns links (none_pattern ∷ listed) ≡ true
+PatternAfter-from_network : (links : ℕ) (listed : List Pattern) → links ≤ 8192 → are_names (map (λ pattern. pattern.name) (none_pattern ∷ listed)) ≡ true → are_patterns links (none_pattern ∷ listed) ≡ true
     → AllAfter (PatternAfter links) (none_pattern ∷ []) listed
-listed_read links listed few names are =
+PatternAfter-from_network links listed few names are =
     let Named : List Pattern → Pattern → Type 0 = λ before pattern. NameAfter (map (λ (one : Pattern). one.name) before) pattern.name in
     let Listed : List Pattern → Pattern → Type 0 = λ before pattern. is_listed_pattern links pattern ≡ true in
     let named : AllAfter Named (none_pattern ∷ []) listed =
@@ -163,11 +163,11 @@ listed_read links listed few names are =
       let within : length pattern.links ≤ links = length-is_rising pattern.links links lower.1 upper.1 in
       record {
         name = is.0.0;
-        fresh = sym (list_any-map (λ (one : Pattern). one.name) (bytes_eq pattern.name) before) ∙ is.0.1;
+        is_new = sym (list_any-map (λ (one : Pattern). one.name) (bytes_eq pattern.name) before) ∙ is.0.1;
         count_fits = omega arith;
-        some = ltb-true _ _ lower.0;
-        few = within;
-        numbers = pattern_links_read links pattern.links few lower.1 upper.1;
+        some_link = ltb-true _ _ lower.0;
+        few_links = within;
+        numbers = LinkNumberAfter-from_network links pattern.links few lower.1 upper.1;
       })
     (AllAfter-both Named Listed (none_pattern ∷ []) listed named (AllAfter-from_list_all (is_listed_pattern links) (none_pattern ∷ []) listed are))
 
@@ -187,11 +187,11 @@ IsNetwork-from_read front is =
       some_sink = is.some_sink;
       sink_nodes = sink_nodes-from_read nodes front.source front.sinks is.sinks;
       distinct_sinks = distinct_sinks-from_read nodes front.source front.sinks is.sinks;
-      pattern_names = subst (λ (ps : List Pattern). are_names (map (λ pattern. pattern.name) ps) ≡ true) back (pattern_names-from_read (length front.links) listed is.patterns.listed);
-      pattern_links = subst (λ (ps : List Pattern). are_patterns (length front.links) ps ≡ true) back (are_patterns-from_read (length front.links) listed is.patterns.listed);
+      pattern_names = subst (λ (ps : List Pattern). are_names (map (λ pattern. pattern.name) ps) ≡ true) back (pattern_names-from_read (length front.links) listed is.patterns.each_listed);
+      pattern_links = subst (λ (ps : List Pattern). are_patterns (length front.links) ps ≡ true) back (are_patterns-from_read (length front.links) listed is.patterns.each_listed);
       few_nodes = is.few_nodes;
       few_links = is.few_links;
-      few_patterns = omega (arith, count, is.patterns.few);
+      few_patterns = omega (arith, count, is.patterns.few_listed);
     }
 
 pub few_demands-from_read : (front : Front) → IsFrontRead front → length front.sinks * length front.patterns ≤ 65536
@@ -199,9 +199,9 @@ few_demands-from_read front is =
     let count : length front.patterns ≡ length (drop 1 front.patterns) + 1 = ap (λ (ps : List Pattern). length ps) is.patterns.none_first ∙ omega arith in
     rw count is.patterns.few_demands
 
-pub front_read : (front : Front) → IsNetwork front.nodes front.links front.source front.sinks front.patterns → 1 ≤ front.rate → front.rate ≤ 32
+pub IsFrontRead-from_network : (front : Front) → IsNetwork front.nodes front.links front.source front.sinks front.patterns → 1 ≤ front.rate → front.rate ≤ 32
     → length front.sinks * length front.patterns ≤ 65536 → are_in_order [] front.links ≡ true → IsFrontRead front
-front_read front is some_rate low_rate few_demands order =
+IsFrontRead-from_network front is some_rate low_rate few_demands order =
     let nodes = length front.nodes in
     let links = length front.links in
     let listed = drop 1 front.patterns in
@@ -216,17 +216,17 @@ front_read front is some_rate low_rate few_demands order =
       few_nodes = is.few_nodes;
       nodes = AllAfter-from_are_names front.nodes is.node_names;
       few_links = is.few_links;
-      links = links_read nodes front.links is.few_nodes is.link_names is.link_ends order;
+      links = LinkAfter-from_network nodes front.links is.few_nodes is.link_names is.link_ends order;
       source_fits = omega (arith, is.source_node, is.few_nodes);
       source = is.source_node;
       some_sink = is.some_sink;
       few_sinks = omega (arith, sinks, is.few_nodes);
-      sinks = sinks_read nodes front.source front.sinks is.few_nodes is.sink_nodes is.distinct_sinks;
+      sinks = SinkAfter-from_network nodes front.source front.sinks is.few_nodes is.sink_nodes is.distinct_sinks;
       patterns = record {
-        few = omega (arith, count, is.few_patterns);
+        few_listed = omega (arith, count, is.few_patterns);
         few_demands = demands;
         none_first = first;
-        listed = listed_read links listed is.few_links
+        each_listed = PatternAfter-from_network links listed is.few_links
           (subst (λ (ps : List Pattern). are_names (map (λ pattern. pattern.name) ps) ≡ true) first is.pattern_names)
           (subst (λ (ps : List Pattern). are_patterns links ps ≡ true) first is.pattern_links);
       };
@@ -266,8 +266,8 @@ module _ (net : Net) (rate : ℕ) (field : FieldKind) where
       either true h = omega (arith, ltb-true n rate h)
       either false h = omega (arith, leads_below net.links link.tail n h)
 
-  operands_read : (link : Link) (operands : List Operand) → rate ≤ 32 → length net.links ≤ 8192 → are_operands net rate field link operands ≡ true → AreOperandsRead (front_of net rate field) link operands
-  operands_read link operands low few are =
+  AreOperandsRead-from_code : (link : Link) (operands : List Operand) → rate ≤ 32 → length net.links ≤ 8192 → are_operands net rate field link operands ≡ true → AreOperandsRead (front_of net rate field) link operands
+  AreOperandsRead-from_code link operands low few are =
       let test : Operand → Bool = λ operand. is_source_of net rate link operand.from && nat_lt 0 operand.times && nat_lt operand.times (size_of field) in
       let numbers = map (λ (operand : Operand). operand.from) operands in
       let parts = and_parts (is_rising numbers) (list_all test operands) are in
@@ -278,7 +278,7 @@ module _ (net : Net) (rate : ℕ) (field : FieldKind) where
         ∙ list_all-implied test (λ operand. nat_lt operand.from 8192) operands
           (λ operand h. lt-ltb _ _ (reads_low link operand.from low few (and_parts (is_source_of net rate link operand.from) (nat_lt 0 operand.times) (and_parts _ _ h).0).0)) parts.1 in
       record {
-        few = omega (arith, length-is_rising numbers 8192 parts.0 below, length-map operands (λ (operand : Operand). operand.from));
+        few_operands = omega (arith, length-is_rising numbers 8192 parts.0 below, length-map operands (λ (operand : Operand). operand.from));
         each = AllAfter-weaker (λ before operand. Rising before operand × Tested before operand) (OperandAfter (front_of net rate field) link) [] operands
           (λ before operand is.
             let upper = and_parts (is_source_of net rate link operand.from && nat_lt 0 operand.times) (nat_lt operand.times (size_of field)) is.1 in
@@ -288,13 +288,13 @@ module _ (net : Net) (rate : ℕ) (field : FieldKind) where
           (AllAfter-both Rising Tested [] operands (AllAfter-from_map (λ (operand : Operand). operand.from) Rises [] operands (AllAfter-from_is_rising numbers parts.0)) (AllAfter-from_list_all test [] operands parts.1));
       }
 
-  operand_table_read : (links : List Link) (table : List (List Operand)) → rate ≤ 32 → length net.links ≤ 8192 → are_operands_of net rate field links table ≡ true → EachFits (AreOperandsRead (front_of net rate field)) links table
-  operand_table_read [] [] low few are = tt
-  operand_table_read [] (operands ∷ table) low few are = absurd (false≢true are)
-  operand_table_read (link ∷ links) [] low few are = absurd (false≢true are)
-  operand_table_read (link ∷ links) (operands ∷ table) low few are =
+  EachFits-from_operands_of_code : (links : List Link) (table : List (List Operand)) → rate ≤ 32 → length net.links ≤ 8192 → are_operands_of net rate field links table ≡ true → EachFits (AreOperandsRead (front_of net rate field)) links table
+  EachFits-from_operands_of_code [] [] low few are = tt
+  EachFits-from_operands_of_code [] (operands ∷ table) low few are = absurd (false≢true are)
+  EachFits-from_operands_of_code (link ∷ links) [] low few are = absurd (false≢true are)
+  EachFits-from_operands_of_code (link ∷ links) (operands ∷ table) low few are =
       let parts = and_parts _ _ are in
-      (operands_read link operands low few parts.0, operand_table_read links table low few parts.1)
+      (AreOperandsRead-from_code link operands low few parts.0, EachFits-from_operands_of_code links table low few parts.1)
 
   is_decoder-from_read : (sink : ℕ) (decoder : Decoder) → IsDecoderRead (front_of net rate field) sink decoder → is_decoder net rate field sink decoder ≡ true
   is_decoder-from_read sink decoder is =
@@ -312,8 +312,8 @@ module _ (net : Net) (rate : ℕ) (field : FieldKind) where
   are_decoders-from_read (sink ∷ sinks) [] fit = absurd fit
   are_decoders-from_read (sink ∷ sinks) (decoder ∷ decoders) fit = and_from _ _ (is_decoder-from_read sink decoder fit.0) (are_decoders-from_read sinks decoders fit.1)
 
-  decoder_read : (sink : ℕ) (decoder : Decoder) → length net.links ≤ 8192 → is_decoder net rate field sink decoder ≡ true → IsDecoderRead (front_of net rate field) sink decoder
-  decoder_read sink decoder few is =
+  IsDecoderRead-from_code : (sink : ℕ) (decoder : Decoder) → length net.links ≤ 8192 → is_decoder net rate field sink decoder ≡ true → IsDecoderRead (front_of net rate field) sink decoder
+  IsDecoderRead-from_code sink decoder few is =
       let all_into = list_all (leads_into net.links sink) decoder.links in
       let counted = length decoder.links == rate in
       let rising = is_rising decoder.links in
@@ -332,13 +332,13 @@ module _ (net : Net) (rate : ℕ) (field : FieldKind) where
           (AllAfter-from_list_all (λ entry. nat_lt entry (size_of field)) [] decoder.entries p4.1);
       }
 
-  decoders_read : (sinks : List ℕ) (decoders : List Decoder) → length net.links ≤ 8192 → are_decoders net rate field sinks decoders ≡ true → EachFits (IsDecoderRead (front_of net rate field)) sinks decoders
-  decoders_read [] [] few are = tt
-  decoders_read [] (decoder ∷ decoders) few are = absurd (false≢true are)
-  decoders_read (sink ∷ sinks) [] few are = absurd (false≢true are)
-  decoders_read (sink ∷ sinks) (decoder ∷ decoders) few are =
+  EachFits-from_decoders_of_code : (sinks : List ℕ) (decoders : List Decoder) → length net.links ≤ 8192 → are_decoders net rate field sinks decoders ≡ true → EachFits (IsDecoderRead (front_of net rate field)) sinks decoders
+  EachFits-from_decoders_of_code [] [] few are = tt
+  EachFits-from_decoders_of_code [] (decoder ∷ decoders) few are = absurd (false≢true are)
+  EachFits-from_decoders_of_code (sink ∷ sinks) [] few are = absurd (false≢true are)
+  EachFits-from_decoders_of_code (sink ∷ sinks) (decoder ∷ decoders) few are =
       let parts = and_parts _ _ are in
-      (decoder_read sink decoder few parts.0, decoders_read sinks decoders few parts.1)
+      (IsDecoderRead-from_code sink decoder few parts.0, EachFits-from_decoders_of_code sinks decoders few parts.1)
 
   -- what is read with the parts of a network makes a code with it
   pub IsCode-from_read : (operands : List (List Operand)) (decoders : List Decoder) → net.field ≡ choice_of field
@@ -372,12 +372,12 @@ AreContents-from_read contents is = record {
 }
 
 -- what the file of a code says is read
-pub contents_read : (code : Code) → AreContentsRead (contents_in code)
-contents_read code =
+pub AreContentsRead-from_code : (code : Code) → AreContentsRead (contents_in code)
+AreContentsRead-from_code code =
     let net = code.net in
     let draft = code.code.draft in
     record {
-      front = front_read (front_of net code.rate code.field) net.network draft.some_rate draft.low_rate draft.few_demands draft.link_order;
-      operands = operand_table_read net code.rate code.field net.links code.operands draft.low_rate net.network.few_links draft.link_operands;
-      decoders = decoders_read net code.rate code.field (sinks_of_demands net) code.decoders net.network.few_links code.code.demand_decoders;
+      front = IsFrontRead-from_network (front_of net code.rate code.field) net.network draft.some_rate draft.low_rate draft.few_demands draft.link_order;
+      operands = EachFits-from_operands_of_code net code.rate code.field net.links code.operands draft.low_rate net.network.few_links draft.link_operands;
+      decoders = EachFits-from_decoders_of_code net code.rate code.field (sinks_of_demands net) code.decoders net.network.few_links code.code.demand_decoders;
     }

@@ -14,7 +14,7 @@ use Rattle.net_model.specs.declared.Link.{Link}
 use Rattle.net_model.specs.declared.Pattern.{Pattern}
 use Rattle.code_file.specs.Items.{byte_item, number_item, name_item, link_items, pattern_items}
 use Rattle.code_file.specs.Reading.{Rest, Reading, ◌>>=◌, Front, item, byte_at, number_at, name_at, repeated_at, is_above_last, mark_at, field_at, rate_at, nodes_at, link_at, links_at, source_at, sinks_at, pattern_at, patterns_at, front_at}
-use Rattle.code_file.specs.Readers.{IsBytes, IsReader, Takes, NoneHolds, AreFree, AllAfter, bind_ok, bind_free, ok_is, item_takes, item_again, item_free, done_reader, then_reader, same_reader, repeated_reader}
+use Rattle.code_file.specs.Readers.{ok_of, IsBytes, IsReader, Takes, NoneHolds, AreNotMemory, AllAfter, bind_ok, bind_not_memory, ok_is, item_takes, item_again, item_not_memory, empty_reader, then_reader, same_reader, repeated_reader}
 use Rattle.code_file.specs.ItemReaders.{AreConditions, byte_reader, number_reader, name_reader}
 use Rattle.code_file.specs.declared.refusal.CodeRefusal.{CodeRefusal}
 use Rattle.code_file.specs.declared.refusal.CodeRefusal.TheVariants.{BadMagic, BadVersion, BadField, BadRate, BadName, BadIndex, OutOfOrder, NotRising, TooMany}
@@ -40,7 +40,7 @@ pub index_conditions : (limit : ℕ) → AreConditions (λ rest n. (not (nat_lt 
 index_conditions limit = record {
   to = λ rest n none. ltb-true _ _ (not-false _ none.0);
   from = λ rest n below. (not_from_true _ (lt-ltb _ _ below), tt);
-  free = λ rest n. (refl, tt);
+  not_memory = λ rest n. (refl, tt);
 }
 
 -- a number up to a limit
@@ -48,7 +48,7 @@ pub count_conditions : (limit : ℕ) → AreConditions (λ rest n. (nat_lt limit
 count_conditions limit = record {
   to = λ rest n none. ltb-false _ _ none.0;
   from = λ rest n within. (le-ltb _ _ within, tt);
-  free = λ rest n. (refl, tt);
+  not_memory = λ rest n. (refl, tt);
 }
 
 -- a number above 0 and up to a limit
@@ -58,7 +58,7 @@ some_conditions limit = record {
       let apart = eqb-false n 0 none.0 in
       (omega arith, ltb-false _ _ none.1.0);
   from = λ rest n within. (ne_eqb n 0 (λ e. absurd (omega arith)), (le-ltb _ _ within.1, tt));
-  free = λ rest n. (refl, (refl, tt));
+  not_memory = λ rest n. (refl, (refl, tt));
 }
 
 -- ---- the field and the rate
@@ -75,7 +75,7 @@ field_conditions = record {
         | inl e ↦ (not_from_true _ (or_left _ _ (eq-eqb n 8 e)), tt)
         | inr e ↦ (not_from_true _ (or_right _ _ (eq-eqb n 16 e)), tt)
       ];
-  free = λ rest n. (refl, tt);
+  not_memory = λ rest n. (refl, tt);
 }
 
 -- every kind has a mark
@@ -98,7 +98,7 @@ mark_small Sixteen = omega arith
 pub field_reader : IsReader field_at (λ field. byte_item (mark_of field)) (λ field. Unit {0})
 unfolding field_at
 field_reader =
-    same_reader (then_reader mark_of (byte_reader field_conditions) (λ n. done_reader (if n == 8 then Eight else Sixteen)) (λ n field fit is. ap mark_of is ∙ mark_of_kind n fit.1))
+    same_reader (then_reader mark_of (byte_reader field_conditions) (λ n. empty_reader (if n == 8 then Eight else Sixteen)) (λ n field fit is. ap mark_of is ∙ mark_of_kind n fit.1))
     (λ field fit. refl) (λ field fit. tt) (λ field fit. ((mark_small field, mark_fits field), kind_of_mark field))
 
 rate_conditions : AreConditions (λ rest n. ((n == 0) || nat_lt 32 n, BadRate) ∷ []) (λ n. (1 ≤ n) × (n ≤ 32))
@@ -108,7 +108,7 @@ rate_conditions = record {
       let apart = eqb-false n 0 neither.0 in
       (omega arith, ltb-false _ _ neither.1);
   from = λ rest n within. (or_from _ _ (ne_eqb n 0 (λ e. absurd (omega arith))) (le-ltb _ _ within.1), tt);
-  free = λ rest n. (refl, tt);
+  not_memory = λ rest n. (refl, tt);
 }
 
 pub rate_reader : IsReader rate_at byte_item (λ n. (1 ≤ n) × (n ≤ 32))
@@ -131,12 +131,12 @@ nodes_reader =
 -- a link of a new name whose head is no tail so far
 pub record LinkAfter (nodes : ℕ) (earlier : List Link) (link : Link) : Type 0 where
   pub name : is_name link.name ≡ true
-  pub fresh : list_any (λ one. bytes_eq link.name one.name) earlier ≡ false
+  pub is_new : list_any (λ one. bytes_eq link.name one.name) earlier ≡ false
   pub tail_fits : link.tail < 65536
   pub tail : link.tail < nodes
   pub head_fits : link.head < 65536
   pub head : link.head < nodes
-  pub ahead : ((link.head == link.tail) || is_among (map (λ one. one.tail) earlier) link.head) ≡ false
+  pub leads_on : ((link.head == link.tail) || is_among (map (λ one. one.tail) earlier) link.head) ≡ false
 
 head_conditions : (nodes : ℕ) (earlier : List Link) (tail : ℕ)
     → AreConditions (λ rest n. (not (nat_lt n nodes), BadIndex rest.at) ∷ ((n == tail) || is_among (map (λ link. link.tail) earlier) n, OutOfOrder (length earlier)) ∷ [])
@@ -144,7 +144,7 @@ head_conditions : (nodes : ℕ) (earlier : List Link) (tail : ℕ)
 head_conditions nodes earlier tail = record {
   to = λ rest n none. (ltb-true _ _ (not-false _ none.0), none.1.0);
   from = λ rest n fit. (not_from_true _ (lt-ltb _ _ fit.0), (fit.1, tt));
-  free = λ rest n. (refl, (refl, tt));
+  not_memory = λ rest n. (refl, (refl, tt));
 }
 
 pub link_reader : (nodes : ℕ) (earlier : List Link) → IsReader (link_at nodes earlier) (λ link. concat (link_items link)) (LinkAfter nodes earlier)
@@ -154,13 +154,13 @@ link_reader nodes earlier =
     (then_reader (λ (link : Link). link.name) (name_reader (λ name. list_any (λ link. bytes_eq name link.name) earlier))
       (λ name. then_reader (λ (link : Link). link.tail) (number_reader (index_conditions nodes))
         (λ tail. then_reader (λ (link : Link). link.head) (number_reader (head_conditions nodes earlier tail))
-          (λ head. done_reader (record { name = name; tail = tail; head = head }))
+          (λ head. empty_reader (record { name = name; tail = tail; head = head }))
           (λ head link fit more. ap (λ (l : Link). l.head) more))
         (λ tail link fit more. ap (λ (l : Link). l.tail) more.1))
       (λ name link fit more. ap (λ (l : Link). l.name) more.1.1))
     (λ link fit. refl)
-    (λ link fit. record { name = fit.0.0; fresh = fit.0.1; tail_fits = fit.1.0.0; tail = fit.1.0.1; head_fits = fit.1.1.0.0; head = fit.1.1.0.1.0; ahead = fit.1.1.0.1.1 })
-    (λ link fit. ((fit.name, fit.fresh), ((fit.tail_fits, fit.tail), ((fit.head_fits, (fit.head, fit.ahead)), refl))))
+    (λ link fit. record { name = fit.0.0; is_new = fit.0.1; tail_fits = fit.1.0.0; tail = fit.1.0.1; head_fits = fit.1.1.0.0; head = fit.1.1.0.1.0; leads_on = fit.1.1.0.1.1 })
+    (λ link fit. ((fit.name, fit.is_new), ((fit.tail_fits, fit.tail), ((fit.head_fits, (fit.head, fit.leads_on)), refl))))
 
 pub links_reader : (nodes : ℕ) → IsReader (links_at nodes) (λ links. number_item (length links) ++ flat_map (λ link. concat (link_items link)) links)
     (λ links. (length links ≤ 8192) × AllAfter (LinkAfter nodes) [] links)
@@ -179,7 +179,7 @@ pub record SinkAfter (nodes source : ℕ) (earlier : List ℕ) (sink : ℕ) : Ty
   pub fits : sink < 65536
   pub node : sink < nodes
   pub not_source : (sink == source) ≡ false
-  pub fresh : is_among earlier sink ≡ false
+  pub is_new : is_among earlier sink ≡ false
 
 sink_conditions : (nodes source : ℕ) (earlier : List ℕ)
     → AreConditions (λ rest n. (not (nat_lt n nodes) || (n == source) || is_among earlier n, BadIndex rest.at) ∷ [])
@@ -190,15 +190,15 @@ sink_conditions nodes source earlier = record {
       let lower = or_parts (not (nat_lt n nodes)) (n == source) upper.0 in
       (ltb-true _ _ (not-false _ lower.0), (lower.1, upper.1));
   from = λ rest n fit. (or_from _ _ (or_from _ _ (not_from_true _ (lt-ltb _ _ fit.0)) fit.1.0) fit.1.1, tt);
-  free = λ rest n. (refl, tt);
+  not_memory = λ rest n. (refl, tt);
 }
 
 pub sink_reader : (nodes source : ℕ) (earlier : List ℕ)
     → IsReader (λ at. number_at at (λ n. (not (nat_lt n nodes) || (n == source) || is_among earlier n, BadIndex at.at) ∷ [])) number_item (SinkAfter nodes source earlier)
 sink_reader nodes source earlier =
     same_reader (number_reader (sink_conditions nodes source earlier)) (λ n fit. refl)
-    (λ n fit. record { fits = fit.0; node = fit.1.0; not_source = fit.1.1.0; fresh = fit.1.1.1 })
-    (λ n fit. (fit.fits, (fit.node, (fit.not_source, fit.fresh))))
+    (λ n fit. record { fits = fit.0; node = fit.1.0; not_source = fit.1.1.0; is_new = fit.1.1.1 })
+    (λ n fit. (fit.fits, (fit.node, (fit.not_source, fit.is_new))))
 
 pub sinks_reader : (nodes source : ℕ) → IsReader (sinks_at nodes source) (λ sinks. number_item (length sinks) ++ flat_map number_item sinks)
     (λ sinks. (0 < length sinks) × ((length sinks ≤ 4096) × AllAfter (SinkAfter nodes source) [] sinks))
@@ -223,7 +223,7 @@ link_number_conditions : (links : ℕ) (earlier : List ℕ)
 link_number_conditions links earlier = record {
   to = λ rest n none. (ltb-true _ _ (not-false _ none.0), not-false _ none.1.0);
   from = λ rest n fit. (not_from_true _ (lt-ltb _ _ fit.0), (not_from_true _ fit.1, tt));
-  free = λ rest n. (refl, (refl, tt));
+  not_memory = λ rest n. (refl, (refl, tt));
 }
 
 link_number_reader : (links : ℕ) (earlier : List ℕ)
@@ -236,10 +236,10 @@ link_number_reader links earlier =
 -- a pattern of a new name with some links that rise
 pub record PatternAfter (links : ℕ) (earlier : List Pattern) (pattern : Pattern) : Type 0 where
   pub name : is_name pattern.name ≡ true
-  pub fresh : list_any (λ one. bytes_eq pattern.name one.name) earlier ≡ false
+  pub is_new : list_any (λ one. bytes_eq pattern.name one.name) earlier ≡ false
   pub count_fits : length pattern.links < 65536
-  pub some : 0 < length pattern.links
-  pub few : length pattern.links ≤ links
+  pub some_link : 0 < length pattern.links
+  pub few_links : length pattern.links ≤ links
   pub numbers : AllAfter (LinkNumberAfter links) [] pattern.links
 
 pub pattern_reader : (links : ℕ) (earlier : List Pattern) → IsReader (pattern_at links earlier) (λ pattern. concat (pattern_items pattern)) (PatternAfter links earlier)
@@ -251,13 +251,13 @@ pattern_reader links earlier =
         (λ count. then_reader (λ (pattern : Pattern). pattern.links)
           (repeated_reader (λ before at. number_at at (λ n. (not (nat_lt n links), BadIndex at.at) ∷ (not (is_above_last before n), NotRising at.at) ∷ []))
             number_item (LinkNumberAfter links) (link_number_reader links) count [])
-          (λ failed. done_reader (record { name = name; links = failed }))
+          (λ failed. empty_reader (record { name = name; links = failed }))
           (λ failed pattern fit more. ap (λ (p : Pattern). p.links) more))
         (λ count pattern fit more. more.0.0))
       (λ name pattern fit more. ap (λ (p : Pattern). p.name) more.1.1))
     (λ pattern fit. ap (λ (t : List ℕ). name_item pattern.name ++ (number_item (length pattern.links) ++ t)) (append-nil (flat_map number_item pattern.links) ∙ sym (concat-map number_item pattern.links)))
-    (λ pattern fit. record { name = fit.0.0; fresh = fit.0.1; count_fits = fit.1.0.0; some = fit.1.0.1.0; few = fit.1.0.1.1; numbers = fit.1.1.0.1.1 })
-    (λ pattern fit. ((fit.name, fit.fresh), ((fit.count_fits, (fit.some, fit.few)), ((refl, (refl, fit.numbers)), refl))))
+    (λ pattern fit. record { name = fit.0.0; is_new = fit.0.1; count_fits = fit.1.0.0; some_link = fit.1.0.1.0; few_links = fit.1.0.1.1; numbers = fit.1.1.0.1.1 })
+    (λ pattern fit. ((fit.name, fit.is_new), ((fit.count_fits, (fit.some_link, fit.few_links)), ((refl, (refl, fit.numbers)), refl))))
 
 -- the pattern without links
 abbrev pub none_pattern : Pattern
@@ -269,15 +269,15 @@ patterns_conditions sinks = record {
       let neither = or_parts (nat_lt 4095 n) (nat_lt 65536 (sinks * (n + 1))) none.0 in
       (ltb-false _ _ neither.0, ltb-false _ _ neither.1);
   from = λ rest n fit. (or_from _ _ (le-ltb _ _ fit.0) (le-ltb _ _ fit.1), tt);
-  free = λ rest n. (refl, tt);
+  not_memory = λ rest n. (refl, tt);
 }
 
 -- `none` and the listed patterns
 pub record ArePatternsRead (links sinks : ℕ) (patterns : List Pattern) : Type 0 where
-  pub few : length (drop 1 patterns) ≤ 4095
+  pub few_listed : length (drop 1 patterns) ≤ 4095
   pub few_demands : sinks * (length (drop 1 patterns) + 1) ≤ 65536
   pub none_first : patterns ≡ none_pattern ∷ drop 1 patterns
-  pub listed : AllAfter (PatternAfter links) (none_pattern ∷ []) (drop 1 patterns)
+  pub each_listed : AllAfter (PatternAfter links) (none_pattern ∷ []) (drop 1 patterns)
 
 pub patterns_reader : (links sinks : ℕ) → IsReader (patterns_at links sinks) (λ patterns. number_item (length (drop 1 patterns)) ++ flat_map (λ pattern. concat (pattern_items pattern)) (drop 1 patterns))
     (ArePatternsRead links sinks)
@@ -285,5 +285,5 @@ unfolding patterns_at
 patterns_reader links sinks =
     same_reader (counted_reader (number_reader (patterns_conditions sinks)) (pattern_at links) (λ pattern. concat (pattern_items pattern)) (PatternAfter links) (pattern_reader links) (none_pattern ∷ []))
     (λ patterns fit. refl)
-    (λ patterns fit. record { few = fit.0.1.0; few_demands = fit.0.1.1; none_first = fit.1.0; listed = fit.1.1 })
-    (λ patterns fit. ((omega (arith, fit.few), (fit.few, fit.few_demands)), (fit.none_first, fit.listed)))
+    (λ patterns fit. record { few_listed = fit.0.1.0; few_demands = fit.0.1.1; none_first = fit.1.0; each_listed = fit.1.1 })
+    (λ patterns fit. ((omega (arith, fit.few_listed), (fit.few_listed, fit.few_demands)), (fit.none_first, fit.each_listed)))

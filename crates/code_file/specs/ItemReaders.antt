@@ -10,18 +10,15 @@ use Rattle.gf_tables.specs.declared.kind.FieldKind.TheVariants.{Eight, Sixteen}
 use Rattle.net_model.specs.Name.{is_name}
 use Rattle.code_file.specs.Items.{byte_item, number_item, element_item, name_item}
 use Rattle.code_file.specs.Reading.{Rest, Reading, ◌>>=◌, item, byte_at, number_at, element_at, name_at}
-use Rattle.code_file.specs.Readers.{IsBytes, IsReader, Takes, NoneHolds, AreFree, bind_ok, bind_free, ok_is, item_takes, item_again, item_free}
+use Rattle.code_file.specs.Readers.{ok_of, IsBytes, IsReader, Takes, NoneHolds, AreNotMemory, bind_ok, bind_not_memory, ok_is, item_takes, item_again, item_not_memory}
 use Rattle.code_file.specs.declared.refusal.CodeRefusal.{CodeRefusal}
 use Rattle.code_file.specs.declared.refusal.CodeRefusal.TheVariants.{BadName}
-
-abbrev done : {A : Type 0} → A → Result A CodeRefusal
-done x = Ok x
 
 -- the conditions of a number in view of what is left, and what their absence says of it
 pub record AreConditions {X : Type 0} (conditions : Rest → X → List (Bool × CodeRefusal)) (Fits : X → Type 0) : Type 0 where
   pub to : (rest : Rest) (x : X) → NoneHolds (conditions rest x) → Fits x
   pub from : (rest : Rest) (x : X) → Fits x → NoneHolds (conditions rest x)
-  pub free : (rest : Rest) (x : X) → AreFree (conditions rest x)
+  pub not_memory : (rest : Rest) (x : X) → AreNotMemory (conditions rest x)
 
 one_byte : (text : List ℕ) → length text ≡ 1 → text ≡ byte_item (slice_index text 0)
 one_byte [] h = absurd (omega arith)
@@ -38,14 +35,14 @@ byte_reader {conditions} {Fits} are = record {
       let b = bind_ok (item 1 rest within) (λ it. Ok (slice_index it.0 0, it.1)) (n, left) e in
       let t = item_takes 1 rest within b.0.0 b.0.1 fits b.1 in
       subst (λ (p : ℕ × Rest). Takes rest (byte_item p.0) p.1 × ((p.0 < 256) × Fits p.0)) (ok_is (slice_index b.0.0 0, b.0.1) (n, left) b.2)
-      (subst (λ (text : List ℕ). Takes rest text b.0.1) (one_byte b.0.0 t.size_is) t.taken, (t.text_fits 0, are.to rest (slice_index b.0.0 0) t.none_holds));
+      (subst (λ (text : List ℕ). Takes rest text b.0.1) (one_byte b.0.0 t.size_is) t.takes, (t.text_fits 0, are.to rest (slice_index b.0.0 0) t.none_holds));
   again = λ at more n fits.
       let rest : Rest = record { at = at; bytes = byte_item n ++ more } in
       let read = item_again 1 at (byte_item n) more (λ text. conditions rest (slice_index text 0)) refl (are.from rest n fits.1) in
       ap (λ (r : Reading (List ℕ)). r >>= λ it. Ok (slice_index it.0 0, it.1)) read;
-  free = λ rest.
-      bind_free (item 1 rest (λ text. conditions rest (slice_index text 0))) (λ it. Ok (slice_index it.0 0, it.1))
-      (item_free 1 rest (λ text. conditions rest (slice_index text 0)) (λ text. are.free rest (slice_index text 0))) (λ it. refl);
+  not_memory = λ rest.
+      bind_not_memory (item 1 rest (λ text. conditions rest (slice_index text 0))) (λ it. Ok (slice_index it.0 0, it.1))
+      (item_not_memory 1 rest (λ text. conditions rest (slice_index text 0)) (λ text. are.not_memory rest (slice_index text 0))) (λ it. refl);
 }
 
 -- a number of two
@@ -60,17 +57,17 @@ number_reader {conditions} {Fits} are = record {
       let spelled : b.0.0 ≡ number_item (from_be_bytes w16 b.0.0) = sym (be_bytes_2 b.0.0 (from_be_bytes w16 b.0.0) t.size_is t.text_fits refl) in
       let below : from_be_bytes w16 b.0.0 < 65536 = omega (arith, t.text_fits 0, t.text_fits 1) in
       subst (λ (p : ℕ × Rest). Takes rest (number_item p.0) p.1 × ((p.0 < 65536) × Fits p.0)) (ok_is (from_be_bytes w16 b.0.0, b.0.1) (n, left) b.2)
-      (subst (λ (text : List ℕ). Takes rest text b.0.1) spelled t.taken, (below, are.to rest (from_be_bytes w16 b.0.0) t.none_holds));
+      (subst (λ (text : List ℕ). Takes rest text b.0.1) spelled t.takes, (below, are.to rest (from_be_bytes w16 b.0.0) t.none_holds));
   again = λ at more n fits.
       let rest : Rest = record { at = at; bytes = number_item n ++ more } in
       let back : from_be_bytes w16 (number_item n) ≡ n = from_be_bytes-to_be_bytes_2 n fits.0 in
       let none : NoneHolds (conditions rest (from_be_bytes w16 (number_item n))) = subst (λ (m : ℕ). NoneHolds (conditions rest m)) (sym back) (are.from rest n fits.1) in
       let read = item_again 2 at (number_item n) more (λ text. conditions rest (from_be_bytes w16 text)) refl none in
       ap (λ (r : Reading (List ℕ)). r >>= λ it. Ok (from_be_bytes w16 it.0, it.1)) read
-      ∙ ap (λ (m : ℕ). done (m, record { at = at + 2; bytes = more })) back;
-  free = λ rest.
-      bind_free (item 2 rest (λ text. conditions rest (from_be_bytes w16 text))) (λ it. Ok (from_be_bytes w16 it.0, it.1))
-      (item_free 2 rest (λ text. conditions rest (from_be_bytes w16 text)) (λ text. are.free rest (from_be_bytes w16 text))) (λ it. refl);
+      ∙ ap (λ (m : ℕ). ok_of (m, record { at = at + 2; bytes = more })) back;
+  not_memory = λ rest.
+      bind_not_memory (item 2 rest (λ text. conditions rest (from_be_bytes w16 text))) (λ it. Ok (from_be_bytes w16 it.0, it.1))
+      (item_not_memory 2 rest (λ text. conditions rest (from_be_bytes w16 text)) (λ text. are.not_memory rest (from_be_bytes w16 text))) (λ it. refl);
 }
 
 -- the number of an element
@@ -98,15 +95,15 @@ name_reader is_bad = record {
       let t = item_takes (1 + slice_index rest.bytes 0) rest (name_conditions is_bad rest) b.0.0 b.0.1 fits b.1 in
       let fit = or_parts (not (is_name (drop 1 b.0.0))) (is_bad (drop 1 b.0.0)) t.none_holds.0 in
       subst (λ (p : List ℕ × Rest). Takes rest (name_item p.0) p.1 × ((is_name p.0 ≡ true) × (is_bad p.0 ≡ false))) (ok_is (drop 1 b.0.0, b.0.1) (name, left) b.2)
-      (subst (λ (text : List ℕ). Takes rest text b.0.1) (name_text rest b.0.0 b.0.1 t.size_is t.taken.parts) t.taken, (not-false _ fit.0, fit.1));
+      (subst (λ (text : List ℕ). Takes rest text b.0.1) (name_text rest b.0.0 b.0.1 t.size_is t.takes.parts) t.takes, (not-false _ fit.0, fit.1));
   again = λ at more name fit.
       let rest : Rest = record { at = at; bytes = name_item name ++ more } in
       let size : length (name_item name) ≡ 1 + length name = omega arith in
       let none : NoneHolds (name_conditions is_bad rest (name_item name)) = (or_from _ _ (not_from_true _ fit.0) fit.1, tt) in
       let read = item_again (1 + length name) at (name_item name) more (name_conditions is_bad rest) size none in
       ap (λ (r : Reading (List ℕ)). r >>= λ it. Ok (drop 1 it.0, it.1)) read
-      ∙ ap (λ (n : ℕ). done (name, record { at = at + n; bytes = more })) (sym size);
-  free = λ rest.
-      bind_free (item (1 + slice_index rest.bytes 0) rest (name_conditions is_bad rest)) (λ it. Ok (drop 1 it.0, it.1))
-      (item_free (1 + slice_index rest.bytes 0) rest (name_conditions is_bad rest) (λ text. (refl, tt))) (λ it. refl);
+      ∙ ap (λ (n : ℕ). ok_of (name, record { at = at + n; bytes = more })) (sym size);
+  not_memory = λ rest.
+      bind_not_memory (item (1 + slice_index rest.bytes 0) rest (name_conditions is_bad rest)) (λ it. Ok (drop 1 it.0, it.1))
+      (item_not_memory (1 + slice_index rest.bytes 0) rest (name_conditions is_bad rest) (λ text. (refl, tt))) (λ it. refl);
 }

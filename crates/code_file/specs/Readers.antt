@@ -38,11 +38,11 @@ NoneHolds [] = Unit {0}
 NoneHolds (condition ∷ conditions) = (condition.0 ≡ false) × NoneHolds conditions
 
 -- no condition is refused for want of memory
-abbrev pub AreFree : List (Bool × CodeRefusal) → Type 0
-AreFree [] = Unit {0}
-AreFree (condition ∷ conditions) = (is_memory_refusal condition.1 ≡ false) × AreFree conditions
+abbrev pub AreNotMemory : List (Bool × CodeRefusal) → Type 0
+AreNotMemory [] = Unit {0}
+AreNotMemory (condition ∷ conditions) = (is_memory_refusal condition.1 ≡ false) × AreNotMemory conditions
 
--- text was taken from the front
+-- text was takes from the front
 pub record Takes (rest : Rest) (text : List ℕ) (left : Rest) : Type 0 where
   pub parts : rest.bytes ≡ text ++ left.bytes
   pub place : left.at ≡ rest.at + length text
@@ -52,7 +52,7 @@ pub record Takes (rest : Rest) (text : List ℕ) (left : Rest) : Type 0 where
 pub record IsReader {X : Type 0} (read : Rest → Reading X) (spell : X → List ℕ) (Fits : X → Type 0) : Type 0 where
   pub takes : (rest : Rest) (x : X) (left : Rest) → IsBytes rest.bytes → read rest ≡ Ok (x, left) → Takes rest (spell x) left × Fits x
   pub again : (at : ℕ) (more : List ℕ) (x : X) → Fits x → read (record { at = at; bytes = spell x ++ more }) ≡ Ok (x, record { at = at + length (spell x); bytes = more })
-  pub free : (rest : Rest) → is_memory (read rest) ≡ false
+  pub not_memory : (rest : Rest) → is_memory (read rest) ≡ false
 
 pub Takes-none : (rest : Rest) → IsBytes rest.bytes → Takes rest [] rest
 Takes-none rest fits = record { parts = refl; place = omega arith; left_fits = fits }
@@ -69,19 +69,20 @@ pub bind_ok : {A B : Type 0} (r : Result A CodeRefusal) (f : A → Result B Code
 bind_ok (Ok x) f y e = (x, refl, e)
 bind_ok (Err d) f y e = absurd cc
 
-pub bind_free : {A B : Type 0} (r : Result A CodeRefusal) (f : A → Result B CodeRefusal) → is_memory r ≡ false → ((x : A) → is_memory (f x) ≡ false) → is_memory (r >>= f) ≡ false
-bind_free (Ok x) f h k = k x
-bind_free (Err d) f h k = h
+pub bind_not_memory : {A B : Type 0} (r : Result A CodeRefusal) (f : A → Result B CodeRefusal) → is_memory r ≡ false → ((x : A) → is_memory (f x) ≡ false) → is_memory (r >>= f) ≡ false
+bind_not_memory (Ok x) f h k = k x
+bind_not_memory (Err d) f h k = h
 
 -- a test that did not fail
 pub else_ok : {A : Type 0} (b : Bool) (d : CodeRefusal) (r : Result A CodeRefusal) (y : A) → (if b then Err d else r) ≡ Ok y → (b ≡ false) × (r ≡ Ok y)
 else_ok true d r y e = absurd cc
 else_ok false d r y e = (refl, e)
 
-abbrev done : {A : Type 0} → A → Result A CodeRefusal
-done x = Ok x
+-- a result that is no refusal
+abbrev pub ok_of : {A : Type 0} → A → Result A CodeRefusal
+ok_of x = Ok x
 
-pub ok_is : {A : Type 0} (x y : A) → done x ≡ done y → x ≡ y
+pub ok_is : {A : Type 0} (x y : A) → ok_of x ≡ ok_of y → x ≡ y
 ok_is x y e = cc
 
 -- ---- conditions
@@ -97,9 +98,9 @@ pub refused_first_again : {A : Type 0} (conditions : List (Bool × CodeRefusal))
 refused_first_again [] x none = refl
 refused_first_again (condition ∷ conditions) x none = rw (none.0, refused_first_again conditions x none.1) refl
 
-pub refused_first_free : {A : Type 0} (conditions : List (Bool × CodeRefusal)) (x : A) → AreFree conditions → is_memory (refused_first conditions x) ≡ false
-refused_first_free [] x free = refl
-refused_first_free (condition ∷ conditions) x free = either condition.0 condition.1 (refused_first conditions x) free.0 (refused_first_free conditions x free.1)
+pub refused_first_not_memory : {A : Type 0} (conditions : List (Bool × CodeRefusal)) (x : A) → AreNotMemory conditions → is_memory (refused_first conditions x) ≡ false
+refused_first_not_memory [] x not_memory = refl
+refused_first_not_memory (condition ∷ conditions) x not_memory = either condition.0 condition.1 (refused_first conditions x) not_memory.0 (refused_first_not_memory conditions x not_memory.1)
   where
     either : {A : Type 0} (b : Bool) (d : CodeRefusal) (r : Result A CodeRefusal) → is_memory_refusal d ≡ false → is_memory r ≡ false → is_memory (if b then Err d else r) ≡ false
     either true d r h k = h
@@ -111,7 +112,7 @@ refused_first_free (condition ∷ conditions) x free = either condition.0 condit
 pub record TakesItem (size : ℕ) (rest : Rest) (conditions : List ℕ → List (Bool × CodeRefusal)) (text : List ℕ) (left : Rest) : Type 0 where
   pub size_is : length text ≡ size
   pub none_holds : NoneHolds (conditions text)
-  pub taken : Takes rest text left
+  pub takes : Takes rest text left
   pub text_fits : IsBytes text
 
 pub item_takes : (size : ℕ) (rest : Rest) (conditions : List ℕ → List (Bool × CodeRefusal)) (text : List ℕ) (left : Rest) → IsBytes rest.bytes
@@ -125,7 +126,7 @@ item_takes size rest conditions text left fits e =
     let here : TakesItem size rest conditions (take size rest.bytes) after = record {
       size_is = size_is;
       none_holds = t.0;
-      taken = record { parts = sym (take-append-drop size rest.bytes); place = omega (arith, size_is); left_fits = IsBytes-drop size rest.bytes fits };
+      takes = record { parts = sym (take-append-drop size rest.bytes); place = omega (arith, size_is); left_fits = IsBytes-drop size rest.bytes fits };
       text_fits = IsBytes-take size rest.bytes fits;
     } in
     subst (λ (p : List ℕ × Rest). TakesItem size rest conditions p.0 p.1) t.1 here
@@ -137,10 +138,10 @@ item_again size at text more conditions size_is none =
     let long : nat_lt (length (text ++ more)) size ≡ false = le-ltb _ _ (omega (arith, length-append text more)) in
     rw (long, take_at text more size size_is, drop_at text more size size_is) (refused_first_again (conditions text) (text, record { at = at + size; bytes = more }) none)
 
-pub item_free : (size : ℕ) (rest : Rest) (conditions : List ℕ → List (Bool × CodeRefusal)) → ((text : List ℕ) → AreFree (conditions text)) → is_memory (item size rest conditions) ≡ false
+pub item_not_memory : (size : ℕ) (rest : Rest) (conditions : List ℕ → List (Bool × CodeRefusal)) → ((text : List ℕ) → AreNotMemory (conditions text)) → is_memory (item size rest conditions) ≡ false
 unfolding item
-item_free size rest conditions free =
-    either (nat_lt (length rest.bytes) size) _ (refused_first_free (conditions (take size rest.bytes)) (take size rest.bytes, record { at = rest.at + size; bytes = drop size rest.bytes }) (free (take size rest.bytes)))
+item_not_memory size rest conditions not_memory =
+    either (nat_lt (length rest.bytes) size) _ (refused_first_not_memory (conditions (take size rest.bytes)) (take size rest.bytes, record { at = rest.at + size; bytes = drop size rest.bytes }) (not_memory (take size rest.bytes)))
   where
     either : {A : Type 0} (b : Bool) (r : Result A CodeRefusal) → is_memory r ≡ false → is_memory (if b then Err (Truncated rest.at) else r) ≡ false
     either true r h = refl
@@ -149,13 +150,13 @@ item_free size rest conditions free =
 -- ---- readers one after another
 
 -- nothing is read
-pub done_reader : {Z : Type 0} (z : Z) → IsReader (λ rest. Ok (z, rest)) (λ x. []) (λ x. x ≡ z)
-done_reader {Z} z = record {
+pub empty_reader : {Z : Type 0} (z : Z) → IsReader (λ rest. Ok (z, rest)) (λ x. []) (λ x. x ≡ z)
+empty_reader {Z} z = record {
   takes = λ rest x left fits e.
       let same = ok_is (z, rest) (x, left) e in
       subst (λ (p : Z × Rest). Takes rest [] p.1 × (p.0 ≡ z)) same (Takes-none rest fits, refl);
   again = λ at more x is. rw (is, add-zero) refl;
-  free = λ rest. refl;
+  not_memory = λ rest. refl;
 }
 
 -- one reader and then another, in view of what the first one read
@@ -178,21 +179,21 @@ then_reader {X} {Z} {read} {spell} {Fits} {read_more} {spell_more} {FitsMore} fi
       ap (λ (bytes : List ℕ). read (record { at = at; bytes = bytes }) >>= λ x. read_more x.0 x.1) regrouped
       ∙ ap (λ (r : Reading X). r >>= λ x. read_more x.0 x.1) begins
       ∙ ends
-      ∙ ap (λ (n : ℕ). done (z, record { at = n; bytes = more })) place;
-  free = λ rest. bind_free (read rest) (λ x. read_more x.0 x.1) (one.free rest) (λ x. (other x.0).free x.1);
+      ∙ ap (λ (n : ℕ). ok_of (z, record { at = n; bytes = more })) place;
+  not_memory = λ rest. bind_not_memory (read rest) (λ x. read_more x.0 x.1) (one.not_memory rest) (λ x. (other x.0).not_memory x.1);
 }
 
 -- the same reader, in other words
 pub same_reader : {X : Type 0} {read : Rest → Reading X} {spell spell' : X → List ℕ} {Fits Fits' : X → Type 0} → IsReader read spell Fits
     → ((x : X) → Fits x → spell x ≡ spell' x) → ((x : X) → Fits x → Fits' x) → ((x : X) → Fits' x → Fits x) → IsReader read spell' Fits'
-same_reader {X} {read} {spell} {spell'} {Fits} {Fits'} reader spelled to from = record {
+same_reader {X} {read} {spell} {spell'} {Fits} {Fits'} reader same_text to from = record {
   takes = λ rest x left fits e.
       let t = reader.takes rest x left fits e in
-      (subst (λ (text : List ℕ). Takes rest text left) (spelled x t.1) t.0, to x t.1);
+      (subst (λ (text : List ℕ). Takes rest text left) (same_text x t.1) t.0, to x t.1);
   again = λ at more x fits.
       subst (λ (text : List ℕ). read (record { at = at; bytes = text ++ more }) ≡ Ok (x, record { at = at + length text; bytes = more }))
-      (spelled x (from x fits)) (reader.again at more x (from x fits));
-  free = reader.free;
+      (same_text x (from x fits)) (reader.again at more x (from x fits));
+  not_memory = reader.not_memory;
 }
 
 -- ---- so many parts
@@ -208,7 +209,7 @@ pub record TakesSome {X : Type 0} (spell : X → List ℕ) (Fits : List X → X 
   pub whole : all ≡ earlier ++ further
   pub count_is : length further ≡ count
   pub fit : AllAfter Fits earlier further
-  pub taken : Takes rest (flat_map spell further) left
+  pub takes : Takes rest (flat_map spell further) left
 
 module _ {X : Type 0} (part : List X → Rest → Reading X) (spell : X → List ℕ) (Fits : List X → X → Type 0) (each : (earlier : List X) → IsReader (part earlier) spell (Fits earlier)) where
   pub repeated_takes : (count : ℕ) (earlier : List X) (rest : Rest) (all : List X) (left : Rest) → IsBytes rest.bytes
@@ -221,7 +222,7 @@ module _ {X : Type 0} (part : List X → Rest → Reading X) (spell : X → List
         whole = sym (append-nil earlier);
         count_is = refl;
         fit = tt;
-        taken = Takes-none rest fits;
+        takes = Takes-none rest fits;
       } in
       subst (λ (p : List X × Rest). TakesSome spell Fits 0 earlier rest p.0 p.1) same here
   repeated_takes (suc count) earlier rest all left fits e =
@@ -233,7 +234,7 @@ module _ {X : Type 0} (part : List X → Rest → Reading X) (spell : X → List
         whole = u.whole ∙ append_assoc earlier (b.0.0 ∷ []) u.further;
         count_is = ap suc u.count_is;
         fit = (t.1, u.fit);
-        taken = Takes-then rest (spell b.0.0) b.0.1 (flat_map spell u.further) left t.0 u.taken;
+        takes = Takes-then rest (spell b.0.0) b.0.1 (flat_map spell u.further) left t.0 u.takes;
       }
 
   pub repeated_again : (further earlier : List X) (at : ℕ) (more : List ℕ) → AllAfter Fits earlier further
@@ -249,14 +250,14 @@ module _ {X : Type 0} (part : List X → Rest → Reading X) (spell : X → List
       ap (λ (bytes : List ℕ). part earlier (record { at = at; bytes = bytes }) >>= λ one. repeated_at part (length further) (earlier ++ one.0 ∷ []) one.1) regrouped
       ∙ ap (λ (r : Reading X). r >>= λ one. repeated_at part (length further) (earlier ++ one.0 ∷ []) one.1) begins
       ∙ ends
-      ∙ ap (λ (n : ℕ). done ((earlier ++ x ∷ []) ++ further, record { at = n; bytes = more })) place
-      ∙ ap (λ (all : List X). done (all, record { at = at + length (spell x ++ others); bytes = more })) (append_assoc earlier (x ∷ []) further)
+      ∙ ap (λ (n : ℕ). ok_of ((earlier ++ x ∷ []) ++ further, record { at = n; bytes = more })) place
+      ∙ ap (λ (all : List X). ok_of (all, record { at = at + length (spell x ++ others); bytes = more })) (append_assoc earlier (x ∷ []) further)
 
-  pub repeated_free : (count : ℕ) (earlier : List X) (rest : Rest) → is_memory (repeated_at part count earlier rest) ≡ false
+  pub repeated_not_memory : (count : ℕ) (earlier : List X) (rest : Rest) → is_memory (repeated_at part count earlier rest) ≡ false
   unfolding repeated_at
-  repeated_free zero earlier rest = refl
-  repeated_free (suc count) earlier rest =
-      bind_free (part earlier rest) (λ one. repeated_at part count (earlier ++ one.0 ∷ []) one.1) ((each earlier).free rest) (λ one. repeated_free count (earlier ++ one.0 ∷ []) one.1)
+  repeated_not_memory zero earlier rest = refl
+  repeated_not_memory (suc count) earlier rest =
+      bind_not_memory (part earlier rest) (λ one. repeated_at part count (earlier ++ one.0 ∷ []) one.1) ((each earlier).not_memory rest) (λ one. repeated_not_memory count (earlier ++ one.0 ∷ []) one.1)
 
   -- so many items behind the earlier ones
   pub repeated_reader : (count : ℕ) (earlier : List X) → IsReader (repeated_at part count earlier) (λ all. flat_map spell (drop (length earlier) all))
@@ -265,13 +266,13 @@ module _ {X : Type 0} (part : List X → Rest → Reading X) (spell : X → List
     takes = λ rest all left fits e.
         let t = repeated_takes count earlier rest all left fits e in
         let behind : t.further ≡ drop (length earlier) all = sym (drop_at earlier t.further (length earlier) refl) ∙ ap (λ (xs : List X). drop (length earlier) xs) (sym t.whole) in
-        subst (λ (xs : List X). Takes rest (flat_map spell xs) left × ((length xs ≡ count) × ((all ≡ earlier ++ xs) × AllAfter Fits earlier xs))) behind (t.taken, (t.count_is, (t.whole, t.fit)));
+        subst (λ (xs : List X). Takes rest (flat_map spell xs) left × ((length xs ≡ count) × ((all ≡ earlier ++ xs) × AllAfter Fits earlier xs))) behind (t.takes, (t.count_is, (t.whole, t.fit)));
     again = λ at more all fit.
         let further = drop (length earlier) all in
         let read = repeated_again further earlier at more fit.1.1 in
         let bytes : Rest = record { at = at; bytes = flat_map spell further ++ more } in
-        ap (λ (n : ℕ). repeated_at part n earlier bytes) (sym fit.0) ∙ read ∙ ap (λ (xs : List X). done (xs, record { at = at + length (flat_map spell further); bytes = more })) (sym fit.1.0);
-    free = λ rest. repeated_free count earlier rest;
+        ap (λ (n : ℕ). repeated_at part n earlier bytes) (sym fit.0) ∙ read ∙ ap (λ (xs : List X). ok_of (xs, record { at = at + length (flat_map spell further); bytes = more })) (sym fit.1.0);
+    not_memory = λ rest. repeated_not_memory count earlier rest;
   }
 
 -- ---- a part for each
@@ -312,15 +313,15 @@ module _ {X Y : Type 0} (part : X → Rest → Reading Y) (spell : Y → List �
       ap (λ (bytes : List ℕ). part x (record { at = at; bytes = bytes }) >>= λ one. each_at part xs one.1 >>= λ others. Ok (one.0 ∷ others.0, others.1)) regrouped
       ∙ ap (λ (r : Reading Y). r >>= λ one. each_at part xs one.1 >>= λ others. Ok (one.0 ∷ others.0, others.1)) begins
       ∙ ap (λ (r : Reading (List Y)). r >>= λ others. Ok (y ∷ others.0, others.1)) ends
-      ∙ ap (λ (n : ℕ). done (y ∷ ys, record { at = n; bytes = more })) place
+      ∙ ap (λ (n : ℕ). ok_of (y ∷ ys, record { at = n; bytes = more })) place
 
-  each_free : (xs : List X) (rest : Rest) → is_memory (each_at part xs rest) ≡ false
+  each_not_memory : (xs : List X) (rest : Rest) → is_memory (each_at part xs rest) ≡ false
   unfolding each_at
-  each_free [] rest = refl
-  each_free (x ∷ xs) rest =
-      bind_free (part x rest) (λ one. each_at part xs one.1 >>= λ others. Ok (one.0 ∷ others.0, others.1)) ((each x).free rest)
-      (λ one. bind_free (each_at part xs one.1) (λ others. Ok (one.0 ∷ others.0, others.1)) (each_free xs one.1) (λ others. refl))
+  each_not_memory [] rest = refl
+  each_not_memory (x ∷ xs) rest =
+      bind_not_memory (part x rest) (λ one. each_at part xs one.1 >>= λ others. Ok (one.0 ∷ others.0, others.1)) ((each x).not_memory rest)
+      (λ one. bind_not_memory (each_at part xs one.1) (λ others. Ok (one.0 ∷ others.0, others.1)) (each_not_memory xs one.1) (λ others. refl))
 
   -- a part for each of these
   pub each_reader : (xs : List X) → IsReader (each_at part xs) (flat_map spell) (EachFits Fits xs)
-  each_reader xs = record { takes = each_takes xs; again = each_again xs; free = each_free xs }
+  each_reader xs = record { takes = each_takes xs; again = each_again xs; not_memory = each_not_memory xs }

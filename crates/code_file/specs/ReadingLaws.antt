@@ -13,14 +13,11 @@ use Rattle.code_file.specs.Items.{bytes_of}
 use Rattle.code_file.specs.Reading.{Rest, Reading, ◌>>=◌, Front, Contents, each_at, front_at, operands_at_link, decoder_at, demand_sinks, contents_of, refusal_in, refusal_of}
 use Rattle.code_file.specs.Spelling.{contents_in, spelling_of, AreContents}
 use Rattle.code_file.specs.SpellingLaws.{spelling_of-contents_in}
-use Rattle.code_file.specs.Readers.{IsBytes, is_memory, bind_ok, bind_free, ok_is}
+use Rattle.code_file.specs.Readers.{ok_of, IsBytes, is_memory, bind_ok, bind_not_memory, ok_is}
 use Rattle.code_file.specs.CodeReaders.{AreContentsRead, body_at, body_reader}
-use Rattle.code_file.specs.ContentsLaws.{AreContents-from_read, contents_read}
+use Rattle.code_file.specs.ContentsLaws.{AreContents-from_read, AreContentsRead-from_code}
 use Rattle.code_file.specs.declared.refusal.CodeRefusal.{CodeRefusal}
 use Rattle.code_file.specs.declared.refusal.CodeRefusal.TheVariants.{TrailingBytes, OutOfMemory}
-
-abbrev done : {A : Type 0} → A → Result A CodeRefusal
-done x = Ok x
 
 -- the first byte of a file and all behind it
 abbrev start_of : List ℕ → Rest
@@ -60,26 +57,26 @@ contents_of-body : (bytes : List ℕ) → (body_at (start_of bytes) >>= λ body.
 unfolding body_at contents_of
 contents_of-body bytes = front_end (front_at (codes "LIFC") 1 (start_of bytes))
 
-ended_ok : (contents contents' : Contents) (left : Rest) → end_of contents left ≡ Ok contents' → (left.bytes ≡ []) × (contents ≡ contents')
-ended_ok contents contents' left e = either (length left.bytes == 0) refl e
+end_ok : (contents contents' : Contents) (left : Rest) → end_of contents left ≡ Ok contents' → (left.bytes ≡ []) × (contents ≡ contents')
+end_ok contents contents' left e = either (length left.bytes == 0) refl e
   where
-    either : (b : Bool) → (length left.bytes == 0) ≡ b → (if b then done contents else Err (TrailingBytes left.at)) ≡ Ok contents' → (left.bytes ≡ []) × (contents ≡ contents')
+    either : (b : Bool) → (length left.bytes == 0) ≡ b → (if b then ok_of contents else Err (TrailingBytes left.at)) ≡ Ok contents' → (left.bytes ≡ []) × (contents ≡ contents')
     either true is e = (nil_from_length left.bytes (eqb-true _ _ is), ok_is contents contents' e)
     either false is e = absurd cc
 
 -- what a file says is spelled by the file, and its items say it one by one
-contents_of-read : (bytes : List ℕ) (contents : Contents) → IsBytes bytes → contents_of bytes ≡ Ok contents → (bytes ≡ spelling_of contents) × AreContentsRead contents
-contents_of-read bytes contents fits e =
+AreContentsRead-from_contents_of : (bytes : List ℕ) (contents : Contents) → IsBytes bytes → contents_of bytes ≡ Ok contents → (bytes ≡ spelling_of contents) × AreContentsRead contents
+AreContentsRead-from_contents_of bytes contents fits e =
     let b = bind_ok (body_at (start_of bytes)) (λ body. end_of body.0 body.1) contents (contents_of-body bytes ∙ e) in
-    let ended = ended_ok b.0.0 contents b.0.1 b.2 in
+    let ended = end_ok b.0.0 contents b.0.1 b.2 in
     let t = body_reader.takes (start_of bytes) b.0.0 b.0.1 fits b.1 in
     let spelled : bytes ≡ spelling_of b.0.0 = t.0.parts ∙ ap (λ (left : List ℕ). spelling_of b.0.0 ++ left) ended.0 ∙ append-nil (spelling_of b.0.0) in
     subst (λ (c : Contents). (bytes ≡ spelling_of c) × AreContentsRead c) ended.1 (spelled, t.1)
 
 -- What a file says is spelled by the file, each byte of it, and it's what a code has.
-pub contents_of-spelled : (bytes : List ℕ) (contents : Contents) → IsBytes bytes → contents_of bytes ≡ Ok contents → (bytes ≡ spelling_of contents) × AreContents contents
-contents_of-spelled bytes contents fits e =
-    let t = contents_of-read bytes contents fits e in
+pub AreContents-from_contents_of : (bytes : List ℕ) (contents : Contents) → IsBytes bytes → contents_of bytes ≡ Ok contents → (bytes ≡ spelling_of contents) × AreContents contents
+AreContents-from_contents_of bytes contents fits e =
+    let t = AreContentsRead-from_contents_of bytes contents fits e in
     (t.0, AreContents-from_read contents t.1)
 
 -- a file of a code and what stands behind it
@@ -90,8 +87,8 @@ contents_of-bytes_of-append code more =
     let at : 0 + length (spelling_of contents) ≡ length (bytes_of code) = omega (arith, ap (λ (t : List ℕ). length t) (spelling_of-contents_in code)) in
     sym (contents_of-body (bytes_of code ++ more))
     ∙ ap (λ (t : List ℕ). body_at (start_of (t ++ more)) >>= λ body. end_of body.0 body.1) (sym (spelling_of-contents_in code))
-    ∙ ap (λ (r : Reading Contents). r >>= λ body. end_of body.0 body.1) (body_reader.again 0 more contents (contents_read code))
-    ∙ ap (λ (n : ℕ). if length more == 0 then done contents else Err (TrailingBytes n)) at
+    ∙ ap (λ (r : Reading Contents). r >>= λ body. end_of body.0 body.1) (body_reader.again 0 more contents (AreContentsRead-from_code code))
+    ∙ ap (λ (n : ℕ). if length more == 0 then ok_of contents else Err (TrailingBytes n)) at
 
 -- The file of a code says what the code has.
 pub contents_of-bytes_of : (code : Code) → contents_of (bytes_of code) ≡ Ok (contents_in code)
@@ -102,7 +99,7 @@ pub bytes_of-prefix : (one other : Code) (more : List ℕ) → bytes_of one ++ m
 bytes_of-prefix one other more same =
     either (length more == 0) refl (sym (contents_of-bytes_of-append one more) ∙ ap contents_of same ∙ contents_of-bytes_of other)
   where
-    either : (b : Bool) → (length more == 0) ≡ b → (if b then done (contents_in one) else Err (TrailingBytes (length (bytes_of one)))) ≡ Ok (contents_in other) → more ≡ []
+    either : (b : Bool) → (length more == 0) ≡ b → (if b then ok_of (contents_in one) else Err (TrailingBytes (length (bytes_of one)))) ≡ Ok (contents_in other) → more ≡ []
     either true is e = nil_from_length more (eqb-true _ _ is)
     either false is e = absurd cc
 
@@ -143,7 +140,7 @@ bytes_of-code_of contents are = sym (spelling_of-contents_in (code_of contents a
 -- contents of a code are read from their spelling
 pub contents_of-spelling_of : (contents : Contents) → AreContents contents → contents_of (spelling_of contents) ≡ Ok contents
 contents_of-spelling_of contents are =
-    ap contents_of (sym (bytes_of-code_of contents are)) ∙ contents_of-bytes_of (code_of contents are) ∙ ap (λ (c : Contents). done c) (contents_in-code_of contents are)
+    ap contents_of (sym (bytes_of-code_of contents are)) ∙ contents_of-bytes_of (code_of contents are) ∙ ap (λ (c : Contents). ok_of c) (contents_in-code_of contents are)
 
 -- the file of a code isn't refused
 pub refusal_of-bytes_of : (code : Code) → refusal_of (bytes_of code) ≡ None
@@ -151,17 +148,17 @@ unfolding refusal_of
 refusal_of-bytes_of code = ap (λ (r : Result Contents CodeRefusal). refusal_in r) (contents_of-bytes_of code)
 
 -- reading wants no memory
-contents_of-free : (bytes : List ℕ) → is_memory (contents_of bytes) ≡ false
-contents_of-free bytes =
+contents_of-not_memory : (bytes : List ℕ) → is_memory (contents_of bytes) ≡ false
+contents_of-not_memory bytes =
     subst (λ (r : Result Contents CodeRefusal). is_memory r ≡ false) (contents_of-body bytes)
-    (bind_free (body_at (start_of bytes)) (λ body. end_of body.0 body.1) (body_reader.free (start_of bytes)) (λ body. either (length body.1.bytes == 0) body.0 body.1.at))
+    (bind_not_memory (body_at (start_of bytes)) (λ body. end_of body.0 body.1) (body_reader.not_memory (start_of bytes)) (λ body. either (length body.1.bytes == 0) body.0 body.1.at))
   where
-    either : (b : Bool) (contents : Contents) (at : ℕ) → is_memory (if b then done contents else Err (TrailingBytes at)) ≡ false
+    either : (b : Bool) (contents : Contents) (at : ℕ) → is_memory (if b then ok_of contents else Err (TrailingBytes at)) ≡ false
     either true contents at = refl
     either false contents at = refl
 
 pub contents_of-out_of_memory : (bytes : List ℕ) → contents_of bytes ≢ Err OutOfMemory
-contents_of-out_of_memory bytes e = true≢false (sym (ap (λ (r : Result Contents CodeRefusal). is_memory r) e) ∙ contents_of-free bytes)
+contents_of-out_of_memory bytes e = true≢false (sym (ap (λ (r : Result Contents CodeRefusal). is_memory r) e) ∙ contents_of-not_memory bytes)
 
 -- A file that's no code's is refused, and not for want of memory.
 pub record IsRefused (bytes : List ℕ) : Type 0 where
@@ -175,7 +172,7 @@ refusal_of-some bytes fits no_code = either (contents_of bytes) refl
   where
     either : (r : Result Contents CodeRefusal) → contents_of bytes ≡ r → IsRefused bytes
     either (Ok contents) is =
-        let t = contents_of-spelled bytes contents fits is in
+        let t = AreContents-from_contents_of bytes contents fits is in
         absurd (no_code (code_of contents t.1) (bytes_of-code_of contents t.1 ∙ sym t.0))
     either (Err refusal) is = record {
       refusal = refusal;
