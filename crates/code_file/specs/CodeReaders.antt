@@ -33,6 +33,7 @@ reader_of_same {X} {read} {read'} {spell} {Fits} same reader = record {
 
 -- ---- the mark and the version
 
+-- the version
 version_conditions : (version : ℕ) → AreConditions (λ rest n. (not (n == version), BadVersion) ∷ []) (λ n. n ≡ version)
 version_conditions version = record {
   to = λ rest n none. eqb-true n version (not-false _ none.0);
@@ -40,12 +41,15 @@ version_conditions version = record {
   not_memory = λ rest n. (refl, tt);
 }
 
+-- when the mark is refused
 abbrev mark_conditions : List ℕ → List ℕ → List (Bool × CodeRefusal)
 mark_conditions mark bytes = (not (bytes_eq bytes mark), BadMagic) ∷ []
 
+-- the mark and the version as a text
 abbrev mark_text : List ℕ → ℕ → List ℕ
 mark_text mark version = mark ++ (byte_item version ++ [])
 
+-- the mark and the version, if read, were taken from the front
 mark_takes : (mark : List ℕ) (version : ℕ) (rest left : Rest) → IsBytes rest.bytes → mark_at mark version rest ≡ Ok left → Takes rest (mark_text mark version) left
 unfolding mark_at
 mark_takes mark version rest left fits e =
@@ -59,6 +63,7 @@ mark_takes mark version rest left fits e =
     subst (λ (end : Rest). Takes rest (mark_text mark version) end) ends
     (subst (λ (m : List ℕ). Takes rest (m ++ byte_item version) b.0.1) mark_is (subst (λ (n : ℕ). Takes rest (a.0.0 ++ byte_item n) b.0.1) u.1.1 both))
 
+-- the mark and the version that stand at the front are read
 mark_again : (mark : List ℕ) (version at : ℕ) (more : List ℕ) → length mark ≡ 4 → version < 256
     → mark_at mark version (record { at = at; bytes = mark_text mark version ++ more }) ≡ Ok (record { at = at + length (mark_text mark version); bytes = more })
 unfolding mark_at
@@ -72,6 +77,7 @@ mark_again mark version at more four small =
     ∙ ap (λ (r : Reading ℕ). r >>= λ number. Ok number.1) ends
     ∙ ap (λ (n : ℕ). ok_of (record { at = n; bytes = more })) place
 
+-- the refusal of the mark and of the version
 mark_not_memory : (mark : List ℕ) (version : ℕ) (rest : Rest) → is_memory (mark_at mark version rest) ≡ false
 unfolding mark_at
 mark_not_memory mark version rest =
@@ -83,6 +89,7 @@ mark_not_memory mark version rest =
 abbrev silent_mark_at : List ℕ → ℕ → Rest → Reading (Unit {0})
 silent_mark_at mark version rest = mark_at mark version rest >>= λ left. Ok (tt, left)
 
+-- the mark and the version
 silent_mark_reader : (mark : List ℕ) (version : ℕ) → length mark ≡ 4 → version < 256 → IsReader (silent_mark_at mark version) (λ nothing. mark_text mark version) (λ nothing. Unit {0})
 silent_mark_reader mark version four small = record {
   takes = λ rest nothing left fits e.
@@ -110,13 +117,16 @@ pub record IsFrontRead (front : Front) : Type 0 where
   pub sinks : AllAfter (SinkAfter (length front.nodes) front.source) [] front.sinks
   pub patterns : ArePatternsRead (length front.links) (length front.sinks) front.patterns
 
+-- the items of each of these are spelled one after another
 concat-flat_map : {X : Type 0} (items : X → List Item) (xs : List X) → concat (flat_map items xs) ≡ flat_map (λ x. concat (items x)) xs
 concat-flat_map items [] = refl
 concat-flat_map items (x ∷ xs) = concat-append (items x) (flat_map items xs) ∙ ap (λ (t : List ℕ). concat (items x) ++ t) (concat-flat_map items xs)
 
+-- an item for each of these, and further items
 concat-map-append : {X : Type 0} (spell : X → List ℕ) (xs : List X) (items : List Item) → concat (map spell xs ++ items) ≡ flat_map spell xs ++ concat items
 concat-map-append spell xs items = concat-append (map spell xs) items ∙ ap (λ (t : List ℕ). t ++ concat items) (concat-map spell xs)
 
+-- the items of each of these, and further items
 concat-flat_map-append : {X : Type 0} (some : X → List Item) (xs : List X) (items : List Item) → concat (flat_map some xs ++ items) ≡ flat_map (λ x. concat (some x)) xs ++ concat items
 concat-flat_map-append some xs items = concat-append (flat_map some xs) items ∙ ap (λ (t : List ℕ). t ++ concat items) (concat-flat_map some xs)
 
@@ -147,9 +157,11 @@ front_text mark version front =
         (concat-map-append number_item front.sinks last
           ∙ ap (λ (t : List ℕ). flat_map number_item front.sinks ++ (number_item (length listed) ++ t)) (concat-flat_map pattern_items listed)))))
 
+-- what is left, where nothing is said
 abbrev nothing_of : Rest → Reading (Unit {0})
 nothing_of left = Ok (tt, left)
 
+-- the rest is read behind the mark and the version
 silent_mark_first : (mark : List ℕ) (version : ℕ) (rest : Rest) (read : Rest → Reading Front) → (silent_mark_at mark version rest >>= λ x. read x.1) ≡ (mark_at mark version rest >>= read)
 silent_mark_first mark version rest read = either (mark_at mark version rest)
   where
@@ -157,6 +169,7 @@ silent_mark_first mark version rest read = either (mark_at mark version rest)
     either (Ok x) = refl
     either (Err d) = refl
 
+-- all up to the operands
 pub front_reader : (mark : List ℕ) (version : ℕ) → length mark ≡ 4 → version < 256 → IsReader (front_at mark version) (λ front. concat (front_items_in mark version front)) IsFrontRead
 unfolding front_at
 front_reader mark version four small =
@@ -211,6 +224,7 @@ pub record OperandAfter (front : Front) (link : Link) (earlier : List Operand) (
   pub coefficient : operand.times < size_of front.field
   pub nonzero : 0 < operand.times
 
+-- what a link may read, above the one before
 from_conditions : (front : Front) (link : Link) (earlier : List Operand)
     → AreConditions (λ rest n. (not (is_above_last (map (λ operand. operand.from) earlier) n), NotRising rest.at) ∷ (not (may_read front link n), BadOperand rest.at) ∷ [])
     (λ n. (is_above_last (map (λ operand. operand.from) earlier) n ≡ true) × (may_read front link n ≡ true))
@@ -220,6 +234,7 @@ from_conditions front link earlier = record {
   not_memory = λ rest n. (refl, (refl, tt));
 }
 
+-- a coefficient
 times_conditions : AreConditions (λ rest n. (n == 0, ZeroCoefficient rest.at) ∷ []) (λ n. 0 < n)
 times_conditions = record {
   to = λ rest n none.
@@ -229,6 +244,7 @@ times_conditions = record {
   not_memory = λ rest n. (refl, tt);
 }
 
+-- one operand
 operand_reader : (front : Front) (link : Link) (earlier : List Operand) → IsReader (operand_at front link earlier) (λ operand. concat (operand_items front.field operand)) (OperandAfter front link earlier)
 unfolding operand_at
 operand_reader front link earlier =
@@ -247,6 +263,7 @@ pub record AreOperandsRead (front : Front) (link : Link) (operands : List Operan
   pub few_operands : length operands ≤ 8192
   pub each : AllAfter (OperandAfter front link) [] operands
 
+-- the operands of a link behind their number
 pub operands_reader : (front : Front) (link : Link) → IsReader (operands_at_link front link) (λ operands. concat (operand_list_items front.field operands)) (AreOperandsRead front link)
 unfolding operands_at_link
 operands_reader front link =
@@ -264,6 +281,7 @@ pub record DecoderLinkAfter (front : Front) (sink : ℕ) (earlier : List ℕ) (l
   pub rises : is_above_last earlier link ≡ true
   pub into : leads_into front.links sink link ≡ true
 
+-- a link into the sink, above the one before
 decoder_link_conditions : (front : Front) (sink : ℕ) (earlier : List ℕ)
     → AreConditions (λ rest n. (not (is_above_last earlier n), NotRising rest.at) ∷ (not (leads_into front.links sink n), BadOperand rest.at) ∷ [])
     (λ n. (is_above_last earlier n ≡ true) × (leads_into front.links sink n ≡ true))
@@ -273,6 +291,7 @@ decoder_link_conditions front sink earlier = record {
   not_memory = λ rest n. (refl, (refl, tt));
 }
 
+-- one link of a decoder
 decoder_link_reader : (front : Front) (sink : ℕ) (earlier : List ℕ)
     → IsReader (λ at. number_at at (λ n. (not (is_above_last earlier n), NotRising at.at) ∷ (not (leads_into front.links sink n), BadOperand at.at) ∷ [])) number_item (DecoderLinkAfter front sink earlier)
 decoder_link_reader front sink earlier =
@@ -280,6 +299,7 @@ decoder_link_reader front sink earlier =
     (λ n fit. record { fits = fit.0; rises = fit.1.0; into = fit.1.1 })
     (λ n fit. (fit.fits, (fit.rises, fit.into)))
 
+-- every number
 no_conditions : AreConditions (λ rest n. []) (λ (n : ℕ). Unit {0})
 no_conditions = record {
   to = λ rest n none. tt;
@@ -287,6 +307,7 @@ no_conditions = record {
   not_memory = λ rest n. tt;
 }
 
+-- one entry of a matrix
 entry_reader : (field : FieldKind) (earlier : List ℕ) → IsReader (λ at. element_at field at (λ n. [])) (element_item field) (λ n. n < size_of field)
 entry_reader field earlier = same_reader (element_reader field no_conditions) (λ n fit. refl) (λ n fit. fit.0) (λ n fit. (fit, tt))
 
@@ -297,6 +318,7 @@ pub record IsDecoderRead (front : Front) (sink : ℕ) (decoder : Decoder) : Type
   pub entry_count : length decoder.entries ≡ front.rate * front.rate
   pub entries : AllAfter (λ earlier n. n < size_of front.field) [] decoder.entries
 
+-- the decoder of a demand
 pub decoder_reader : (front : Front) (sink : ℕ) → IsReader (decoder_at front sink) (λ decoder. concat (decoder_items front.field decoder)) (IsDecoderRead front sink)
 unfolding decoder_at
 decoder_reader front sink =
@@ -350,6 +372,7 @@ body_text contents =
       ∙ sym (concat-flat_map-append (operand_list_items field) contents.operands (decoder_table_items field contents.decoders)))
     ∙ sym (concat-append front tables)
 
+-- all but the end of the file
 pub body_reader : IsReader body_at spelling_of AreContentsRead
 unfolding body_at
 body_reader =

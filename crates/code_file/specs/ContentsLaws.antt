@@ -38,6 +38,7 @@ list_all-implied strong weak (x ∷ xs) implies all =
 
 -- ---- links
 
+-- the names of the links
 link_names-from_read : (nodes : ℕ) (links : List Link) → AllAfter (LinkAfter nodes) [] links → are_names (map (λ link. link.name) links) ≡ true
 link_names-from_read nodes links all =
     are_names-from_AllAfter (map (λ (link : Link). link.name) links)
@@ -45,6 +46,7 @@ link_names-from_read nodes links all =
       (AllAfter-weaker (LinkAfter nodes) (λ before link. NameAfter (map (λ (one : Link). one.name) before) link.name) [] links
         (λ before link is. (is.name, list_any-map (λ (one : Link). one.name) (bytes_eq link.name) before ∙ is.is_new)) all))
 
+-- the tails and heads of the links
 link_ends-from_read : (nodes : ℕ) (links : List Link) → AllAfter (LinkAfter nodes) [] links → list_all (is_link_among nodes) links ≡ true
 link_ends-from_read nodes links all =
     list_all-from_AllAfter (is_link_among nodes) [] links
@@ -53,9 +55,11 @@ link_ends-from_read nodes links all =
         let apart = or_parts (link.head == link.tail) (is_among (map (λ one. one.tail) before) link.head) is.leads_on in
         and_from _ _ (and_from _ _ (lt-ltb _ _ is.tail) (lt-ltb _ _ is.head)) (not_from_false _ (nat_eq-swap link.tail link.head ∙ apart.0))) all)
 
-link_order-from_read : (nodes : ℕ) (links : List Link) → AllAfter (LinkAfter nodes) [] links → are_in_order [] links ≡ true
+-- the order of the links
+pub link_order-from_read : (nodes : ℕ) (links : List Link) → AllAfter (LinkAfter nodes) [] links → are_in_order [] links ≡ true
 link_order-from_read nodes links all = are_in_order-from_AllAfter links (AllAfter-weaker (LinkAfter nodes) LeadsOn [] links (λ before link is. is.leads_on) all)
 
+-- links of a network in order are read
 LinkAfter-from_network : (nodes : ℕ) (links : List Link) → nodes ≤ 4096 → are_names (map (λ link. link.name) links) ≡ true → list_all (is_link_among nodes) links ≡ true → are_in_order [] links ≡ true
     → AllAfter (LinkAfter nodes) [] links
 LinkAfter-from_network nodes links few names ends order =
@@ -82,6 +86,7 @@ LinkAfter-from_network nodes links few names ends order =
 
 -- ---- sinks
 
+-- the sinks are nodes
 sink_nodes-from_read : (nodes source : ℕ) (sinks : List ℕ) → AllAfter (SinkAfter nodes source) [] sinks → list_all (is_sink_among nodes source) sinks ≡ true
 sink_nodes-from_read nodes source sinks all =
     list_all-from_AllAfter (is_sink_among nodes source) [] sinks
@@ -93,11 +98,13 @@ is_among-same : (numbers : List ℕ) (n : ℕ) → list_any (nat_eq n) numbers �
 is_among-same [] n = refl
 is_among-same (one ∷ numbers) n = ap (λ (b : Bool). b || list_any (nat_eq n) numbers) (nat_eq-swap n one) ∙ ap (λ (b : Bool). (one == n) || b) (is_among-same numbers n)
 
+-- the sinks are distinct
 distinct_sinks-from_read : (nodes source : ℕ) (sinks : List ℕ) → AllAfter (SinkAfter nodes source) [] sinks → are_distinct nat_eq sinks ≡ true
 distinct_sinks-from_read nodes source sinks all =
     are_distinct-from_AllAfter nat_eq nat_eq-swap sinks
     (AllAfter-weaker (SinkAfter nodes source) (λ before sink. list_any (nat_eq sink) before ≡ false) [] sinks (λ before sink is. is_among-same before sink ∙ is.is_new) all)
 
+-- sinks of a network are read
 SinkAfter-from_network : (nodes source : ℕ) (sinks : List ℕ) → nodes ≤ 4096 → list_all (is_sink_among nodes source) sinks ≡ true → are_distinct nat_eq sinks ≡ true → AllAfter (SinkAfter nodes source) [] sinks
 SinkAfter-from_network nodes source sinks few among distinct =
     let Among : List ℕ → ℕ → Type 0 = λ before sink. is_sink_among nodes source sink ≡ true in
@@ -111,11 +118,13 @@ SinkAfter-from_network nodes source sinks few among distinct =
 
 -- ---- patterns
 
+-- the links of a pattern
 pattern_links-from_read : (links : ℕ) (numbers : List ℕ) → AllAfter (LinkNumberAfter links) [] numbers → (is_rising numbers ≡ true) × (list_all (λ link. nat_lt link links) numbers ≡ true)
 pattern_links-from_read links numbers all =
     (is_rising-from_AllAfter numbers (AllAfter-weaker (LinkNumberAfter links) Rises [] numbers (λ before n is. is.rises) all),
       list_all-from_AllAfter (λ link. nat_lt link links) [] numbers (AllAfter-weaker (LinkNumberAfter links) (λ before n. nat_lt n links ≡ true) [] numbers (λ before n is. lt-ltb _ _ is.below) all))
 
+-- the links of a pattern of a network are read
 LinkNumberAfter-from_network : (links : ℕ) (numbers : List ℕ) → links ≤ 8192 → is_rising numbers ≡ true → list_all (λ link. nat_lt link links) numbers ≡ true → AllAfter (LinkNumberAfter links) [] numbers
 LinkNumberAfter-from_network links numbers few rising below =
     AllAfter-weaker (λ before n. Rises before n × (nat_lt n links ≡ true)) (LinkNumberAfter links) [] numbers
@@ -124,6 +133,7 @@ LinkNumberAfter-from_network links numbers few rising below =
       record { fits = omega arith; below = within; rises = is.0 })
     (AllAfter-both Rises (λ before n. nat_lt n links ≡ true) [] numbers (AllAfter-from_is_rising numbers rising) (AllAfter-from_list_all (λ link. nat_lt link links) [] numbers below))
 
+-- the names of the patterns
 pattern_names-from_read : (links : ℕ) (listed : List Pattern) → AllAfter (PatternAfter links) (none_pattern ∷ []) listed → are_names (map (λ pattern. pattern.name) (none_pattern ∷ listed)) ≡ true
 pattern_names-from_read links listed all =
     let named = AllAfter-map (λ (pattern : Pattern). pattern.name) NameAfter (none_pattern ∷ []) listed
@@ -131,6 +141,7 @@ pattern_names-from_read links listed all =
         (λ before pattern is. (is.name, list_any-map (λ (one : Pattern). one.name) (bytes_eq pattern.name) before ∙ is.is_new)) all) in
     are_names-from_AllAfter (codes "none" ∷ map (λ (pattern : Pattern). pattern.name) listed) ((refl, refl), named)
 
+-- the patterns
 are_patterns-from_read : (links : ℕ) (listed : List Pattern) → AllAfter (PatternAfter links) (none_pattern ∷ []) listed → are_patterns links (none_pattern ∷ listed) ≡ true
 are_patterns-from_read links listed all =
     list_all-from_AllAfter (is_listed_pattern links) (none_pattern ∷ []) listed
@@ -149,6 +160,7 @@ none_is_first links (none ∷ listed) are =
     let same : none ≡ none_pattern = ap (λ (n : List ℕ). record { name = n; links = none.links }) name ∙ ap (λ (ls : List ℕ). record { name = codes "none"; links = ls }) empty in
     ap (λ (first : Pattern). first ∷ listed) same
 
+-- the listed patterns of a network are read
 PatternAfter-from_network : (links : ℕ) (listed : List Pattern) → links ≤ 8192 → are_names (map (λ pattern. pattern.name) (none_pattern ∷ listed)) ≡ true → are_patterns links (none_pattern ∷ listed) ≡ true
     → AllAfter (PatternAfter links) (none_pattern ∷ []) listed
 PatternAfter-from_network links listed few names are =
@@ -173,6 +185,7 @@ PatternAfter-from_network links listed few names are =
 
 -- ---- the front
 
+-- what is read up to the operands is a network
 pub IsNetwork-from_read : (front : Front) → IsFrontRead front → IsNetwork front.nodes front.links front.source front.sinks front.patterns
 IsNetwork-from_read front is =
     let nodes = length front.nodes in
@@ -194,11 +207,13 @@ IsNetwork-from_read front is =
       few_patterns = omega (arith, count, is.patterns.few_listed);
     }
 
+-- it has few demands
 pub few_demands-from_read : (front : Front) → IsFrontRead front → length front.sinks * length front.patterns ≤ 65536
 few_demands-from_read front is =
     let count : length front.patterns ≡ length (drop 1 front.patterns) + 1 = ap (λ (ps : List Pattern). length ps) is.patterns.none_first ∙ omega arith in
     rw count is.patterns.few_demands
 
+-- a network with few demands and with links in order is read
 pub IsFrontRead-from_network : (front : Front) → IsNetwork front.nodes front.links front.source front.sinks front.patterns → 1 ≤ front.rate → front.rate ≤ 32
     → length front.sinks * length front.patterns ≤ 65536 → are_in_order [] front.links ≡ true → IsFrontRead front
 IsFrontRead-from_network front is some_rate low_rate few_demands order =
@@ -241,6 +256,7 @@ leads_below (link ∷ links) node zero into = omega arith
 leads_below (link ∷ links) node (suc n) into = omega (arith, leads_below links node n into)
 
 module _ (net : Net) (rate : ℕ) (field : FieldKind) where
+  -- the operands of a link
   are_operands-from_read : (link : Link) (operands : List Operand) → AreOperandsRead (front_of net rate field) link operands → are_operands net rate field link operands ≡ true
   are_operands-from_read link operands is =
       let front = front_of net rate field in
@@ -252,6 +268,7 @@ module _ (net : Net) (rate : ℕ) (field : FieldKind) where
           (λ before operand fit. and_from _ _ (and_from _ _ fit.reads (lt-ltb _ _ fit.nonzero)) (lt-ltb _ _ fit.coefficient)) is.each) in
       and_from _ _ rising each
 
+  -- the operands of all links
   are_operands_of-from_read : (links : List Link) (table : List (List Operand)) → EachFits (AreOperandsRead (front_of net rate field)) links table → are_operands_of net rate field links table ≡ true
   are_operands_of-from_read [] [] fit = refl
   are_operands_of-from_read [] (operands ∷ table) fit = absurd fit
@@ -266,6 +283,7 @@ module _ (net : Net) (rate : ℕ) (field : FieldKind) where
       either true h = omega (arith, ltb-true n rate h)
       either false h = omega (arith, leads_below net.links link.tail n h)
 
+  -- the operands of a link of a code are read
   AreOperandsRead-from_code : (link : Link) (operands : List Operand) → rate ≤ 32 → length net.links ≤ 8192 → are_operands net rate field link operands ≡ true → AreOperandsRead (front_of net rate field) link operands
   AreOperandsRead-from_code link operands low few are =
       let test : Operand → Bool = λ operand. is_source_of net rate link operand.from && nat_lt 0 operand.times && nat_lt operand.times (size_of field) in
@@ -288,6 +306,7 @@ module _ (net : Net) (rate : ℕ) (field : FieldKind) where
           (AllAfter-both Rising Tested [] operands (AllAfter-from_map (λ (operand : Operand). operand.from) Rises [] operands (AllAfter-from_is_rising numbers parts.0)) (AllAfter-from_list_all test [] operands parts.1));
       }
 
+  -- the operands of all links of a code are read
   EachFits-from_operands_of_code : (links : List Link) (table : List (List Operand)) → rate ≤ 32 → length net.links ≤ 8192 → are_operands_of net rate field links table ≡ true → EachFits (AreOperandsRead (front_of net rate field)) links table
   EachFits-from_operands_of_code [] [] low few are = tt
   EachFits-from_operands_of_code [] (operands ∷ table) low few are = absurd (false≢true are)
@@ -296,6 +315,7 @@ module _ (net : Net) (rate : ℕ) (field : FieldKind) where
       let parts = and_parts _ _ are in
       (AreOperandsRead-from_code link operands low few parts.0, EachFits-from_operands_of_code links table low few parts.1)
 
+  -- the decoder of a demand
   is_decoder-from_read : (sink : ℕ) (decoder : Decoder) → IsDecoderRead (front_of net rate field) sink decoder → is_decoder net rate field sink decoder ≡ true
   is_decoder-from_read sink decoder is =
       let front = front_of net rate field in
@@ -306,12 +326,14 @@ module _ (net : Net) (rate : ℕ) (field : FieldKind) where
         (AllAfter-weaker (λ before n. n < size_of field) (λ before n. nat_lt n (size_of field) ≡ true) [] decoder.entries (λ before n below. lt-ltb _ _ below) is.entries) in
       and_from _ _ (and_from _ _ (and_from _ _ (and_from _ _ (eq-eqb _ _ is.link_count) rising) into) (eq-eqb _ _ is.entry_count)) entries
 
+  -- the decoders of all demands
   are_decoders-from_read : (sinks : List ℕ) (decoders : List Decoder) → EachFits (IsDecoderRead (front_of net rate field)) sinks decoders → are_decoders net rate field sinks decoders ≡ true
   are_decoders-from_read [] [] fit = refl
   are_decoders-from_read [] (decoder ∷ decoders) fit = absurd fit
   are_decoders-from_read (sink ∷ sinks) [] fit = absurd fit
   are_decoders-from_read (sink ∷ sinks) (decoder ∷ decoders) fit = and_from _ _ (is_decoder-from_read sink decoder fit.0) (are_decoders-from_read sinks decoders fit.1)
 
+  -- a decoder of a code is read
   IsDecoderRead-from_code : (sink : ℕ) (decoder : Decoder) → length net.links ≤ 8192 → is_decoder net rate field sink decoder ≡ true → IsDecoderRead (front_of net rate field) sink decoder
   IsDecoderRead-from_code sink decoder few is =
       let all_into = list_all (leads_into net.links sink) decoder.links in
@@ -332,6 +354,7 @@ module _ (net : Net) (rate : ℕ) (field : FieldKind) where
           (AllAfter-from_list_all (λ entry. nat_lt entry (size_of field)) [] decoder.entries p4.1);
       }
 
+  -- the decoders of a code are read
   EachFits-from_decoders_of_code : (sinks : List ℕ) (decoders : List Decoder) → length net.links ≤ 8192 → are_decoders net rate field sinks decoders ≡ true → EachFits (IsDecoderRead (front_of net rate field)) sinks decoders
   EachFits-from_decoders_of_code [] [] few are = tt
   EachFits-from_decoders_of_code [] (decoder ∷ decoders) few are = absurd (false≢true are)

@@ -63,6 +63,7 @@ some_conditions limit = record {
 
 -- ---- the field and the rate
 
+-- the marks of the two fields
 field_conditions : AreConditions (λ rest n. (not ((n == 8) || (n == 16)), BadField) ∷ []) (λ n. (n ≡ 8) ⊎ (n ≡ 16))
 field_conditions = record {
   to = λ rest n none.
@@ -83,24 +84,29 @@ mark_fits : (field : FieldKind) → (mark_of field ≡ 8) ⊎ (mark_of field ≡
 mark_fits Eight = inl refl
 mark_fits Sixteen = inr refl
 
+-- a kind of field is that of its mark
 kind_of_mark : (field : FieldKind) → field ≡ (if mark_of field == 8 then Eight else Sixteen)
 kind_of_mark Eight = refl
 kind_of_mark Sixteen = refl
 
+-- a mark is that of its kind of field
 mark_of_kind : (n : ℕ) → (n ≡ 8) ⊎ (n ≡ 16) → mark_of (if n == 8 then Eight else Sixteen) ≡ n
 mark_of_kind n (inl e) = rw e refl
 mark_of_kind n (inr e) = rw e refl
 
+-- a mark fits a byte
 mark_small : (field : FieldKind) → mark_of field < 256
 mark_small Eight = omega arith
 mark_small Sixteen = omega arith
 
+-- the field
 pub field_reader : IsReader field_at (λ field. byte_item (mark_of field)) (λ field. Unit {0})
 unfolding field_at
 field_reader =
     same_reader (then_reader mark_of (byte_reader field_conditions) (λ n. empty_reader (if n == 8 then Eight else Sixteen)) (λ n field fit is. ap mark_of is ∙ mark_of_kind n fit.1))
     (λ field fit. refl) (λ field fit. tt) (λ field fit. ((mark_small field, mark_fits field), kind_of_mark field))
 
+-- the limits of the rate
 rate_conditions : AreConditions (λ rest n. ((n == 0) || nat_lt 32 n, BadRate) ∷ []) (λ n. (1 ≤ n) × (n ≤ 32))
 rate_conditions = record {
   to = λ rest n none.
@@ -111,6 +117,7 @@ rate_conditions = record {
   not_memory = λ rest n. (refl, tt);
 }
 
+-- the rate
 pub rate_reader : IsReader rate_at byte_item (λ n. (1 ≤ n) × (n ≤ 32))
 rate_reader = same_reader (byte_reader rate_conditions) (λ n fit. refl) (λ n fit. fit.1) (λ n fit. (omega (arith, fit.1), fit))
 
@@ -120,6 +127,7 @@ rate_reader = same_reader (byte_reader rate_conditions) (λ n fit. refl) (λ n f
 abbrev pub NameAfter : List (List ℕ) → List ℕ → Type 0
 NameAfter earlier name = (is_name name ≡ true) × (list_any (bytes_eq name) earlier ≡ false)
 
+-- the nodes behind their number
 pub nodes_reader : IsReader nodes_at (λ nodes. number_item (length nodes) ++ flat_map name_item nodes) (λ nodes. (length nodes ≤ 4096) × AllAfter NameAfter [] nodes)
 unfolding nodes_at
 nodes_reader =
@@ -138,6 +146,7 @@ pub record LinkAfter (nodes : ℕ) (earlier : List Link) (link : Link) : Type 0 
   pub head : link.head < nodes
   pub leads_on : ((link.head == link.tail) || is_among (map (λ one. one.tail) earlier) link.head) ≡ false
 
+-- a node that is neither the tail of the link nor that of an earlier one
 head_conditions : (nodes : ℕ) (earlier : List Link) (tail : ℕ)
     → AreConditions (λ rest n. (not (nat_lt n nodes), BadIndex rest.at) ∷ ((n == tail) || is_among (map (λ link. link.tail) earlier) n, OutOfOrder (length earlier)) ∷ [])
     (λ n. (n < nodes) × (((n == tail) || is_among (map (λ link. link.tail) earlier) n) ≡ false))
@@ -147,6 +156,7 @@ head_conditions nodes earlier tail = record {
   not_memory = λ rest n. (refl, (refl, tt));
 }
 
+-- one link
 pub link_reader : (nodes : ℕ) (earlier : List Link) → IsReader (link_at nodes earlier) (λ link. concat (link_items link)) (LinkAfter nodes earlier)
 unfolding link_at
 link_reader nodes earlier =
@@ -162,6 +172,7 @@ link_reader nodes earlier =
     (λ link fit. record { name = fit.0.0; is_new = fit.0.1; tail_fits = fit.1.0.0; tail = fit.1.0.1; head_fits = fit.1.1.0.0; head = fit.1.1.0.1.0; leads_on = fit.1.1.0.1.1 })
     (λ link fit. ((fit.name, fit.is_new), ((fit.tail_fits, fit.tail), ((fit.head_fits, (fit.head, fit.leads_on)), refl))))
 
+-- the links behind their number
 pub links_reader : (nodes : ℕ) → IsReader (links_at nodes) (λ links. number_item (length links) ++ flat_map (λ link. concat (link_items link)) links)
     (λ links. (length links ≤ 8192) × AllAfter (LinkAfter nodes) [] links)
 unfolding links_at
@@ -171,6 +182,7 @@ links_reader nodes =
 
 -- ---- the source and the sinks
 
+-- the source
 pub source_reader : (nodes : ℕ) → IsReader (source_at nodes) number_item (λ n. (n < 65536) × (n < nodes))
 source_reader nodes = number_reader (index_conditions nodes)
 
@@ -181,6 +193,7 @@ pub record SinkAfter (nodes source : ℕ) (earlier : List ℕ) (sink : ℕ) : Ty
   pub not_source : (sink == source) ≡ false
   pub is_new : is_among earlier sink ≡ false
 
+-- a node that is neither the source nor an earlier sink
 sink_conditions : (nodes source : ℕ) (earlier : List ℕ)
     → AreConditions (λ rest n. (not (nat_lt n nodes) || (n == source) || is_among earlier n, BadIndex rest.at) ∷ [])
     (λ n. (n < nodes) × (((n == source) ≡ false) × (is_among earlier n ≡ false)))
@@ -193,6 +206,7 @@ sink_conditions nodes source earlier = record {
   not_memory = λ rest n. (refl, tt);
 }
 
+-- one sink
 pub sink_reader : (nodes source : ℕ) (earlier : List ℕ)
     → IsReader (λ at. number_at at (λ n. (not (nat_lt n nodes) || (n == source) || is_among earlier n, BadIndex at.at) ∷ [])) number_item (SinkAfter nodes source earlier)
 sink_reader nodes source earlier =
@@ -200,6 +214,7 @@ sink_reader nodes source earlier =
     (λ n fit. record { fits = fit.0; node = fit.1.0; not_source = fit.1.1.0; is_new = fit.1.1.1 })
     (λ n fit. (fit.fits, (fit.node, (fit.not_source, fit.is_new))))
 
+-- the sinks behind their number
 pub sinks_reader : (nodes source : ℕ) → IsReader (sinks_at nodes source) (λ sinks. number_item (length sinks) ++ flat_map number_item sinks)
     (λ sinks. (0 < length sinks) × ((length sinks ≤ 4096) × AllAfter (SinkAfter nodes source) [] sinks))
 unfolding sinks_at
@@ -217,6 +232,7 @@ pub record LinkNumberAfter (links : ℕ) (earlier : List ℕ) (link : ℕ) : Typ
   pub below : link < links
   pub rises : is_above_last earlier link ≡ true
 
+-- a link above the one before
 link_number_conditions : (links : ℕ) (earlier : List ℕ)
     → AreConditions (λ rest n. (not (nat_lt n links), BadIndex rest.at) ∷ (not (is_above_last earlier n), NotRising rest.at) ∷ [])
     (λ n. (n < links) × (is_above_last earlier n ≡ true))
@@ -226,6 +242,7 @@ link_number_conditions links earlier = record {
   not_memory = λ rest n. (refl, (refl, tt));
 }
 
+-- one link of a pattern
 link_number_reader : (links : ℕ) (earlier : List ℕ)
     → IsReader (λ at. number_at at (λ n. (not (nat_lt n links), BadIndex at.at) ∷ (not (is_above_last earlier n), NotRising at.at) ∷ [])) number_item (LinkNumberAfter links earlier)
 link_number_reader links earlier =
@@ -242,6 +259,7 @@ pub record PatternAfter (links : ℕ) (earlier : List Pattern) (pattern : Patter
   pub few_links : length pattern.links ≤ links
   pub numbers : AllAfter (LinkNumberAfter links) [] pattern.links
 
+-- one listed pattern
 pub pattern_reader : (links : ℕ) (earlier : List Pattern) → IsReader (pattern_at links earlier) (λ pattern. concat (pattern_items pattern)) (PatternAfter links earlier)
 unfolding pattern_at
 pattern_reader links earlier =
@@ -263,6 +281,7 @@ pattern_reader links earlier =
 abbrev pub none_pattern : Pattern
 none_pattern = record { name = codes "none"; links = [] }
 
+-- the limits of the number of listed patterns
 patterns_conditions : (sinks : ℕ) → AreConditions (λ rest n. (nat_lt 4095 n || nat_lt 65536 (sinks * (n + 1)), TooMany rest.at) ∷ []) (λ n. (n ≤ 4095) × (sinks * (n + 1) ≤ 65536))
 patterns_conditions sinks = record {
   to = λ rest n none.
@@ -279,6 +298,7 @@ pub record ArePatternsRead (links sinks : ℕ) (patterns : List Pattern) : Type 
   pub none_first : patterns ≡ none_pattern ∷ drop 1 patterns
   pub each_listed : AllAfter (PatternAfter links) (none_pattern ∷ []) (drop 1 patterns)
 
+-- the listed patterns behind their number
 pub patterns_reader : (links sinks : ℕ) → IsReader (patterns_at links sinks) (λ patterns. number_item (length (drop 1 patterns)) ++ flat_map (λ pattern. concat (pattern_items pattern)) (drop 1 patterns))
     (ArePatternsRead links sinks)
 unfolding patterns_at

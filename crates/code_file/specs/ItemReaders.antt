@@ -20,6 +20,7 @@ pub record AreConditions {X : Type 0} (conditions : Rest → X → List (Bool ×
   pub from : (rest : Rest) (x : X) → Fits x → NoneHolds (conditions rest x)
   pub not_memory : (rest : Rest) (x : X) → AreNotMemory (conditions rest x)
 
+-- a text of one byte is that byte
 one_byte : (text : List ℕ) → length text ≡ 1 → text ≡ byte_item (slice_index text 0)
 one_byte [] h = absurd (omega arith)
 one_byte (b ∷ []) h = refl
@@ -84,9 +85,11 @@ name_text rest (b ∷ text) left size parts =
     let same : b ≡ length text = omega arith in
     ap (λ (n : ℕ). n ∷ text) same
 
+-- when a name is refused
 abbrev name_conditions : (List ℕ → Bool) → Rest → List ℕ → List (Bool × CodeRefusal)
 name_conditions is_bad rest text = (not (is_name (drop 1 text)) || is_bad (drop 1 text), BadName rest.at) ∷ []
 
+-- a name that passes a further test
 pub name_reader : (is_bad : List ℕ → Bool) → IsReader (λ rest. name_at rest is_bad) name_item (λ name. (is_name name ≡ true) × (is_bad name ≡ false))
 unfolding name_at
 name_reader is_bad = record {

@@ -12,9 +12,11 @@ use Rattle.code_file.specs.Reading.{Rest, Reading, ◌>>=◌, refused_first, ite
 abbrev pub IsBytes : List ℕ → Type 0
 IsBytes bytes = (i : ℕ) → get_or bytes i 0 < 256
 
+-- so is each byte behind a place
 pub IsBytes-drop : (n : ℕ) (bytes : List ℕ) → IsBytes bytes → IsBytes (drop n bytes)
 IsBytes-drop n bytes h i = rw get_or-drop (h (n + i))
 
+-- and each before it
 pub IsBytes-take : (n : ℕ) (bytes : List ℕ) → IsBytes bytes → IsBytes (take n bytes)
 IsBytes-take n bytes h i =
     elim (cases_lt i n) [
@@ -54,9 +56,11 @@ pub record IsReader {X : Type 0} (read : Rest → Reading X) (spell : X → List
   pub again : (at : ℕ) (more : List ℕ) (x : X) → Fits x → read (record { at = at; bytes = spell x ++ more }) ≡ Ok (x, record { at = at + length (spell x); bytes = more })
   pub not_memory : (rest : Rest) → is_memory (read rest) ≡ false
 
+-- nothing is taken
 pub Takes-none : (rest : Rest) → IsBytes rest.bytes → Takes rest [] rest
 Takes-none rest fits = record { parts = refl; place = omega arith; left_fits = fits }
 
+-- what is taken after something is taken behind it
 pub Takes-then : (a : Rest) (x : List ℕ) (b : Rest) (y : List ℕ) (c : Rest) → Takes a x b → Takes b y c → Takes a (x ++ y) c
 Takes-then a x b y c p q = record {
   parts = p.parts ∙ ap (λ (t : List ℕ). x ++ t) q.parts ∙ sym (append_assoc x y c.bytes);
@@ -64,11 +68,16 @@ Takes-then a x b y c p q = record {
   left_fits = q.left_fits;
 }
 
+-- the end of a file stays where it is
+pub Takes-end : (rest : Rest) (text : List ℕ) (left : Rest) → Takes rest text left → left.at + length left.bytes ≡ rest.at + length rest.bytes
+Takes-end rest text left takes = omega (arith, takes.place, ap (λ (t : List ℕ). length t) takes.parts, length-append text left.bytes)
+
 -- the value of a step that did not fail
 pub bind_ok : {A B : Type 0} (r : Result A CodeRefusal) (f : A → Result B CodeRefusal) (y : B) → (r >>= f) ≡ Ok y → (x : A) × (r ≡ Ok x) × (f x ≡ Ok y)
 bind_ok (Ok x) f y e = (x, refl, e)
 bind_ok (Err d) f y e = absurd cc
 
+-- two steps neither of which wants memory
 pub bind_not_memory : {A B : Type 0} (r : Result A CodeRefusal) (f : A → Result B CodeRefusal) → is_memory r ≡ false → ((x : A) → is_memory (f x) ≡ false) → is_memory (r >>= f) ≡ false
 bind_not_memory (Ok x) f h k = k x
 bind_not_memory (Err d) f h k = h
@@ -82,11 +91,13 @@ else_ok false d r y e = (refl, e)
 abbrev pub ok_of : {A : Type 0} → A → Result A CodeRefusal
 ok_of x = Ok x
 
+-- two results are one where what they give is
 pub ok_is : {A : Type 0} (x y : A) → ok_of x ≡ ok_of y → x ≡ y
 ok_is x y e = cc
 
 -- ---- conditions
 
+-- where no refusal comes, no condition holds
 pub refused_first_takes : {A : Type 0} (conditions : List (Bool × CodeRefusal)) (x y : A) → refused_first conditions x ≡ Ok y → NoneHolds conditions × (x ≡ y)
 refused_first_takes [] x y e = (tt, ok_is x y e)
 refused_first_takes (condition ∷ conditions) x y e =
@@ -94,10 +105,12 @@ refused_first_takes (condition ∷ conditions) x y e =
     let t = refused_first_takes conditions x y g.1 in
     ((g.0, t.0), t.1)
 
+-- where no condition holds, no refusal comes
 pub refused_first_again : {A : Type 0} (conditions : List (Bool × CodeRefusal)) (x : A) → NoneHolds conditions → refused_first conditions x ≡ Ok x
 refused_first_again [] x none = refl
 refused_first_again (condition ∷ conditions) x none = rw (none.0, refused_first_again conditions x none.1) refl
 
+-- a refusal is that of one of the conditions
 pub refused_first_not_memory : {A : Type 0} (conditions : List (Bool × CodeRefusal)) (x : A) → AreNotMemory conditions → is_memory (refused_first conditions x) ≡ false
 refused_first_not_memory [] x not_memory = refl
 refused_first_not_memory (condition ∷ conditions) x not_memory = either condition.0 condition.1 (refused_first conditions x) not_memory.0 (refused_first_not_memory conditions x not_memory.1)
@@ -115,6 +128,7 @@ pub record TakesItem (size : ℕ) (rest : Rest) (conditions : List ℕ → List 
   pub takes : Takes rest text left
   pub text_fits : IsBytes text
 
+-- what is read as an item was taken from the front
 pub item_takes : (size : ℕ) (rest : Rest) (conditions : List ℕ → List (Bool × CodeRefusal)) (text : List ℕ) (left : Rest) → IsBytes rest.bytes
     → item size rest conditions ≡ Ok (text, left) → TakesItem size rest conditions text left
 unfolding item
@@ -131,6 +145,7 @@ item_takes size rest conditions text left fits e =
     } in
     subst (λ (p : List ℕ × Rest). TakesItem size rest conditions p.0 p.1) t.1 here
 
+-- an item that stands at the front is read
 pub item_again : (size at : ℕ) (text more : List ℕ) (conditions : List ℕ → List (Bool × CodeRefusal)) → length text ≡ size → NoneHolds (conditions text)
     → item size (record { at = at; bytes = text ++ more }) conditions ≡ Ok (text, record { at = at + size; bytes = more })
 unfolding item
@@ -138,6 +153,7 @@ item_again size at text more conditions size_is none =
     let long : nat_lt (length (text ++ more)) size ≡ false = le-ltb _ _ (omega (arith, length-append text more)) in
     rw (long, take_at text more size size_is, drop_at text more size size_is) (refused_first_again (conditions text) (text, record { at = at + size; bytes = more }) none)
 
+-- the refusal of an item is that of its end or of a condition
 pub item_not_memory : (size : ℕ) (rest : Rest) (conditions : List ℕ → List (Bool × CodeRefusal)) → ((text : List ℕ) → AreNotMemory (conditions text)) → is_memory (item size rest conditions) ≡ false
 unfolding item
 item_not_memory size rest conditions not_memory =
@@ -212,6 +228,7 @@ pub record TakesSome {X : Type 0} (spell : X → List ℕ) (Fits : List X → X 
   pub takes : Takes rest (flat_map spell further) left
 
 module _ {X : Type 0} (part : List X → Rest → Reading X) (spell : X → List ℕ) (Fits : List X → X → Type 0) (each : (earlier : List X) → IsReader (part earlier) spell (Fits earlier)) where
+  -- so many parts that were read were taken from the front
   pub repeated_takes : (count : ℕ) (earlier : List X) (rest : Rest) (all : List X) (left : Rest) → IsBytes rest.bytes
       → repeated_at part count earlier rest ≡ Ok (all, left) → TakesSome spell Fits count earlier rest all left
   unfolding repeated_at
@@ -237,6 +254,7 @@ module _ {X : Type 0} (part : List X → Rest → Reading X) (spell : X → List
         takes = Takes-then rest (spell b.0.0) b.0.1 (flat_map spell u.further) left t.0 u.takes;
       }
 
+  -- so many parts that stand at the front are read
   pub repeated_again : (further earlier : List X) (at : ℕ) (more : List ℕ) → AllAfter Fits earlier further
       → repeated_at part (length further) earlier (record { at = at; bytes = flat_map spell further ++ more }) ≡ Ok (earlier ++ further, record { at = at + length (flat_map spell further); bytes = more })
   unfolding repeated_at
@@ -253,6 +271,7 @@ module _ {X : Type 0} (part : List X → Rest → Reading X) (spell : X → List
       ∙ ap (λ (n : ℕ). ok_of ((earlier ++ x ∷ []) ++ further, record { at = n; bytes = more })) place
       ∙ ap (λ (all : List X). ok_of (all, record { at = at + length (spell x ++ others); bytes = more })) (append_assoc earlier (x ∷ []) further)
 
+  -- the refusal of so many parts is that of one of them
   pub repeated_not_memory : (count : ℕ) (earlier : List X) (rest : Rest) → is_memory (repeated_at part count earlier rest) ≡ false
   unfolding repeated_at
   repeated_not_memory zero earlier rest = refl
@@ -285,6 +304,7 @@ EachFits Fits [] (y ∷ ys) = ⊥
 EachFits Fits (x ∷ xs) [] = ⊥
 
 module _ {X Y : Type 0} (part : X → Rest → Reading Y) (spell : Y → List ℕ) (Fits : X → Y → Type 0) (each : (x : X) → IsReader (part x) spell (Fits x)) where
+  -- a part for each, if read, was taken from the front
   each_takes : (xs : List X) (rest : Rest) (ys : List Y) (left : Rest) → IsBytes rest.bytes
       → each_at part xs rest ≡ Ok (ys, left) → Takes rest (flat_map spell ys) left × EachFits Fits xs ys
   unfolding each_at
@@ -298,6 +318,7 @@ module _ {X Y : Type 0} (part : X → Rest → Reading Y) (spell : Y → List �
       subst (λ (p : List Y × Rest). Takes rest (flat_map spell p.0) p.1 × EachFits Fits (x ∷ xs) p.0) {x = (b.0.0 ∷ c.0.0, c.0.1)} (ok_is (b.0.0 ∷ c.0.0, c.0.1) (ys, left) c.2)
       (Takes-then rest (spell b.0.0) b.0.1 (flat_map spell c.0.0) c.0.1 t.0 u.0, (t.1, u.1))
 
+  -- a part for each that stands at the front is read
   each_again : (xs : List X) (at : ℕ) (more : List ℕ) (ys : List Y) → EachFits Fits xs ys
       → each_at part xs (record { at = at; bytes = flat_map spell ys ++ more }) ≡ Ok (ys, record { at = at + length (flat_map spell ys); bytes = more })
   unfolding each_at
@@ -315,6 +336,7 @@ module _ {X Y : Type 0} (part : X → Rest → Reading Y) (spell : Y → List �
       ∙ ap (λ (r : Reading (List Y)). r >>= λ others. Ok (y ∷ others.0, others.1)) ends
       ∙ ap (λ (n : ℕ). ok_of (y ∷ ys, record { at = n; bytes = more })) place
 
+  -- the refusal of a part for each is that of one of them
   each_not_memory : (xs : List X) (rest : Rest) → is_memory (each_at part xs rest) ≡ false
   unfolding each_at
   each_not_memory [] rest = refl

@@ -1,21 +1,24 @@
 -- Reading and spelling code files: a file that's read is the one spelling of what it says, and that's what a code has;
 -- the file of a code is read; and a file that's no code's is refused.
-use Rattle.std.specs.Prelude.{◌≡◌, ◌≢◌, ℕ, ◌+◌, Bool, true, false, ◌==◌, List, [], ◌∷◌, ◌++◌, length, codes, Option, Some, None, Result, Ok, Err, if◌then◌else◌}
+use Rattle.std.specs.Prelude.{◌≡◌, ◌≢◌, ℕ, ◌+◌, ◌*◌, ◌<◌, ◌≤◌, IsTrue, Bool, true, false, ◌==◌, List, [], ◌∷◌, ◌++◌, length, codes, Option, Some, None, Result, Ok, Err, if◌then◌else◌}
+use Rattle.std.specs.List.{concat}
 use Rattle.std.proofs.Common.{refl, sym, subst, ap, ◌∙◌, append-nil, arith}
 use Rattle.std.proofs.lemmas.Bool.{true≢false, eqb-true}
 use Rattle.std.proofs.lemmas.List.{nil_from_length}
+use Rattle.gf_tables.specs.declared.kind.FieldKind.{FieldKind}
+use Rattle.net_model.specs.Network.{IsNetwork}
 use Rattle.net_model.specs.declared.net.Net.{Net}
-use Rattle.node_program.specs.Code.{choice_of}
+use Rattle.node_program.specs.Code.{choice_of, are_in_order, IsDraft}
 use Rattle.node_program.specs.declared.Operand.{Operand}
 use Rattle.node_program.specs.declared.Decoder.{Decoder}
 use Rattle.node_program.specs.declared.code.Code.{Code}
-use Rattle.code_file.specs.Items.{bytes_of}
+use Rattle.code_file.specs.Items.{Item, front_items, bytes_of}
 use Rattle.code_file.specs.Reading.{Rest, Reading, ◌>>=◌, Front, Contents, each_at, front_at, operands_at_link, decoder_at, demand_sinks, contents_of, refusal_in, refusal_of}
-use Rattle.code_file.specs.Spelling.{contents_in, spelling_of, AreContents}
-use Rattle.code_file.specs.SpellingLaws.{spelling_of-contents_in}
-use Rattle.code_file.specs.Readers.{ok_of, IsBytes, is_memory, bind_ok, bind_not_memory, ok_is}
-use Rattle.code_file.specs.CodeReaders.{AreContentsRead, body_at, body_reader}
-use Rattle.code_file.specs.ContentsLaws.{AreContents-from_read, AreContentsRead-from_code}
+use Rattle.code_file.specs.Spelling.{front_of, front_items_in, contents_in, spelling_of, AreContents}
+use Rattle.code_file.specs.SpellingLaws.{front_items_in-front_of, spelling_of-contents_in}
+use Rattle.code_file.specs.Readers.{ok_of, IsBytes, Takes, is_memory, bind_ok, bind_not_memory, ok_is}
+use Rattle.code_file.specs.CodeReaders.{AreContentsRead, front_reader, body_at, body_reader}
+use Rattle.code_file.specs.ContentsLaws.{IsNetwork-from_read, few_demands-from_read, link_order-from_read, IsFrontRead-from_network, AreContents-from_read, AreContentsRead-from_code}
 use Rattle.code_file.specs.declared.refusal.CodeRefusal.{CodeRefusal}
 use Rattle.code_file.specs.declared.refusal.CodeRefusal.TheVariants.{TrailingBytes, OutOfMemory}
 
@@ -35,17 +38,20 @@ made_of front operands decoders = record { front = front; operands = operands; d
 abbrev body_of : Contents → Rest → Reading Contents
 body_of contents left = Ok (contents, left)
 
+-- the end behind the decoders
 decoders_end : (front : Front) (operands : List (List Operand)) (read : Reading (List Decoder))
     → ((read >>= λ decoders. body_of (made_of front operands decoders.0) decoders.1) >>= λ body. end_of body.0 body.1) ≡ (read >>= λ decoders. end_of (made_of front operands decoders.0) decoders.1)
 decoders_end front operands (Ok decoders) = refl
 decoders_end front operands (Err refusal) = refl
 
+-- the end behind the operands
 operands_end : (front : Front) (read : Reading (List (List Operand)))
     → ((read >>= λ operands. each_at (decoder_at front) (demand_sinks front) operands.1 >>= λ decoders. body_of (made_of front operands.0 decoders.0) decoders.1) >>= λ body. end_of body.0 body.1)
     ≡ (read >>= λ operands. each_at (decoder_at front) (demand_sinks front) operands.1 >>= λ decoders. end_of (made_of front operands.0 decoders.0) decoders.1)
 operands_end front (Ok operands) = decoders_end front operands.0 (each_at (decoder_at front) (demand_sinks front) operands.1)
 operands_end front (Err refusal) = refl
 
+-- the end behind the front
 front_end : (read : Reading Front)
     → ((read >>= λ front. each_at (operands_at_link front.0) front.0.links front.1 >>= λ operands. each_at (decoder_at front.0) (demand_sinks front.0) operands.1 >>= λ decoders. body_of (made_of front.0 operands.0 decoders.0) decoders.1) >>= λ body. end_of body.0 body.1)
     ≡ (read >>= λ front. each_at (operands_at_link front.0) front.0.links front.1 >>= λ operands. each_at (decoder_at front.0) (demand_sinks front.0) operands.1 >>= λ decoders. end_of (made_of front.0 operands.0 decoders.0) decoders.1)
@@ -57,6 +63,7 @@ contents_of-body : (bytes : List ℕ) → (body_at (start_of bytes) >>= λ body.
 unfolding body_at contents_of
 contents_of-body bytes = front_end (front_at (codes "LIFC") 1 (start_of bytes))
 
+-- at the end of a file nothing is left
 end_ok : (contents contents' : Contents) (left : Rest) → end_of contents left ≡ Ok contents' → (left.bytes ≡ []) × (contents ≡ contents')
 end_ok contents contents' left e = either (length left.bytes == 0) refl e
   where
@@ -129,6 +136,7 @@ code_of contents are =
       code = are.code net refl refl refl refl refl refl;
     }
 
+-- the code of contents has them
 pub contents_in-code_of : (contents : Contents) (are : AreContents contents) → contents_in (code_of contents are) ≡ contents
 unfolding code_of
 contents_in-code_of contents are = refl
@@ -157,6 +165,7 @@ contents_of-not_memory bytes =
     either true contents at = refl
     either false contents at = refl
 
+-- no file is refused for want of memory
 pub contents_of-out_of_memory : (bytes : List ℕ) → contents_of bytes ≢ Err OutOfMemory
 contents_of-out_of_memory bytes e = true≢false (sym (ap (λ (r : Result Contents CodeRefusal). is_memory r) e) ∙ contents_of-not_memory bytes)
 
@@ -166,6 +175,7 @@ pub record IsRefused (bytes : List ℕ) : Type 0 where
   pub found : refusal_of bytes ≡ Some refusal
   pub some_fault : refusal ≢ OutOfMemory
 
+-- a file that is no code's is refused
 pub refusal_of-some : (bytes : List ℕ) → IsBytes bytes → ((code : Code) → bytes_of code ≢ bytes) → IsRefused bytes
 unfolding refusal_of
 refusal_of-some bytes fits no_code = either (contents_of bytes) refl
@@ -179,3 +189,50 @@ refusal_of-some bytes fits no_code = either (contents_of bytes) refl
       found = ap (λ (r : Result Contents CodeRefusal). refusal_in r) is;
       some_fault = λ e. contents_of-out_of_memory bytes (is ∙ ap (λ (refusal : CodeRefusal). Err refusal) e);
     }
+
+-- a file that isn't refused is that of a code
+pub refusal_of-none : (bytes : List ℕ) → IsBytes bytes → refusal_of bytes ≡ None → (code : Code) × (bytes_of code ≡ bytes)
+unfolding refusal_of
+refusal_of-none bytes fits none = either (contents_of bytes) refl none
+  where
+    either : (r : Result Contents CodeRefusal) → contents_of bytes ≡ r → refusal_in r ≡ None → (code : Code) × (bytes_of code ≡ bytes)
+    either (Ok contents) is none =
+        let t = AreContents-from_contents_of bytes contents fits is in
+        (code_of contents t.1, bytes_of-code_of contents t.1 ∙ sym t.0)
+    either (Err refusal) is none = absurd cc
+
+-- ---- the front alone
+
+-- What was read up to the operands was taken from the front of a file, and it's what a network in order and a rate have.
+pub record IsFrontAt (mark : List ℕ) (version : ℕ) (rest : Rest) (front : Front) (left : Rest) : Type 0 where
+  pub takes : Takes rest (concat (front_items_in mark version front)) left
+  pub network : IsNetwork front.nodes front.links front.source front.sinks front.patterns
+  pub some_rate : 1 ≤ front.rate
+  pub low_rate : front.rate ≤ 32
+  pub few_demands : length front.sinks * length front.patterns ≤ 65536
+  pub link_order : IsTrue (are_in_order [] front.links)
+
+-- What is read up to the operands is spelled so, each byte of it, and it's what a network in order and a rate have.
+pub IsFrontAt-from_front_at : (mark : List ℕ) (version : ℕ) → length mark ≡ 4 → version < 256 → (rest : Rest) (front : Front) (left : Rest) → IsBytes rest.bytes
+    → front_at mark version rest ≡ Ok (front, left) → IsFrontAt mark version rest front left
+IsFrontAt-from_front_at mark version four small rest front left fits e =
+    let t = (front_reader mark version four small).takes rest front left fits e in
+    record {
+      takes = t.0;
+      network = IsNetwork-from_read front t.1;
+      some_rate = t.1.some_rate;
+      low_rate = t.1.low_rate;
+      few_demands = few_demands-from_read front t.1;
+      link_order = link_order-from_read (length front.nodes) front.links t.1.links;
+    }
+
+-- What is spelled up to the operands of a draft is read.
+pub front_at-front_items : (mark : List ℕ) (version : ℕ) → length mark ≡ 4 → version < 256 → (at : ℕ) (more : List ℕ)
+    → {net : Net} {rate : ℕ} {field : FieldKind} {operands : List (List Operand)} → IsDraft net rate field operands
+    → front_at mark version (record { at = at; bytes = concat (front_items mark version net rate field) ++ more })
+    ≡ Ok (front_of net rate field, record { at = at + length (concat (front_items mark version net rate field)); bytes = more })
+front_at-front_items mark version four small at more {net} {rate} {field} draft =
+    let front = front_of net rate field in
+    let read = (front_reader mark version four small).again at more front (IsFrontRead-from_network front net.network draft.some_rate draft.low_rate draft.few_demands draft.link_order) in
+    subst (λ (items : List Item). front_at mark version (record { at = at; bytes = concat items ++ more }) ≡ Ok (front, record { at = at + length (concat items); bytes = more }))
+    (front_items_in-front_of mark version net rate field) read
