@@ -1,5 +1,5 @@
 -- Lists whose items each fit in view of the earlier ones, in the words of networks and codes.
-use Rattle.std.specs.Prelude.{◌≡◌, ℕ, ◌+◌, ◌<◌, ◌≤◌, Bool, true, false, not, ◌||◌, ◌&&◌, ◌==◌, nat_eq, nat_lt, List, [], ◌∷◌, ◌++◌, length, map}
+use Rattle.std.specs.Prelude.{◌≡◌, ℕ, ◌+◌, ◌<◌, ◌≤◌, Bool, true, false, ◌||◌, ◌==◌, nat_eq, nat_lt, List, [], ◌∷◌, ◌++◌, length, map}
 use Rattle.std.specs.List.{list_all, list_any, AllByRecursion, IsDistinct}
 use Rattle.std.specs.Str.{bytes_eq}
 use Rattle.std.proofs.Common.{refl, sym, subst, ap, ◌∙◌, arith}
@@ -14,7 +14,7 @@ use Rattle.net_model.specs.Network.{are_names}
 use Rattle.net_model.specs.declared.Link.{Link}
 use Rattle.node_program.specs.Code.{are_in_order}
 use Rattle.code_file.specs.Reading.{is_above_last}
-use Rattle.code_file.specs.Readers.{ok_of, AllAfter}
+use Rattle.code_file.specs.Readers.{AllAfter}
 use Rattle.code_file.specs.FrontReaders.{NameAfter}
 
 -- what follows from a fact in view of the earlier ones
@@ -273,9 +273,10 @@ leads_on_behind : (earlier : List Link) (tails : List ℕ) (links : List Link) �
 leads_on_behind earlier tails [] same order = tt
 leads_on_behind earlier tails (link ∷ links) same order =
     let parts = and_parts _ _ order in
-    let apart = or_parts (link.tail == link.head) (is_among tails link.head) (not-true _ parts.0) in
-    (or_from _ _ (nat_eq-swap link.head link.tail ∙ apart.0) (sym (same link.head) ∙ apart.1),
-      leads_on_behind (earlier ++ link ∷ []) (link.tail ∷ tails) links (more_tails earlier tails link same) parts.1)
+    let apart = or_parts (link.tail == link.head) (is_among tails link.head) (not-true _ parts.0) in (
+      or_from _ _ (nat_eq-swap link.head link.tail ∙ apart.0) (sym (same link.head) ∙ apart.1),
+      leads_on_behind (earlier ++ link ∷ []) (link.tail ∷ tails) links (more_tails earlier tails link same) parts.1,
+    )
 
 -- links are in order where each leads on from those before
 pub are_in_order-from_AllAfter : (links : List Link) → AllAfter LeadsOn [] links → are_in_order [] links ≡ true

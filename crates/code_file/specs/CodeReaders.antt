@@ -1,27 +1,26 @@
 -- Readers of the front, of the operands, of the decoders and of all of a code file.
-use Rattle.std.specs.Prelude.{◌≡◌, ℕ, zero, suc, ◌+◌, ◌*◌, ◌<◌, ◌≤◌, Bool, true, false, not, ◌||◌, ◌==◌, nat_lt, List, [], ◌∷◌, ◌++◌, length, map, drop, codes, Result, Ok, Err}
+use Rattle.std.specs.Prelude.{◌≡◌, ℕ, ◌+◌, ◌*◌, ◌<◌, ◌≤◌, Bool, true, false, not, ◌==◌, List, [], ◌∷◌, ◌++◌, length, map, drop, codes, Result, Ok, Err}
 use Rattle.std.specs.List.{concat, flat_map}
 use Rattle.std.specs.Str.{bytes_eq}
 use Rattle.std.proofs.Common.{refl, sym, subst, ap, ◌∙◌, append_assoc, append-nil, arith, lit<}
-use Rattle.std.proofs.lemmas.Bool.{not-false, not_from_true, ltb-true, ltb-false, lt-ltb, le-ltb, eqb-true, eqb-false, eq-eqb, ne_eqb}
+use Rattle.std.proofs.lemmas.Bool.{not-false, not_from_true, eqb-true, eqb-false, eq-eqb, ne_eqb}
 use Rattle.std.proofs.lemmas.List.{length-append}
 use Rattle.std.proofs.lemmas.List.Folds.{concat-append}
 use Rattle.std.proofs.lemmas.Slice.Eq.{bytes_eq-Decides}
 use Rattle.gf_tables.specs.Product.{mark_of, size_of}
 use Rattle.gf_tables.specs.declared.kind.FieldKind.{FieldKind}
 use Rattle.net_model.specs.declared.Link.{Link}
-use Rattle.net_model.specs.declared.Pattern.{Pattern}
 use Rattle.node_program.specs.Code.{leads_into}
 use Rattle.node_program.specs.declared.Operand.{Operand}
 use Rattle.node_program.specs.declared.Decoder.{Decoder}
 use Rattle.code_file.specs.Items.{Item, byte_item, number_item, element_item, name_item, link_items, pattern_items, operand_items, operand_list_items, operand_table_items, decoder_items, decoder_table_items, code_mark, code_version}
-use Rattle.code_file.specs.Reading.{Rest, Reading, ◌>>=◌, Front, Contents, item, byte_at, number_at, element_at, repeated_at, each_at, is_above_last, mark_at, field_at, rate_at, nodes_at, links_at, source_at, sinks_at, patterns_at, front_at, may_read, operand_at, operands_at_link, decoder_at, demand_sinks}
+use Rattle.code_file.specs.Reading.{Rest, Reading, ◌>>=◌, Front, Contents, item, byte_at, number_at, element_at, each_at, is_above_last, mark_at, field_at, rate_at, nodes_at, links_at, source_at, sinks_at, patterns_at, front_at, may_read, operand_at, operands_at_link, decoder_at, demand_sinks}
 use Rattle.code_file.specs.Spelling.{front_items_in, items_in, spelling_of}
-use Rattle.code_file.specs.Readers.{ok_of, is_memory, IsBytes, IsReader, Takes, NoneHolds, AreNotMemory, AllAfter, EachFits, Takes-then, bind_ok, bind_not_memory, ok_is, item_takes, item_again, item_not_memory, empty_reader, then_reader, same_reader, repeated_reader, each_reader}
+use Rattle.code_file.specs.Readers.{ok_of, is_memory, IsBytes, IsReader, Takes, AllAfter, EachFits, Takes-then, bind_ok, bind_not_memory, ok_is, item_takes, item_again, item_not_memory, empty_reader, then_reader, same_reader, repeated_reader, each_reader}
 use Rattle.code_file.specs.ItemReaders.{AreConditions, byte_reader, number_reader, element_reader}
 use Rattle.code_file.specs.FrontReaders.{NameAfter, LinkAfter, SinkAfter, ArePatternsRead, concat-map, counted_reader, count_conditions, field_reader, rate_reader, nodes_reader, links_reader, source_reader, sinks_reader, patterns_reader}
 use Rattle.code_file.specs.declared.refusal.CodeRefusal.{CodeRefusal}
-use Rattle.code_file.specs.declared.refusal.CodeRefusal.TheVariants.{BadMagic, BadVersion, NotRising, ZeroCoefficient, BadOperand, TooMany}
+use Rattle.code_file.specs.declared.refusal.CodeRefusal.TheVariants.{BadMagic, BadVersion, NotRising, ZeroCoefficient, BadOperand}
 
 -- the same reader by another name
 pub reader_of_same : {X : Type 0} {read read' : Rest → Reading X} {spell : X → List ℕ} {Fits : X → Type 0} → ((rest : Rest) → read rest ≡ read' rest) → IsReader read spell Fits → IsReader read' spell Fits
@@ -151,11 +150,11 @@ front_text mark version front =
     let links = number_item (length front.links) ∷ (flat_map link_items front.links ++ middle) in
     ap (λ (t : List ℕ). mark ++ (byte_item version ++ (byte_item (mark_of front.field) ++ (byte_item front.rate ++ (number_item (length front.nodes) ++ t)))))
     (sym (concat-map-append name_item front.nodes links
-      ∙ ap (λ (t : List ℕ). flat_map name_item front.nodes ++ (number_item (length front.links) ++ t))
-      (concat-flat_map-append link_items front.links middle
-        ∙ ap (λ (t : List ℕ). flat_map (λ link. concat (link_items link)) front.links ++ (number_item front.source ++ (number_item (length front.sinks) ++ t)))
-        (concat-map-append number_item front.sinks last
-          ∙ ap (λ (t : List ℕ). flat_map number_item front.sinks ++ (number_item (length listed) ++ t)) (concat-flat_map pattern_items listed)))))
+    ∙ ap (λ (t : List ℕ). flat_map name_item front.nodes ++ (number_item (length front.links) ++ t))
+    (concat-flat_map-append link_items front.links middle
+    ∙ ap (λ (t : List ℕ). flat_map (λ link. concat (link_items link)) front.links ++ (number_item front.source ++ (number_item (length front.sinks) ++ t)))
+    (concat-map-append number_item front.sinks last
+    ∙ ap (λ (t : List ℕ). flat_map number_item front.sinks ++ (number_item (length listed) ++ t)) (concat-flat_map pattern_items listed)))))
 
 -- what is left, where nothing is said
 abbrev nothing_of : Rest → Reading (Unit {0})
@@ -176,43 +175,43 @@ front_reader mark version four small =
     reader_of_same
     (λ rest. silent_mark_first mark version rest (λ rest. field_at rest >>= λ field. rate_at field.1 >>= λ rate. nodes_at rate.1 >>= λ nodes. links_at (length nodes.0) nodes.1 >>= λ links. source_at (length nodes.0) links.1 >>= λ source. sinks_at (length nodes.0) source.0 source.1 >>= λ sinks. patterns_at (length links.0) (length sinks.0) sinks.1 >>= λ patterns. Ok (record { field = field.0; rate = rate.0; nodes = nodes.0; links = links.0; source = source.0; sinks = sinks.0; patterns = patterns.0 }, patterns.1)))
     (same_reader
-      (then_reader (λ (f : Front). tt {0}) (silent_mark_reader mark version four small)
-        (λ nothing. then_reader (λ (f : Front). f.field) field_reader
-          (λ field. then_reader (λ (f : Front). f.rate) rate_reader
-            (λ rate. then_reader (λ (f : Front). f.nodes) nodes_reader
-              (λ nodes. then_reader (λ (f : Front). f.links) (links_reader (length nodes))
-                (λ links. then_reader (λ (f : Front). f.source) (source_reader (length nodes))
-                  (λ source. then_reader (λ (f : Front). f.sinks) (sinks_reader (length nodes) source)
-                    (λ sinks. then_reader (λ (f : Front). f.patterns) (patterns_reader (length links) (length sinks))
-                      (λ patterns. empty_reader (record { field = field; rate = rate; nodes = nodes; links = links; source = source; sinks = sinks; patterns = patterns }))
-                      (λ patterns f fit more. ap (λ (f : Front). f.patterns) more))
-                    (λ sinks f fit more. ap (λ (f : Front). f.sinks) more.1))
-                  (λ source f fit more. ap (λ (f : Front). f.source) more.1.1))
-                (λ links f fit more. ap (λ (f : Front). f.links) more.1.1.1))
-              (λ nodes f fit more. ap (λ (f : Front). f.nodes) more.1.1.1.1))
-            (λ rate f fit more. ap (λ (f : Front). f.rate) more.1.1.1.1.1))
-          (λ field f fit more. ap (λ (f : Front). f.field) more.1.1.1.1.1.1))
-        (λ nothing f fit more. refl))
-      (λ f fit.
-        in_a_row mark (byte_item version) (byte_item (mark_of f.field)) (byte_item f.rate) (number_item (length f.nodes)) (flat_map name_item f.nodes) (number_item (length f.links))
-        (flat_map (λ link. concat (link_items link)) f.links) (number_item f.source) (number_item (length f.sinks)) (flat_map number_item f.sinks)
-        (number_item (length (drop 1 f.patterns))) (flat_map (λ pattern. concat (pattern_items pattern)) (drop 1 f.patterns))
-        ∙ front_text mark version f)
-      (λ f fit. record {
-        some_rate = fit.1.1.0.0;
-        low_rate = fit.1.1.0.1;
-        few_nodes = fit.1.1.1.0.0;
-        nodes = fit.1.1.1.0.1;
-        few_links = fit.1.1.1.1.0.0;
-        links = fit.1.1.1.1.0.1;
-        source_fits = fit.1.1.1.1.1.0.0;
-        source = fit.1.1.1.1.1.0.1;
-        some_sink = fit.1.1.1.1.1.1.0.0;
-        few_sinks = fit.1.1.1.1.1.1.0.1.0;
-        sinks = fit.1.1.1.1.1.1.0.1.1;
-        patterns = fit.1.1.1.1.1.1.1.0;
-      })
-      (λ f is. (tt, (tt, ((is.some_rate, is.low_rate), ((is.few_nodes, is.nodes), ((is.few_links, is.links), ((is.source_fits, is.source), ((is.some_sink, (is.few_sinks, is.sinks)), (is.patterns, refl))))))))))
+    (then_reader (λ (f : Front). tt {0}) (silent_mark_reader mark version four small)
+    (λ nothing. then_reader (λ (f : Front). f.field) field_reader
+    (λ field. then_reader (λ (f : Front). f.rate) rate_reader
+    (λ rate. then_reader (λ (f : Front). f.nodes) nodes_reader
+    (λ nodes. then_reader (λ (f : Front). f.links) (links_reader (length nodes))
+    (λ links. then_reader (λ (f : Front). f.source) (source_reader (length nodes))
+    (λ source. then_reader (λ (f : Front). f.sinks) (sinks_reader (length nodes) source)
+    (λ sinks. then_reader (λ (f : Front). f.patterns) (patterns_reader (length links) (length sinks))
+    (λ patterns. empty_reader (record { field = field; rate = rate; nodes = nodes; links = links; source = source; sinks = sinks; patterns = patterns }))
+    (λ patterns f fit more. ap (λ (f : Front). f.patterns) more))
+    (λ sinks f fit more. ap (λ (f : Front). f.sinks) more.1))
+    (λ source f fit more. ap (λ (f : Front). f.source) more.1.1))
+    (λ links f fit more. ap (λ (f : Front). f.links) more.1.1.1))
+    (λ nodes f fit more. ap (λ (f : Front). f.nodes) more.1.1.1.1))
+    (λ rate f fit more. ap (λ (f : Front). f.rate) more.1.1.1.1.1))
+    (λ field f fit more. ap (λ (f : Front). f.field) more.1.1.1.1.1.1))
+    (λ nothing f fit more. refl))
+    (λ f fit.
+    in_a_row mark (byte_item version) (byte_item (mark_of f.field)) (byte_item f.rate) (number_item (length f.nodes)) (flat_map name_item f.nodes) (number_item (length f.links))
+    (flat_map (λ link. concat (link_items link)) f.links) (number_item f.source) (number_item (length f.sinks)) (flat_map number_item f.sinks)
+    (number_item (length (drop 1 f.patterns))) (flat_map (λ pattern. concat (pattern_items pattern)) (drop 1 f.patterns))
+    ∙ front_text mark version f)
+    (λ f fit. record {
+      some_rate = fit.1.1.0.0;
+      low_rate = fit.1.1.0.1;
+      few_nodes = fit.1.1.1.0.0;
+      nodes = fit.1.1.1.0.1;
+      few_links = fit.1.1.1.1.0.0;
+      links = fit.1.1.1.1.0.1;
+      source_fits = fit.1.1.1.1.1.0.0;
+      source = fit.1.1.1.1.1.0.1;
+      some_sink = fit.1.1.1.1.1.1.0.0;
+      few_sinks = fit.1.1.1.1.1.1.0.1.0;
+      sinks = fit.1.1.1.1.1.1.0.1.1;
+      patterns = fit.1.1.1.1.1.1.1.0;
+    })
+    (λ f is. (tt, (tt, ((is.some_rate, is.low_rate), ((is.few_nodes, is.nodes), ((is.few_links, is.links), ((is.source_fits, is.source), ((is.some_sink, (is.few_sinks, is.sinks)), (is.patterns, refl))))))))))
 
 -- ---- the operands
 
@@ -250,10 +249,10 @@ unfolding operand_at
 operand_reader front link earlier =
     same_reader
     (then_reader (λ (operand : Operand). operand.from) (number_reader (from_conditions front link earlier))
-      (λ from. then_reader (λ (operand : Operand). operand.times) (element_reader front.field times_conditions)
-        (λ times. empty_reader (record { from = from; times = times }))
-        (λ times operand fit more. ap (λ (o : Operand). o.times) more))
-      (λ from operand fit more. ap (λ (o : Operand). o.from) more.1))
+    (λ from. then_reader (λ (operand : Operand). operand.times) (element_reader front.field times_conditions)
+    (λ times. empty_reader (record { from = from; times = times }))
+    (λ times operand fit more. ap (λ (o : Operand). o.times) more))
+    (λ from operand fit more. ap (λ (o : Operand). o.from) more.1))
     (λ operand fit. refl)
     (λ operand fit. record { fits = fit.0.0; rises = fit.0.1.0; reads = fit.0.1.1; coefficient = fit.1.0.0; nonzero = fit.1.0.1 })
     (λ operand fit. ((fit.fits, (fit.rises, fit.reads)), ((fit.coefficient, fit.nonzero), refl)))
@@ -324,16 +323,16 @@ unfolding decoder_at
 decoder_reader front sink =
     same_reader
     (then_reader (λ (decoder : Decoder). decoder.links)
-      (repeated_reader (λ earlier at. number_at at (λ n. (not (is_above_last earlier n), NotRising at.at) ∷ (not (leads_into front.links sink n), BadOperand at.at) ∷ []))
-        number_item (DecoderLinkAfter front sink) (decoder_link_reader front sink) front.rate [])
-      (λ links. then_reader (λ (decoder : Decoder). decoder.entries)
-        (repeated_reader (λ earlier at. element_at front.field at (λ n. [])) (element_item front.field) (λ earlier n. n < size_of front.field) (entry_reader front.field) (front.rate * front.rate) [])
-        (λ entries. empty_reader (record { links = links; entries = entries }))
-        (λ entries decoder fit more. ap (λ (d : Decoder). d.entries) more))
-      (λ links decoder fit more. ap (λ (d : Decoder). d.links) more.1))
+    (repeated_reader (λ earlier at. number_at at (λ n. (not (is_above_last earlier n), NotRising at.at) ∷ (not (leads_into front.links sink n), BadOperand at.at) ∷ []))
+    number_item (DecoderLinkAfter front sink) (decoder_link_reader front sink) front.rate [])
+    (λ links. then_reader (λ (decoder : Decoder). decoder.entries)
+    (repeated_reader (λ earlier at. element_at front.field at (λ n. [])) (element_item front.field) (λ earlier n. n < size_of front.field) (entry_reader front.field) (front.rate * front.rate) [])
+    (λ entries. empty_reader (record { links = links; entries = entries }))
+    (λ entries decoder fit more. ap (λ (d : Decoder). d.entries) more))
+    (λ links decoder fit more. ap (λ (d : Decoder). d.links) more.1))
     (λ decoder fit.
-      ap (λ (t : List ℕ). flat_map number_item decoder.links ++ t) (append-nil (flat_map (element_item front.field) decoder.entries) ∙ sym (concat-map (element_item front.field) decoder.entries))
-      ∙ sym (concat-map-append number_item decoder.links (map (element_item front.field) decoder.entries)))
+    ap (λ (t : List ℕ). flat_map number_item decoder.links ++ t) (append-nil (flat_map (element_item front.field) decoder.entries) ∙ sym (concat-map (element_item front.field) decoder.entries))
+    ∙ sym (concat-map-append number_item decoder.links (map (element_item front.field) decoder.entries)))
     (λ decoder fit. record { link_count = fit.0.0; links = fit.0.1.1; entry_count = fit.1.0.0; entries = fit.1.0.1.1 })
     (λ decoder fit. ((fit.link_count, (refl, fit.links)), ((fit.entry_count, (refl, fit.entries)), refl)))
 
@@ -368,8 +367,8 @@ body_text contents =
     let tables = operand_table_items field contents.operands ++ decoder_table_items field contents.decoders in
     ap (λ (t : List ℕ). concat front ++ t)
     (ap (λ (t : List ℕ). flat_map (λ operands. concat (operand_list_items field operands)) contents.operands ++ t)
-      (append-nil (flat_map (λ decoder. concat (decoder_items field decoder)) contents.decoders) ∙ sym (concat-flat_map (decoder_items field) contents.decoders))
-      ∙ sym (concat-flat_map-append (operand_list_items field) contents.operands (decoder_table_items field contents.decoders)))
+    (append-nil (flat_map (λ decoder. concat (decoder_items field decoder)) contents.decoders) ∙ sym (concat-flat_map (decoder_items field) contents.decoders))
+    ∙ sym (concat-flat_map-append (operand_list_items field) contents.operands (decoder_table_items field contents.decoders)))
     ∙ sym (concat-append front tables)
 
 -- all but the end of the file
@@ -378,17 +377,17 @@ unfolding body_at
 body_reader =
     same_reader
     (then_reader (λ (c : Contents). c.front) (front_reader (codes "LIFC") 1 refl (lit< tt))
-      (λ front. same_reader {spell' = λ c. tables_text c.front.field c}
-        (then_reader (λ (c : Contents). c.operands)
-          (each_reader (operands_at_link front) (λ operands. concat (operand_list_items front.field operands)) (AreOperandsRead front) (operands_reader front) front.links)
-          (λ operands. then_reader (λ (c : Contents). c.decoders)
-            (each_reader (decoder_at front) (λ decoder. concat (decoder_items front.field decoder)) (IsDecoderRead front) (decoder_reader front) (demand_sinks front))
-            (λ decoders. empty_reader (record { front = front; operands = operands; decoders = decoders }))
-            (λ decoders c fit more. ap (λ (c : Contents). c.decoders) more))
-          (λ operands c fit more. ap (λ (c : Contents). c.operands) more.1))
-        (λ c fit. ap (λ (f : Front). tables_text f.field c) (sym (ap (λ (c : Contents). c.front) fit.1.1)))
-        (λ c fit. fit) (λ c fit. fit))
-      (λ front c fit more. ap (λ (c : Contents). c.front) more.1.1))
+    (λ front. same_reader {spell' = λ c. tables_text c.front.field c}
+    (then_reader (λ (c : Contents). c.operands)
+    (each_reader (operands_at_link front) (λ operands. concat (operand_list_items front.field operands)) (AreOperandsRead front) (operands_reader front) front.links)
+    (λ operands. then_reader (λ (c : Contents). c.decoders)
+    (each_reader (decoder_at front) (λ decoder. concat (decoder_items front.field decoder)) (IsDecoderRead front) (decoder_reader front) (demand_sinks front))
+    (λ decoders. empty_reader (record { front = front; operands = operands; decoders = decoders }))
+    (λ decoders c fit more. ap (λ (c : Contents). c.decoders) more))
+    (λ operands c fit more. ap (λ (c : Contents). c.operands) more.1))
+    (λ c fit. ap (λ (f : Front). tables_text f.field c) (sym (ap (λ (c : Contents). c.front) fit.1.1)))
+    (λ c fit. fit) (λ c fit. fit))
+    (λ front c fit more. ap (λ (c : Contents). c.front) more.1.1))
     (λ c fit. body_text c)
     (λ c fit. record { front = fit.0; operands = fit.1.0; decoders = fit.1.1.0 })
     (λ c fit. (fit.front, (fit.operands, (fit.decoders, refl))))

@@ -1,7 +1,6 @@
 -- What the items of a file say one by one is what holds of a code.
-use Rattle.std.specs.Prelude.{◌≡◌, ℕ, zero, suc, ◌+◌, ◌*◌, ◌<◌, ◌≤◌, Bool, true, false, not, ◌||◌, ◌&&◌, ◌==◌, nat_eq, nat_lt, IsTrue, Option, Some, None, List, [], ◌∷◌, ◌++◌, length, map, drop, slice_get, codes, if◌then◌else◌}
+use Rattle.std.specs.Prelude.{◌≡◌, ℕ, zero, suc, ◌+◌, ◌*◌, ◌<◌, ◌≤◌, Bool, true, false, ◌||◌, ◌&&◌, ◌==◌, nat_eq, nat_lt, List, [], ◌∷◌, length, map, drop, codes, if◌then◌else◌}
 use Rattle.std.specs.List.{list_all, list_any}
-use Rattle.std.specs.Option.{option_map_or}
 use Rattle.std.specs.Str.{bytes_eq}
 use Rattle.std.proofs.Common.{refl, sym, subst, ap, ◌∙◌, arith}
 use Rattle.std.proofs.lemmas.Bool.{false≢true, and_parts, and_from, or_parts, not-true, not_from_false, eqb-true, eq-eqb, ltb-true, lt-ltb}
@@ -10,22 +9,20 @@ use Rattle.std.proofs.lemmas.List.Folds.{list_all-map}
 use Rattle.std.proofs.lemmas.Slice.Eq.{bytes_eq-Decides}
 use Rattle.gf_tables.specs.Product.{size_of}
 use Rattle.gf_tables.specs.declared.kind.FieldKind.{FieldKind}
-use Rattle.gf_tables.specs.declared.kind.FieldKind.TheVariants.{Eight, Sixteen}
-use Rattle.net_model.specs.Demands.{demand_count, sinks_of_demands}
+use Rattle.net_model.specs.Demands.{sinks_of_demands}
 use Rattle.net_model.specs.Lists.{are_distinct, is_rising, is_among}
-use Rattle.net_model.specs.Name.{is_name}
 use Rattle.net_model.specs.Network.{are_names, is_link_among, is_sink_among, is_listed_pattern, are_patterns, IsNetwork}
 use Rattle.net_model.specs.declared.Link.{Link}
 use Rattle.net_model.specs.declared.Pattern.{Pattern}
 use Rattle.net_model.specs.declared.net.Net.{Net}
-use Rattle.node_program.specs.Code.{choice_of, leads_into, are_in_order, is_source_of, are_operands, are_operands_of, is_decoder, are_decoders, IsDraft, IsCode}
+use Rattle.node_program.specs.Code.{choice_of, leads_into, are_in_order, is_source_of, are_operands, are_operands_of, is_decoder, are_decoders, IsCode}
 use Rattle.node_program.specs.declared.Operand.{Operand}
 use Rattle.node_program.specs.declared.Decoder.{Decoder}
 use Rattle.node_program.specs.declared.code.Code.{Code}
-use Rattle.code_file.specs.Reading.{Front, Contents, may_read, is_above_last, demand_sinks}
+use Rattle.code_file.specs.Reading.{Front, Contents}
 use Rattle.code_file.specs.Spelling.{front_of, contents_in, AreContents}
-use Rattle.code_file.specs.Readers.{ok_of, AllAfter, EachFits}
-use Rattle.code_file.specs.FrontReaders.{NameAfter, LinkAfter, SinkAfter, LinkNumberAfter, PatternAfter, ArePatternsRead, none_pattern}
+use Rattle.code_file.specs.Readers.{AllAfter, EachFits}
+use Rattle.code_file.specs.FrontReaders.{NameAfter, LinkAfter, SinkAfter, LinkNumberAfter, PatternAfter, none_pattern}
 use Rattle.code_file.specs.CodeReaders.{OperandAfter, AreOperandsRead, DecoderLinkAfter, IsDecoderRead, IsFrontRead, AreContentsRead}
 use Rattle.code_file.specs.AfterLaws.{Rises, LeadsOn, AllAfter-weaker, AllAfter-both, AllAfter-map, AllAfter-from_map, AllAfter-from_list_all, list_all-from_AllAfter, list_any-map, nat_eq-swap, are_distinct-from_AllAfter, AllAfter-from_are_distinct, are_names-from_AllAfter, AllAfter-from_are_names, is_rising-from_AllAfter, AllAfter-from_is_rising, length-is_rising, length-are_distinct, are_in_order-from_AllAfter, AllAfter-from_are_in_order}
 
@@ -43,17 +40,17 @@ link_names-from_read : (nodes : ℕ) (links : List Link) → AllAfter (LinkAfter
 link_names-from_read nodes links all =
     are_names-from_AllAfter (map (λ (link : Link). link.name) links)
     (AllAfter-map (λ (link : Link). link.name) NameAfter [] links
-      (AllAfter-weaker (LinkAfter nodes) (λ before link. NameAfter (map (λ (one : Link). one.name) before) link.name) [] links
-        (λ before link is. (is.name, list_any-map (λ (one : Link). one.name) (bytes_eq link.name) before ∙ is.is_new)) all))
+    (AllAfter-weaker (LinkAfter nodes) (λ before link. NameAfter (map (λ (one : Link). one.name) before) link.name) [] links
+    (λ before link is. (is.name, list_any-map (λ (one : Link). one.name) (bytes_eq link.name) before ∙ is.is_new)) all))
 
 -- the tails and heads of the links
 link_ends-from_read : (nodes : ℕ) (links : List Link) → AllAfter (LinkAfter nodes) [] links → list_all (is_link_among nodes) links ≡ true
 link_ends-from_read nodes links all =
     list_all-from_AllAfter (is_link_among nodes) [] links
     (AllAfter-weaker (LinkAfter nodes) (λ before link. is_link_among nodes link ≡ true) [] links
-      (λ before link is.
-        let apart = or_parts (link.head == link.tail) (is_among (map (λ one. one.tail) before) link.head) is.leads_on in
-        and_from _ _ (and_from _ _ (lt-ltb _ _ is.tail) (lt-ltb _ _ is.head)) (not_from_false _ (nat_eq-swap link.tail link.head ∙ apart.0))) all)
+    (λ before link is.
+    let apart = or_parts (link.head == link.tail) (is_among (map (λ one. one.tail) before) link.head) is.leads_on in
+    and_from _ _ (and_from _ _ (lt-ltb _ _ is.tail) (lt-ltb _ _ is.head)) (not_from_false _ (nat_eq-swap link.tail link.head ∙ apart.0))) all)
 
 -- the order of the links
 pub link_order-from_read : (nodes : ℕ) (links : List Link) → AllAfter (LinkAfter nodes) [] links → are_in_order [] links ≡ true
@@ -70,18 +67,18 @@ LinkAfter-from_network nodes links few names ends order =
     let ordered : AllAfter LeadsOn [] links = AllAfter-from_are_in_order links order in
     AllAfter-weaker (λ before link. Named before link × (Ended before link × LeadsOn before link)) (LinkAfter nodes) [] links
     (λ before link is.
-      let inside = and_parts _ _ (and_parts _ _ is.1.0).0 in
-      let tail : link.tail < nodes = ltb-true _ _ inside.0 in
-      let head : link.head < nodes = ltb-true _ _ inside.1 in
-      record {
-        name = is.0.0;
-        is_new = sym (list_any-map (λ (one : Link). one.name) (bytes_eq link.name) before) ∙ is.0.1;
-        tail_fits = omega arith;
-        tail = tail;
-        head_fits = omega arith;
-        head = head;
-        leads_on = is.1.1;
-      })
+    let inside = and_parts _ _ (and_parts _ _ is.1.0).0 in
+    let tail : link.tail < nodes = ltb-true _ _ inside.0 in
+    let head : link.head < nodes = ltb-true _ _ inside.1 in
+    record {
+      name = is.0.0;
+      is_new = sym (list_any-map (λ (one : Link). one.name) (bytes_eq link.name) before) ∙ is.0.1;
+      tail_fits = omega arith;
+      tail = tail;
+      head_fits = omega arith;
+      head = head;
+      leads_on = is.1.1;
+    })
     (AllAfter-both Named (λ before link. Ended before link × LeadsOn before link) [] links named (AllAfter-both Ended LeadsOn [] links ended ordered))
 
 -- ---- sinks
@@ -91,7 +88,7 @@ sink_nodes-from_read : (nodes source : ℕ) (sinks : List ℕ) → AllAfter (Sin
 sink_nodes-from_read nodes source sinks all =
     list_all-from_AllAfter (is_sink_among nodes source) [] sinks
     (AllAfter-weaker (SinkAfter nodes source) (λ before sink. is_sink_among nodes source sink ≡ true) [] sinks
-      (λ before sink is. and_from _ _ (lt-ltb _ _ is.node) (not_from_false _ is.not_source)) all)
+    (λ before sink is. and_from _ _ (lt-ltb _ _ is.node) (not_from_false _ is.not_source)) all)
 
 -- a number is among others, whichever side of the test it's on
 is_among-same : (numbers : List ℕ) (n : ℕ) → list_any (nat_eq n) numbers ≡ is_among numbers n
@@ -111,34 +108,35 @@ SinkAfter-from_network nodes source sinks few among distinct =
     let New : List ℕ → ℕ → Type 0 = λ before sink. list_any (nat_eq sink) before ≡ false in
     AllAfter-weaker (λ before sink. Among before sink × New before sink) (SinkAfter nodes source) [] sinks
     (λ before sink is.
-      let parts = and_parts _ _ is.0 in
-      let node : sink < nodes = ltb-true _ _ parts.0 in
-      record { fits = omega arith; node = node; not_source = not-true _ parts.1; is_new = sym (is_among-same before sink) ∙ is.1 })
+    let parts = and_parts _ _ is.0 in
+    let node : sink < nodes = ltb-true _ _ parts.0 in
+    record { fits = omega arith; node = node; not_source = not-true _ parts.1; is_new = sym (is_among-same before sink) ∙ is.1 })
     (AllAfter-both Among New [] sinks (AllAfter-from_list_all (is_sink_among nodes source) [] sinks among) (AllAfter-from_are_distinct nat_eq nat_eq-swap sinks distinct))
 
 -- ---- patterns
 
 -- the links of a pattern
 pattern_links-from_read : (links : ℕ) (numbers : List ℕ) → AllAfter (LinkNumberAfter links) [] numbers → (is_rising numbers ≡ true) × (list_all (λ link. nat_lt link links) numbers ≡ true)
-pattern_links-from_read links numbers all =
-    (is_rising-from_AllAfter numbers (AllAfter-weaker (LinkNumberAfter links) Rises [] numbers (λ before n is. is.rises) all),
-      list_all-from_AllAfter (λ link. nat_lt link links) [] numbers (AllAfter-weaker (LinkNumberAfter links) (λ before n. nat_lt n links ≡ true) [] numbers (λ before n is. lt-ltb _ _ is.below) all))
+pattern_links-from_read links numbers all = (
+  is_rising-from_AllAfter numbers (AllAfter-weaker (LinkNumberAfter links) Rises [] numbers (λ before n is. is.rises) all),
+  list_all-from_AllAfter (λ link. nat_lt link links) [] numbers (AllAfter-weaker (LinkNumberAfter links) (λ before n. nat_lt n links ≡ true) [] numbers (λ before n is. lt-ltb _ _ is.below) all),
+)
 
 -- the links of a pattern of a network are read
 LinkNumberAfter-from_network : (links : ℕ) (numbers : List ℕ) → links ≤ 8192 → is_rising numbers ≡ true → list_all (λ link. nat_lt link links) numbers ≡ true → AllAfter (LinkNumberAfter links) [] numbers
 LinkNumberAfter-from_network links numbers few rising below =
     AllAfter-weaker (λ before n. Rises before n × (nat_lt n links ≡ true)) (LinkNumberAfter links) [] numbers
     (λ before n is.
-      let within : n < links = ltb-true _ _ is.1 in
-      record { fits = omega arith; below = within; rises = is.0 })
+    let within : n < links = ltb-true _ _ is.1 in
+    record { fits = omega arith; below = within; rises = is.0 })
     (AllAfter-both Rises (λ before n. nat_lt n links ≡ true) [] numbers (AllAfter-from_is_rising numbers rising) (AllAfter-from_list_all (λ link. nat_lt link links) [] numbers below))
 
 -- the names of the patterns
 pattern_names-from_read : (links : ℕ) (listed : List Pattern) → AllAfter (PatternAfter links) (none_pattern ∷ []) listed → are_names (map (λ pattern. pattern.name) (none_pattern ∷ listed)) ≡ true
 pattern_names-from_read links listed all =
     let named = AllAfter-map (λ (pattern : Pattern). pattern.name) NameAfter (none_pattern ∷ []) listed
-      (AllAfter-weaker (PatternAfter links) (λ before pattern. NameAfter (map (λ (one : Pattern). one.name) before) pattern.name) (none_pattern ∷ []) listed
-        (λ before pattern is. (is.name, list_any-map (λ (one : Pattern). one.name) (bytes_eq pattern.name) before ∙ is.is_new)) all) in
+    (AllAfter-weaker (PatternAfter links) (λ before pattern. NameAfter (map (λ (one : Pattern). one.name) before) pattern.name) (none_pattern ∷ []) listed
+    (λ before pattern is. (is.name, list_any-map (λ (one : Pattern). one.name) (bytes_eq pattern.name) before ∙ is.is_new)) all) in
     are_names-from_AllAfter (codes "none" ∷ map (λ (pattern : Pattern). pattern.name) listed) ((refl, refl), named)
 
 -- the patterns
@@ -146,9 +144,9 @@ are_patterns-from_read : (links : ℕ) (listed : List Pattern) → AllAfter (Pat
 are_patterns-from_read links listed all =
     list_all-from_AllAfter (is_listed_pattern links) (none_pattern ∷ []) listed
     (AllAfter-weaker (PatternAfter links) (λ before pattern. is_listed_pattern links pattern ≡ true) (none_pattern ∷ []) listed
-      (λ before pattern is.
-        let numbers = pattern_links-from_read links pattern.links is.numbers in
-        and_from _ _ (and_from _ _ (lt-ltb _ _ is.some_link) numbers.0) numbers.1) all)
+    (λ before pattern is.
+    let numbers = pattern_links-from_read links pattern.links is.numbers in
+    and_from _ _ (and_from _ _ (lt-ltb _ _ is.some_link) numbers.0) numbers.1) all)
 
 -- the first of patterns is `none` without links
 none_is_first : (links : ℕ) (patterns : List Pattern) → are_patterns links patterns ≡ true → patterns ≡ none_pattern ∷ drop 1 patterns
@@ -167,20 +165,20 @@ PatternAfter-from_network links listed few names are =
     let Named : List Pattern → Pattern → Type 0 = λ before pattern. NameAfter (map (λ (one : Pattern). one.name) before) pattern.name in
     let Listed : List Pattern → Pattern → Type 0 = λ before pattern. is_listed_pattern links pattern ≡ true in
     let named : AllAfter Named (none_pattern ∷ []) listed =
-      AllAfter-from_map (λ (pattern : Pattern). pattern.name) NameAfter (none_pattern ∷ []) listed (AllAfter-from_are_names (codes "none" ∷ map (λ (pattern : Pattern). pattern.name) listed) names).1 in
+    AllAfter-from_map (λ (pattern : Pattern). pattern.name) NameAfter (none_pattern ∷ []) listed (AllAfter-from_are_names (codes "none" ∷ map (λ (pattern : Pattern). pattern.name) listed) names).1 in
     AllAfter-weaker (λ before pattern. Named before pattern × Listed before pattern) (PatternAfter links) (none_pattern ∷ []) listed
     (λ before pattern is.
-      let upper = and_parts (nat_lt 0 (length pattern.links) && is_rising pattern.links) (list_all (λ link. nat_lt link links) pattern.links) is.1 in
-      let lower = and_parts (nat_lt 0 (length pattern.links)) (is_rising pattern.links) upper.0 in
-      let within : length pattern.links ≤ links = length-is_rising pattern.links links lower.1 upper.1 in
-      record {
-        name = is.0.0;
-        is_new = sym (list_any-map (λ (one : Pattern). one.name) (bytes_eq pattern.name) before) ∙ is.0.1;
-        count_fits = omega arith;
-        some_link = ltb-true _ _ lower.0;
-        few_links = within;
-        numbers = LinkNumberAfter-from_network links pattern.links few lower.1 upper.1;
-      })
+    let upper = and_parts (nat_lt 0 (length pattern.links) && is_rising pattern.links) (list_all (λ link. nat_lt link links) pattern.links) is.1 in
+    let lower = and_parts (nat_lt 0 (length pattern.links)) (is_rising pattern.links) upper.0 in
+    let within : length pattern.links ≤ links = length-is_rising pattern.links links lower.1 upper.1 in
+    record {
+      name = is.0.0;
+      is_new = sym (list_any-map (λ (one : Pattern). one.name) (bytes_eq pattern.name) before) ∙ is.0.1;
+      count_fits = omega arith;
+      some_link = ltb-true _ _ lower.0;
+      few_links = within;
+      numbers = LinkNumberAfter-from_network links pattern.links few lower.1 upper.1;
+    })
     (AllAfter-both Named Listed (none_pattern ∷ []) listed named (AllAfter-from_list_all (is_listed_pattern links) (none_pattern ∷ []) listed are))
 
 -- ---- the front
@@ -224,7 +222,7 @@ IsFrontRead-from_network front is some_rate low_rate few_demands order =
     let count : length front.patterns ≡ length listed + 1 = ap (λ (ps : List Pattern). length ps) first ∙ omega arith in
     let demands : length front.sinks * (length listed + 1) ≤ 65536 = rw count at few_demands in
     let sinks : length front.sinks ≤ nodes =
-      length-are_distinct front.sinks nodes is.distinct_sinks (list_all-implied (is_sink_among nodes front.source) (λ sink. nat_lt sink nodes) front.sinks (λ sink among. (and_parts _ _ among).0) is.sink_nodes) in
+    length-are_distinct front.sinks nodes is.distinct_sinks (list_all-implied (is_sink_among nodes front.source) (λ sink. nat_lt sink nodes) front.sinks (λ sink among. (and_parts _ _ among).0) is.sink_nodes) in
     record {
       some_rate = some_rate;
       low_rate = low_rate;
@@ -242,8 +240,8 @@ IsFrontRead-from_network front is some_rate low_rate few_demands order =
         few_demands = demands;
         none_first = first;
         each_listed = PatternAfter-from_network links listed is.few_links
-          (subst (λ (ps : List Pattern). are_names (map (λ pattern. pattern.name) ps) ≡ true) first is.pattern_names)
-          (subst (λ (ps : List Pattern). are_patterns links ps ≡ true) first is.pattern_links);
+            (subst (λ (ps : List Pattern). are_names (map (λ pattern. pattern.name) ps) ≡ true) first is.pattern_names)
+            (subst (λ (ps : List Pattern). are_patterns links ps ≡ true) first is.pattern_links);
       };
     }
 
@@ -261,11 +259,11 @@ module _ (net : Net) (rate : ℕ) (field : FieldKind) where
   are_operands-from_read link operands is =
       let front = front_of net rate field in
       let rising = is_rising-from_AllAfter (map (λ (operand : Operand). operand.from) operands)
-        (AllAfter-map (λ (operand : Operand). operand.from) Rises [] operands
-          (AllAfter-weaker (OperandAfter front link) (λ before operand. Rises (map (λ (one : Operand). one.from) before) operand.from) [] operands (λ before operand fit. fit.rises) is.each)) in
+      (AllAfter-map (λ (operand : Operand). operand.from) Rises [] operands
+      (AllAfter-weaker (OperandAfter front link) (λ before operand. Rises (map (λ (one : Operand). one.from) before) operand.from) [] operands (λ before operand fit. fit.rises) is.each)) in
       let each = list_all-from_AllAfter (λ operand. is_source_of net rate link operand.from && nat_lt 0 operand.times && nat_lt operand.times (size_of field)) [] operands
-        (AllAfter-weaker (OperandAfter front link) (λ before operand. (is_source_of net rate link operand.from && nat_lt 0 operand.times && nat_lt operand.times (size_of field)) ≡ true) [] operands
-          (λ before operand fit. and_from _ _ (and_from _ _ fit.reads (lt-ltb _ _ fit.nonzero)) (lt-ltb _ _ fit.coefficient)) is.each) in
+      (AllAfter-weaker (OperandAfter front link) (λ before operand. (is_source_of net rate link operand.from && nat_lt 0 operand.times && nat_lt operand.times (size_of field)) ≡ true) [] operands
+      (λ before operand fit. and_from _ _ (and_from _ _ fit.reads (lt-ltb _ _ fit.nonzero)) (lt-ltb _ _ fit.coefficient)) is.each) in
       and_from _ _ rising each
 
   -- the operands of all links
@@ -292,18 +290,18 @@ module _ (net : Net) (rate : ℕ) (field : FieldKind) where
       let Rising : List Operand → Operand → Type 0 = λ before operand. Rises (map (λ (one : Operand). one.from) before) operand.from in
       let Tested : List Operand → Operand → Type 0 = λ before operand. test operand ≡ true in
       let below : list_all (λ n. nat_lt n 8192) numbers ≡ true =
-        list_all-map (λ n. nat_lt n 8192) (λ (operand : Operand). operand.from) operands
-        ∙ list_all-implied test (λ operand. nat_lt operand.from 8192) operands
-          (λ operand h. lt-ltb _ _ (reads_low link operand.from low few (and_parts (is_source_of net rate link operand.from) (nat_lt 0 operand.times) (and_parts _ _ h).0).0)) parts.1 in
+      list_all-map (λ n. nat_lt n 8192) (λ (operand : Operand). operand.from) operands
+      ∙ list_all-implied test (λ operand. nat_lt operand.from 8192) operands
+      (λ operand h. lt-ltb _ _ (reads_low link operand.from low few (and_parts (is_source_of net rate link operand.from) (nat_lt 0 operand.times) (and_parts _ _ h).0).0)) parts.1 in
       record {
         few_operands = omega (arith, length-is_rising numbers 8192 parts.0 below, length-map operands (λ (operand : Operand). operand.from));
         each = AllAfter-weaker (λ before operand. Rising before operand × Tested before operand) (OperandAfter (front_of net rate field) link) [] operands
-          (λ before operand is.
+            (λ before operand is.
             let upper = and_parts (is_source_of net rate link operand.from && nat_lt 0 operand.times) (nat_lt operand.times (size_of field)) is.1 in
             let lower = and_parts (is_source_of net rate link operand.from) (nat_lt 0 operand.times) upper.0 in
             let small : operand.from < 8192 = reads_low link operand.from low few lower.0 in
             record { fits = omega arith; rises = is.0; reads = lower.0; coefficient = ltb-true _ _ upper.1; nonzero = ltb-true _ _ lower.1 })
-          (AllAfter-both Rising Tested [] operands (AllAfter-from_map (λ (operand : Operand). operand.from) Rises [] operands (AllAfter-from_is_rising numbers parts.0)) (AllAfter-from_list_all test [] operands parts.1));
+            (AllAfter-both Rising Tested [] operands (AllAfter-from_map (λ (operand : Operand). operand.from) Rises [] operands (AllAfter-from_is_rising numbers parts.0)) (AllAfter-from_list_all test [] operands parts.1));
       }
 
   -- the operands of all links of a code are read
@@ -321,9 +319,9 @@ module _ (net : Net) (rate : ℕ) (field : FieldKind) where
       let front = front_of net rate field in
       let rising = is_rising-from_AllAfter decoder.links (AllAfter-weaker (DecoderLinkAfter front sink) Rises [] decoder.links (λ before n fit. fit.rises) is.links) in
       let into = list_all-from_AllAfter (leads_into net.links sink) [] decoder.links
-        (AllAfter-weaker (DecoderLinkAfter front sink) (λ before n. leads_into net.links sink n ≡ true) [] decoder.links (λ before n fit. fit.into) is.links) in
+      (AllAfter-weaker (DecoderLinkAfter front sink) (λ before n. leads_into net.links sink n ≡ true) [] decoder.links (λ before n fit. fit.into) is.links) in
       let entries = list_all-from_AllAfter (λ entry. nat_lt entry (size_of field)) [] decoder.entries
-        (AllAfter-weaker (λ before n. n < size_of field) (λ before n. nat_lt n (size_of field) ≡ true) [] decoder.entries (λ before n below. lt-ltb _ _ below) is.entries) in
+      (AllAfter-weaker (λ before n. n < size_of field) (λ before n. nat_lt n (size_of field) ≡ true) [] decoder.entries (λ before n below. lt-ltb _ _ below) is.entries) in
       and_from _ _ (and_from _ _ (and_from _ _ (and_from _ _ (eq-eqb _ _ is.link_count) rising) into) (eq-eqb _ _ is.entry_count)) entries
 
   -- the decoders of all demands
@@ -347,11 +345,11 @@ module _ (net : Net) (rate : ℕ) (field : FieldKind) where
       record {
         link_count = eqb-true _ _ p1.0;
         links = AllAfter-weaker (λ before n. Rises before n × Into before n) (DecoderLinkAfter (front_of net rate field) sink) [] decoder.links
-          (λ before n both. record { fits = omega (arith, leads_below net.links sink n both.1); rises = both.0; into = both.1 })
-          (AllAfter-both Rises Into [] decoder.links (AllAfter-from_is_rising decoder.links p1.1) (AllAfter-from_list_all (leads_into net.links sink) [] decoder.links p2.1));
+            (λ before n both. record { fits = omega (arith, leads_below net.links sink n both.1); rises = both.0; into = both.1 })
+            (AllAfter-both Rises Into [] decoder.links (AllAfter-from_is_rising decoder.links p1.1) (AllAfter-from_list_all (leads_into net.links sink) [] decoder.links p2.1));
         entry_count = eqb-true _ _ p3.1;
         entries = AllAfter-weaker (λ before n. nat_lt n (size_of field) ≡ true) (λ before n. n < size_of field) [] decoder.entries (λ before n below. ltb-true _ _ below)
-          (AllAfter-from_list_all (λ entry. nat_lt entry (size_of field)) [] decoder.entries p4.1);
+            (AllAfter-from_list_all (λ entry. nat_lt entry (size_of field)) [] decoder.entries p4.1);
       }
 
   -- the decoders of a code are read

@@ -1,10 +1,9 @@
 -- Readers of the parts of a code file up to the operands.
-use Rattle.std.specs.Prelude.{◌≡◌, ℕ, zero, suc, ◌+◌, ◌*◌, ◌<◌, ◌≤◌, Bool, true, false, not, ◌||◌, ◌==◌, nat_lt, List, [], ◌∷◌, ◌++◌, length, map, drop, codes, Result, Ok, Err, ◌⊎◌, if◌then◌else◌}
+use Rattle.std.specs.Prelude.{◌≡◌, ℕ, ◌+◌, ◌*◌, ◌<◌, ◌≤◌, true, false, not, ◌||◌, ◌==◌, nat_lt, List, [], ◌∷◌, ◌++◌, length, map, drop, codes, ◌⊎◌, if◌then◌else◌}
 use Rattle.std.specs.List.{concat, flat_map, list_any}
 use Rattle.std.specs.Str.{bytes_eq}
-use Rattle.std.proofs.Common.{refl, sym, subst, ap, ◌∙◌, append_assoc, append-nil, arith, inl, inr}
+use Rattle.std.proofs.Common.{refl, sym, ap, ◌∙◌, append-nil, arith, inl, inr}
 use Rattle.std.proofs.lemmas.Bool.{or_parts, or_from, or_cases, or_left, or_right, not-false, not_from_true, ltb-true, ltb-false, lt-ltb, le-ltb, eqb-true, eqb-false, eq-eqb, ne_eqb}
-use Rattle.std.proofs.lemmas.Slice.Eq.{bytes_eq-Decides}
 use Rattle.gf_tables.specs.Product.{mark_of}
 use Rattle.gf_tables.specs.declared.kind.FieldKind.{FieldKind}
 use Rattle.gf_tables.specs.declared.kind.FieldKind.TheVariants.{Eight, Sixteen}
@@ -13,11 +12,10 @@ use Rattle.net_model.specs.Name.{is_name}
 use Rattle.net_model.specs.declared.Link.{Link}
 use Rattle.net_model.specs.declared.Pattern.{Pattern}
 use Rattle.code_file.specs.Items.{byte_item, number_item, name_item, link_items, pattern_items}
-use Rattle.code_file.specs.Reading.{Rest, Reading, ◌>>=◌, Front, item, byte_at, number_at, name_at, repeated_at, is_above_last, mark_at, field_at, rate_at, nodes_at, link_at, links_at, source_at, sinks_at, pattern_at, patterns_at, front_at}
-use Rattle.code_file.specs.Readers.{ok_of, IsBytes, IsReader, Takes, NoneHolds, AreNotMemory, AllAfter, bind_ok, bind_not_memory, ok_is, item_takes, item_again, item_not_memory, empty_reader, then_reader, same_reader, repeated_reader}
+use Rattle.code_file.specs.Reading.{Rest, Reading, ◌>>=◌, number_at, name_at, repeated_at, is_above_last, field_at, rate_at, nodes_at, link_at, links_at, source_at, sinks_at, pattern_at, patterns_at}
+use Rattle.code_file.specs.Readers.{IsReader, AllAfter, empty_reader, then_reader, same_reader, repeated_reader}
 use Rattle.code_file.specs.ItemReaders.{AreConditions, byte_reader, number_reader, name_reader}
-use Rattle.code_file.specs.declared.refusal.CodeRefusal.{CodeRefusal}
-use Rattle.code_file.specs.declared.refusal.CodeRefusal.TheVariants.{BadMagic, BadVersion, BadField, BadRate, BadName, BadIndex, OutOfOrder, NotRising, TooMany}
+use Rattle.code_file.specs.declared.refusal.CodeRefusal.TheVariants.{BadField, BadRate, BadIndex, OutOfOrder, NotRising, TooMany}
 
 -- the items of a list are spelled one after another
 pub concat-map : {X : Type 0} (spell : X → List ℕ) (xs : List X) → concat (map spell xs) ≡ flat_map spell xs
@@ -162,12 +160,12 @@ unfolding link_at
 link_reader nodes earlier =
     same_reader
     (then_reader (λ (link : Link). link.name) (name_reader (λ name. list_any (λ link. bytes_eq name link.name) earlier))
-      (λ name. then_reader (λ (link : Link). link.tail) (number_reader (index_conditions nodes))
-        (λ tail. then_reader (λ (link : Link). link.head) (number_reader (head_conditions nodes earlier tail))
-          (λ head. empty_reader (record { name = name; tail = tail; head = head }))
-          (λ head link fit more. ap (λ (l : Link). l.head) more))
-        (λ tail link fit more. ap (λ (l : Link). l.tail) more.1))
-      (λ name link fit more. ap (λ (l : Link). l.name) more.1.1))
+    (λ name. then_reader (λ (link : Link). link.tail) (number_reader (index_conditions nodes))
+    (λ tail. then_reader (λ (link : Link). link.head) (number_reader (head_conditions nodes earlier tail))
+    (λ head. empty_reader (record { name = name; tail = tail; head = head }))
+    (λ head link fit more. ap (λ (l : Link). l.head) more))
+    (λ tail link fit more. ap (λ (l : Link). l.tail) more.1))
+    (λ name link fit more. ap (λ (l : Link). l.name) more.1.1))
     (λ link fit. refl)
     (λ link fit. record { name = fit.0.0; is_new = fit.0.1; tail_fits = fit.1.0.0; tail = fit.1.0.1; head_fits = fit.1.1.0.0; head = fit.1.1.0.1.0; leads_on = fit.1.1.0.1.1 })
     (λ link fit. ((fit.name, fit.is_new), ((fit.tail_fits, fit.tail), ((fit.head_fits, (fit.head, fit.leads_on)), refl))))
@@ -221,7 +219,7 @@ unfolding sinks_at
 sinks_reader nodes source =
     same_reader
     (counted_reader (number_reader (some_conditions 4096)) (λ earlier at. number_at at (λ n. (not (nat_lt n nodes) || (n == source) || is_among earlier n, BadIndex at.at) ∷ []))
-      number_item (SinkAfter nodes source) (sink_reader nodes source) [])
+    number_item (SinkAfter nodes source) (sink_reader nodes source) [])
     (λ sinks fit. refl) (λ sinks fit. (fit.0.1.0, (fit.0.1.1, fit.1.1))) (λ sinks fit. ((omega (arith, fit.1.0), (fit.0, fit.1.0)), (refl, fit.1.1)))
 
 -- ---- patterns
@@ -265,14 +263,14 @@ unfolding pattern_at
 pattern_reader links earlier =
     same_reader
     (then_reader (λ (pattern : Pattern). pattern.name) (name_reader (λ name. list_any (λ pattern. bytes_eq name pattern.name) earlier))
-      (λ name. then_reader (λ (pattern : Pattern). length pattern.links) (number_reader (some_conditions links))
-        (λ count. then_reader (λ (pattern : Pattern). pattern.links)
-          (repeated_reader (λ before at. number_at at (λ n. (not (nat_lt n links), BadIndex at.at) ∷ (not (is_above_last before n), NotRising at.at) ∷ []))
-            number_item (LinkNumberAfter links) (link_number_reader links) count [])
-          (λ failed. empty_reader (record { name = name; links = failed }))
-          (λ failed pattern fit more. ap (λ (p : Pattern). p.links) more))
-        (λ count pattern fit more. more.0.0))
-      (λ name pattern fit more. ap (λ (p : Pattern). p.name) more.1.1))
+    (λ name. then_reader (λ (pattern : Pattern). length pattern.links) (number_reader (some_conditions links))
+    (λ count. then_reader (λ (pattern : Pattern). pattern.links)
+    (repeated_reader (λ before at. number_at at (λ n. (not (nat_lt n links), BadIndex at.at) ∷ (not (is_above_last before n), NotRising at.at) ∷ []))
+    number_item (LinkNumberAfter links) (link_number_reader links) count [])
+    (λ failed. empty_reader (record { name = name; links = failed }))
+    (λ failed pattern fit more. ap (λ (p : Pattern). p.links) more))
+    (λ count pattern fit more. more.0.0))
+    (λ name pattern fit more. ap (λ (p : Pattern). p.name) more.1.1))
     (λ pattern fit. ap (λ (t : List ℕ). name_item pattern.name ++ (number_item (length pattern.links) ++ t)) (append-nil (flat_map number_item pattern.links) ∙ sym (concat-map number_item pattern.links)))
     (λ pattern fit. record { name = fit.0.0; is_new = fit.0.1; count_fits = fit.1.0.0; some_link = fit.1.0.1.0; few_links = fit.1.0.1.1; numbers = fit.1.1.0.1.1 })
     (λ pattern fit. ((fit.name, fit.is_new), ((fit.count_fits, (fit.some_link, fit.few_links)), ((refl, (refl, fit.numbers)), refl))))

@@ -1,7 +1,7 @@
 -- Readers of single items: numbers, elements and names.
-use Rattle.std.specs.Prelude.{◌≡◌, ℕ, suc, ◌+◌, ◌<◌, ◌^◌, Bool, true, false, not, ◌||◌, List, [], ◌∷◌, ◌++◌, length, take, drop, slice_index, Result, Ok, Err}
-use Rattle.std.specs.Int.{w16, from_be_bytes, to_be_bytes}
-use Rattle.std.proofs.Common.{refl, sym, subst, ap, ◌∙◌, get_or, arith}
+use Rattle.std.specs.Prelude.{◌≡◌, ℕ, ◌+◌, ◌<◌, Bool, true, false, not, ◌||◌, List, [], ◌∷◌, ◌++◌, length, drop, slice_index, Ok}
+use Rattle.std.specs.Int.{w16, from_be_bytes}
+use Rattle.std.proofs.Common.{refl, sym, subst, ap, ◌∙◌, arith}
 use Rattle.std.proofs.lemmas.Bool.{or_parts, or_from, not-false, not_from_true}
 use Rattle.std.proofs.lemmas.Nat.{be_bytes_2, from_be_bytes-to_be_bytes_2}
 use Rattle.gf_tables.specs.Product.{size_of}
@@ -10,7 +10,7 @@ use Rattle.gf_tables.specs.declared.kind.FieldKind.TheVariants.{Eight, Sixteen}
 use Rattle.net_model.specs.Name.{is_name}
 use Rattle.code_file.specs.Items.{byte_item, number_item, element_item, name_item}
 use Rattle.code_file.specs.Reading.{Rest, Reading, ◌>>=◌, item, byte_at, number_at, element_at, name_at}
-use Rattle.code_file.specs.Readers.{ok_of, IsBytes, IsReader, Takes, NoneHolds, AreNotMemory, bind_ok, bind_not_memory, ok_is, item_takes, item_again, item_not_memory}
+use Rattle.code_file.specs.Readers.{ok_of, IsReader, Takes, NoneHolds, AreNotMemory, bind_ok, bind_not_memory, ok_is, item_takes, item_again, item_not_memory}
 use Rattle.code_file.specs.declared.refusal.CodeRefusal.{CodeRefusal}
 use Rattle.code_file.specs.declared.refusal.CodeRefusal.TheVariants.{BadName}
 

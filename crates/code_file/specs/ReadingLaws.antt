@@ -1,6 +1,6 @@
 -- Reading and spelling code files: a file that's read is the one spelling of what it says, and that's what a code has;
 -- the file of a code is read; and a file that's no code's is refused.
-use Rattle.std.specs.Prelude.{◌≡◌, ◌≢◌, ℕ, ◌+◌, ◌*◌, ◌<◌, ◌≤◌, IsTrue, Bool, true, false, ◌==◌, List, [], ◌∷◌, ◌++◌, length, codes, Option, Some, None, Result, Ok, Err, if◌then◌else◌}
+use Rattle.std.specs.Prelude.{◌≡◌, ◌≢◌, ℕ, ◌+◌, ◌*◌, ◌<◌, ◌≤◌, IsTrue, Bool, true, false, ◌==◌, List, [], ◌++◌, length, codes, Some, None, Result, Ok, Err, if◌then◌else◌}
 use Rattle.std.specs.List.{concat}
 use Rattle.std.proofs.Common.{refl, sym, subst, ap, ◌∙◌, append-nil, arith}
 use Rattle.std.proofs.lemmas.Bool.{true≢false, eqb-true}
@@ -85,6 +85,10 @@ pub AreContents-from_contents_of : (bytes : List ℕ) (contents : Contents) → 
 AreContents-from_contents_of bytes contents fits e =
     let t = AreContentsRead-from_contents_of bytes contents fits e in
     (t.0, AreContents-from_read contents t.1)
+
+-- a file that says what a code has is that of the code
+pub bytes_of-from_contents_of : (bytes : List ℕ) (code : Code) → IsBytes bytes → contents_of bytes ≡ Ok (contents_in code) → bytes ≡ bytes_of code
+bytes_of-from_contents_of bytes code fits e = (AreContentsRead-from_contents_of bytes (contents_in code) fits e).0 ∙ spelling_of-contents_in code
 
 -- a file of a code and what stands behind it
 pub contents_of-bytes_of-append : (code : Code) (more : List ℕ)

@@ -1,5 +1,5 @@
 -- What a code file says of a code, how that is spelled, and when it's said of a code.
-use Rattle.std.specs.Prelude.{◌≡◌, ℕ, List, [], ◌∷◌, ◌++◌, length, map, drop}
+use Rattle.std.specs.Prelude.{◌≡◌, ℕ, List, ◌∷◌, ◌++◌, length, map, drop}
 use Rattle.std.specs.List.{concat, flat_map}
 use Rattle.gf_tables.specs.Product.{mark_of}
 use Rattle.gf_tables.specs.declared.kind.FieldKind.{FieldKind}
