@@ -173,7 +173,10 @@ pub front_reader : (mark : List ℕ) (version : ℕ) → length mark ≡ 4 → v
 unfolding front_at
 front_reader mark version four small =
     reader_of_same
-    (λ rest. silent_mark_first mark version rest (λ rest. field_at rest >>= λ field. rate_at field.1 >>= λ rate. nodes_at rate.1 >>= λ nodes. links_at (length nodes.0) nodes.1 >>= λ links. source_at (length nodes.0) links.1 >>= λ source. sinks_at (length nodes.0) source.0 source.1 >>= λ sinks. patterns_at (length links.0) (length sinks.0) sinks.1 >>= λ patterns. Ok (record { field = field.0; rate = rate.0; nodes = nodes.0; links = links.0; source = source.0; sinks = sinks.0; patterns = patterns.0 }, patterns.1)))
+    (λ rest. silent_mark_first mark version rest (λ rest. field_at rest >>= λ field. rate_at field.1 >>= λ rate. nodes_at rate.1
+    >>= λ nodes. links_at (length nodes.0) nodes.1 >>= λ links. source_at (length nodes.0) links.1
+    >>= λ source. sinks_at (length nodes.0) source.0 source.1 >>= λ sinks. patterns_at (length links.0) (length sinks.0) sinks.1
+    >>= λ patterns. Ok (record { field = field.0; rate = rate.0; nodes = nodes.0; links = links.0; source = source.0; sinks = sinks.0; patterns = patterns.0 }, patterns.1)))
     (same_reader
     (then_reader (λ (f : Front). tt {0}) (silent_mark_reader mark version four small)
     (λ nothing. then_reader (λ (f : Front). f.field) field_reader

@@ -30,9 +30,9 @@ start_of bytes = record { at = 0; bytes = bytes }
 abbrev end_of : Contents → Rest → Result Contents CodeRefusal
 end_of contents left = if length left.bytes == 0 then Ok contents else Err (TrailingBytes left.at)
 
--- the contents of their parts
-abbrev made_of : Front → List (List Operand) → List Decoder → Contents
-made_of front operands decoders = record { front = front; operands = operands; decoders = decoders }
+-- the contents with these parts
+abbrev contents_with : Front → List (List Operand) → List Decoder → Contents
+contents_with front operands decoders = record { front = front; operands = operands; decoders = decoders }
 
 -- contents that were read, and what is left
 abbrev body_of : Contents → Rest → Reading Contents
@@ -40,21 +40,23 @@ body_of contents left = Ok (contents, left)
 
 -- the end behind the decoders
 decoders_end : (front : Front) (operands : List (List Operand)) (read : Reading (List Decoder))
-    → ((read >>= λ decoders. body_of (made_of front operands decoders.0) decoders.1) >>= λ body. end_of body.0 body.1) ≡ (read >>= λ decoders. end_of (made_of front operands decoders.0) decoders.1)
+    → ((read >>= λ decoders. body_of (contents_with front operands decoders.0) decoders.1) >>= λ body. end_of body.0 body.1) ≡ (read >>= λ decoders. end_of (contents_with front operands decoders.0) decoders.1)
 decoders_end front operands (Ok decoders) = refl
 decoders_end front operands (Err refusal) = refl
 
 -- the end behind the operands
 operands_end : (front : Front) (read : Reading (List (List Operand)))
-    → ((read >>= λ operands. each_at (decoder_at front) (demand_sinks front) operands.1 >>= λ decoders. body_of (made_of front operands.0 decoders.0) decoders.1) >>= λ body. end_of body.0 body.1)
-    ≡ (read >>= λ operands. each_at (decoder_at front) (demand_sinks front) operands.1 >>= λ decoders. end_of (made_of front operands.0 decoders.0) decoders.1)
+    → ((read >>= λ operands. each_at (decoder_at front) (demand_sinks front) operands.1 >>= λ decoders. body_of (contents_with front operands.0 decoders.0) decoders.1) >>= λ body. end_of body.0 body.1)
+    ≡ (read >>= λ operands. each_at (decoder_at front) (demand_sinks front) operands.1 >>= λ decoders. end_of (contents_with front operands.0 decoders.0) decoders.1)
 operands_end front (Ok operands) = decoders_end front operands.0 (each_at (decoder_at front) (demand_sinks front) operands.1)
 operands_end front (Err refusal) = refl
 
 -- the end behind the front
 front_end : (read : Reading Front)
-    → ((read >>= λ front. each_at (operands_at_link front.0) front.0.links front.1 >>= λ operands. each_at (decoder_at front.0) (demand_sinks front.0) operands.1 >>= λ decoders. body_of (made_of front.0 operands.0 decoders.0) decoders.1) >>= λ body. end_of body.0 body.1)
-    ≡ (read >>= λ front. each_at (operands_at_link front.0) front.0.links front.1 >>= λ operands. each_at (decoder_at front.0) (demand_sinks front.0) operands.1 >>= λ decoders. end_of (made_of front.0 operands.0 decoders.0) decoders.1)
+    → ((read >>= λ front. each_at (operands_at_link front.0) front.0.links front.1 >>= λ operands. each_at (decoder_at front.0) (demand_sinks front.0) operands.1
+    >>= λ decoders. body_of (contents_with front.0 operands.0 decoders.0) decoders.1) >>= λ body. end_of body.0 body.1)
+    ≡ (read >>= λ front. each_at (operands_at_link front.0) front.0.links front.1 >>= λ operands. each_at (decoder_at front.0) (demand_sinks front.0) operands.1
+    >>= λ decoders. end_of (contents_with front.0 operands.0 decoders.0) decoders.1)
 front_end (Ok front) = operands_end front.0 (each_at (operands_at_link front.0) front.0.links front.1)
 front_end (Err refusal) = refl
 
@@ -176,7 +178,7 @@ contents_of-out_of_memory bytes e = true≢false (sym (ap (λ (r : Result Conten
 -- A file that's no code's is refused, and not for want of memory.
 pub record IsRefused (bytes : List ℕ) : Type 0 where
   pub refusal : CodeRefusal
-  pub found : refusal_of bytes ≡ Some refusal
+  pub refusal_is : refusal_of bytes ≡ Some refusal
   pub some_fault : refusal ≢ OutOfMemory
 
 -- a file that is no code's is refused
@@ -190,7 +192,7 @@ refusal_of-some bytes fits no_code = either (contents_of bytes) refl
         absurd (no_code (code_of contents t.1) (bytes_of-code_of contents t.1 ∙ sym t.0))
     either (Err refusal) is = record {
       refusal = refusal;
-      found = ap (λ (r : Result Contents CodeRefusal). refusal_in r) is;
+      refusal_is = ap (λ (r : Result Contents CodeRefusal). refusal_in r) is;
       some_fault = λ e. contents_of-out_of_memory bytes (is ∙ ap (λ (refusal : CodeRefusal). Err refusal) e);
     }
 
