@@ -1,7 +1,7 @@
 -- Reading a code file from left to right. Which item comes next is determined by the items before it. An item whose
 -- bytes aren't all there is truncated; else it is refused by the first of its conditions that holds. The refusal of the
 -- file is that of the first item that isn't good.
-use Rattle.std.specs.Prelude.{ℕ, zero, suc, ◌+◌, ◌*◌, Bool, true, false, not, ◌||◌, ◌==◌, nat_lt, List, [], ◌∷◌, ◌++◌, length, map, take, drop, replicate, slice_index, codes, Option, Some, None, Result, Ok, Err, if◌then◌else◌}
+use Rattle.std.specs.Prelude.{ℕ, zero, suc, ◌+◌, ◌*◌, Bool, true, not, ◌||◌, ◌==◌, nat_lt, List, [], ◌∷◌, ◌++◌, length, map, take, drop, replicate, slice_index, codes, Option, Some, None, Result, Ok, Err, if◌then◌else◌}
 use Rattle.std.specs.Int.{w16, from_be_bytes}
 use Rattle.std.specs.List.{list_any, flat_map}
 use Rattle.std.specs.Str.{bytes_eq}
@@ -210,3 +210,12 @@ contents_of bytes = do
   operands ← each_at (operands_at_link front.0) front.0.links front.1
   decoders ← each_at (decoder_at front.0) (demand_sinks front.0) operands.1
   if length decoders.1.bytes == 0 then Ok (record { front = front.0; operands = operands.0; decoders = decoders.0 }) else Err (TrailingBytes decoders.1.at)
+
+-- the refusal that a result is
+abbrev pub refusal_in : {X : Type 0} → Result X CodeRefusal → Option CodeRefusal
+refusal_in (Ok x) = None
+refusal_in (Err refusal) = Some refusal
+
+-- the refusal of a file, if it's refused
+unfoldable pub refusal_of : List ℕ → Option CodeRefusal
+refusal_of bytes = refusal_in (contents_of bytes)
