@@ -1,5 +1,6 @@
 pub mod Above
 pub mod Checks
+pub mod Joined
 pub mod Lists
 pub mod Loop
 pub mod Named

@@ -3,7 +3,7 @@ ghost use Rattle.std.specs.Prelude.{◌≡◌, ◌≤◌, ◌*◌, ◌++◌, ◌
 ghost use Rattle.node_program.specs.Code.{leads_into};
 ghost use Rattle.code_file.specs.Reading.{number_at, element_at, is_above_last, repeated_at, decoder_at, demand_sinks, each_at};
 ghost use Rattle.code_file.specs.Gives.{Gives, left_of};
-ghost use Rattle.code_file.specs.Parts.{front_of};
+ghost use Rattle.code_file.specs.Parts.{front_seen};
 
 use crate::CodeRefusal;
 use crate::items::{element, number};
@@ -84,7 +84,7 @@ fn decoder<'a>(
     sink: u32,
     rest: Rest<'a>,
 ) -> Result<(Decoder, Rest<'a>), CodeRefusal>
-    ensures { Gives (λ x. (x.0, left_of x.1)) result (decoder_at (front_of front.now) sink (left_of rest.entry)) }
+    ensures { Gives (λ x. (x.0, left_of x.1)) result (decoder_at (front_seen front.now) sink (left_of rest.entry)) }
 {
     let (links, rest) = read_links(alloc, front, sink, rest)?;
     let (entries, rest) = entries(alloc, front.field, front.rate * front.rate, rest)?;
@@ -107,7 +107,7 @@ fn add_times(numbers: &mut Vec<u32>, number: u32, times: usize) -> Result<(), Al
 
 // The sink of each demand.
 fn sinks_of_demands(alloc: Global, front: &Front) -> Result<Vec<u32>, AllocError>
-    ensures { IfOk result (λ sinks. sinks.items ≡ demand_sinks (front_of front.now)) }
+    ensures { IfOk result (λ sinks. sinks.items ≡ demand_sinks (front_seen front.now)) }
 {
     let sinks = front.sinks.as_slice();
     let patterns = front.patterns.len();
@@ -125,7 +125,7 @@ fn counted_decoders<'a>(
     sinks: &[u32],
     start: Rest<'a>,
 ) -> Result<(Vec<Decoder>, Rest<'a>), CodeRefusal>
-    ensures { Gives (λ x. (x.0.items, left_of x.1)) result (each_at (decoder_at (front_of front.now)) sinks.now (left_of start.entry)) }
+    ensures { Gives (λ x. (x.0.items, left_of x.1)) result (each_at (decoder_at (front_seen front.now)) sinks.now (left_of start.entry)) }
 {
     let mut decoders = Vec::with_capacity(alloc, sinks.len())?;
     let mut rest = start;
@@ -143,7 +143,7 @@ pub(crate) fn decoder_table<'a>(
     front: &Front,
     rest: Rest<'a>,
 ) -> Result<(Vec<Decoder>, Rest<'a>), CodeRefusal>
-    ensures { Gives (λ x. (x.0.items, left_of x.1)) result (each_at (decoder_at (front_of front.now)) (demand_sinks (front_of front.now)) (left_of rest.entry)) }
+    ensures { Gives (λ x. (x.0.items, left_of x.1)) result (each_at (decoder_at (front_seen front.now)) (demand_sinks (front_seen front.now)) (left_of rest.entry)) }
 {
     let sinks = sinks_of_demands(alloc, front)?;
     counted_decoders(alloc, front, &sinks, rest)

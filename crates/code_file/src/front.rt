@@ -2,7 +2,7 @@
 ghost use Rattle.std.specs.Prelude.{◌≡◌, ◌<◌, ◌≤◌, ◌+◌, ◌*◌, ◌==◌, ◌||◌, ◌++◌, ◌∷◌, [], List, not, nat_lt, length, map, codes, IfOk};
 ghost use Rattle.code_file.specs.Reading.{number_at, mark_at, field_at, rate_at, front_at};
 ghost use Rattle.code_file.specs.Gives.{Gives, left_of};
-ghost use Rattle.code_file.specs.Parts.{front_of};
+ghost use Rattle.code_file.specs.Parts.{front_seen};
 
 use crate::CodeRefusal;
 use crate::items::{byte, index, item};
@@ -64,7 +64,7 @@ pub(crate) fn front<'a>(
     version: u8,
     start: Rest<'a>,
 ) -> Result<(Front, Rest<'a>), CodeRefusal>
-    ensures { Gives (λ x. (front_of x.0, left_of x.1)) result (front_at sign.now version (left_of start.entry)) }
+    ensures { Gives (λ x. (front_seen x.0, left_of x.1)) result (front_at sign.now version (left_of start.entry)) }
 {
     let rest = mark(sign, version, start)?;
     let (field, rest) = field(rest)?;

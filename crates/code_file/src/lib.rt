@@ -11,9 +11,12 @@ mod nodes;
 mod operands;
 mod parts;
 mod patterns;
+mod pieces;
 mod reading;
 mod refusal;
 mod rest;
 mod rising;
+mod writing;
 
 pub use refusal::CodeRefusal;
+pub use writing::write_code;

@@ -3,7 +3,7 @@ ghost use Rattle.std.specs.Prelude.{◌≡◌, ◌==◌, ◌∷◌, [], not, map
 ghost use Rattle.node_program.specs.Code.{leads_into};
 ghost use Rattle.code_file.specs.Reading.{number_at, element_at, is_above_last, may_read, repeated_at, operand_at, operands_at_link, each_at};
 ghost use Rattle.code_file.specs.Gives.{Gives, left_of};
-ghost use Rattle.code_file.specs.Parts.{front_of};
+ghost use Rattle.code_file.specs.Parts.{front_seen};
 
 use crate::CodeRefusal;
 use crate::items::{count, element, number};
@@ -27,7 +27,7 @@ pub(crate) fn leads_into(links: &[Link], node: u32, from: u32) -> bool
 
 // Whether an operand of a link may name this.
 fn may_read(front: &Front, link: &Link, from: u32) -> bool
-    ensures { result ≡ may_read (front_of front.now) link.now from }
+    ensures { result ≡ may_read (front_seen front.now) link.now from }
 {
     if link.tail == front.source {
         from < front.rate
@@ -44,7 +44,7 @@ fn from_at<'a>(
     earlier: &[Operand],
     rest: Rest<'a>,
 ) -> Result<(u32, Rest<'a>), CodeRefusal>
-    ensures { Gives (λ x. (x.0, left_of x.1)) result (number_at (left_of rest.entry) (λ n. (not (is_above_last (map (λ operand. operand.from) earlier.now) n), CodeRefusal.NotRising rest.entry.at) ∷ (not (may_read (front_of front.now) link.now n), CodeRefusal.BadOperand rest.entry.at) ∷ [])) }
+    ensures { Gives (λ x. (x.0, left_of x.1)) result (number_at (left_of rest.entry) (λ n. (not (is_above_last (map (λ operand. operand.from) earlier.now) n), CodeRefusal.NotRising rest.entry.at) ∷ (not (may_read (front_seen front.now) link.now n), CodeRefusal.BadOperand rest.entry.at) ∷ [])) }
 {
     let (from, after) = number(rest)?;
     let from = u32::from(from);
@@ -80,7 +80,7 @@ fn operand<'a>(
     earlier: &[Operand],
     rest: Rest<'a>,
 ) -> Result<(Operand, Rest<'a>), CodeRefusal>
-    ensures { Gives (λ x. (x.0, left_of x.1)) result (operand_at (front_of front.now) link.now earlier.now (left_of rest.entry)) }
+    ensures { Gives (λ x. (x.0, left_of x.1)) result (operand_at (front_seen front.now) link.now earlier.now (left_of rest.entry)) }
 {
     let (from, rest) = from_at(front, link, earlier, rest)?;
     let (times, rest) = coefficient(front.field, rest)?;
@@ -95,7 +95,7 @@ fn counted_operands<'a>(
     count: u16,
     start: Rest<'a>,
 ) -> Result<(Vec<Operand>, Rest<'a>), CodeRefusal>
-    ensures { Gives (λ x. (x.0.items, left_of x.1)) result (repeated_at (operand_at (front_of front.now) link.now) count [] (left_of start.entry)) }
+    ensures { Gives (λ x. (x.0.items, left_of x.1)) result (repeated_at (operand_at (front_seen front.now) link.now) count [] (left_of start.entry)) }
 {
     let mut operands = Vec::with_capacity(alloc, usize::from(count))?;
     let mut rest = start;
@@ -115,7 +115,7 @@ fn operand_list<'a>(
     link: &Link,
     rest: Rest<'a>,
 ) -> Result<(OperandList, Rest<'a>), CodeRefusal>
-    ensures { Gives (λ x. (x.0, left_of x.1)) result (operands_at_link (front_of front.now) link.now (left_of rest.entry)) }
+    ensures { Gives (λ x. (x.0, left_of x.1)) result (operands_at_link (front_seen front.now) link.now (left_of rest.entry)) }
 {
     let (count, rest) = count(rest, 8192)?;
     let (operands, rest) = counted_operands(alloc, front, link, count, rest)?;
@@ -128,7 +128,7 @@ pub(crate) fn operand_table<'a>(
     front: &Front,
     start: Rest<'a>,
 ) -> Result<(Vec<OperandList>, Rest<'a>), CodeRefusal>
-    ensures { Gives (λ x. (x.0.items, left_of x.1)) result (each_at (operands_at_link (front_of front.now)) front.now.links (left_of start.entry)) }
+    ensures { Gives (λ x. (x.0.items, left_of x.1)) result (each_at (operands_at_link (front_seen front.now)) front.now.links (left_of start.entry)) }
 {
     let links = front.links.as_slice();
     let mut table = Vec::with_capacity(alloc, links.len())?;

@@ -2,7 +2,7 @@
 ghost use Rattle.std.specs.Prelude.{◌≤◌, ◌^◌, length};
 ghost use Rattle.code_file.specs.Reading.{contents_of};
 ghost use Rattle.code_file.specs.Gives.{Gives};
-ghost use Rattle.code_file.specs.Parts.{contents_in};
+ghost use Rattle.code_file.specs.Parts.{contents_seen};
 
 use crate::CodeRefusal;
 use crate::decoders::decoder_table;
@@ -14,13 +14,13 @@ use node_program::{DecoderTable, OperandTable};
 use std::alloc::Global;
 
 /// What stands at the front of a code file.
-const MARK: &[u8] = b"LIFC";
+pub(crate) const MARK: &[u8] = b"LIFC";
 
 // All that the bytes say.
 #[tactic(auto, unfolding(crate::specs::Reading::contents_of))]
 fn read_parts(alloc: Global, bytes: &[u8]) -> Result<Parts, CodeRefusal>
     requires { length bytes.now ≤ 2 ^ 28 }
-    ensures { Gives contents_in result (contents_of bytes.now) }
+    ensures { Gives contents_seen result (contents_of bytes.now) }
 {
     let (front, rest) = front(alloc, MARK, 1, Rest { at: 0, bytes })?;
     let (operands, rest) = operand_table(alloc, &front, rest)?;

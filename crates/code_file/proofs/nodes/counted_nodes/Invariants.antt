@@ -6,7 +6,7 @@ use Rattle.node_program.specs.Code.{leads_into}
 use Rattle.code_file.specs.declared.refusal.CodeRefusal.TheVariants.{BadIndex, NotRising, BadOperand}
 use Rattle.code_file.specs.Reading.{repeated_at, each_at, name_at, number_at, element_at, link_at, pattern_at, operand_at, operands_at_link, decoder_at, is_above_last}
 use Rattle.code_file.specs.Gives.{left_of}
-use Rattle.code_file.specs.Parts.{front_of}
+use Rattle.code_file.specs.Parts.{front_seen}
 use Rattle.code_file.specs.Marks.{AreMarks}
 use Rattle.code_file.proofs.Loop.{with_front}
 use Rattle.code_file.proofs.nodes.counted_nodes.Given as goal

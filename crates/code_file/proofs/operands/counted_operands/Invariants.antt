@@ -6,10 +6,10 @@ use Rattle.node_program.specs.Code.{leads_into}
 use Rattle.code_file.specs.declared.refusal.CodeRefusal.TheVariants.{BadIndex, NotRising, BadOperand}
 use Rattle.code_file.specs.Reading.{repeated_at, each_at, name_at, number_at, element_at, link_at, pattern_at, operand_at, operands_at_link, decoder_at, is_above_last}
 use Rattle.code_file.specs.Gives.{left_of}
-use Rattle.code_file.specs.Parts.{front_of}
+use Rattle.code_file.specs.Parts.{front_seen}
 use Rattle.code_file.specs.Marks.{AreMarks}
 use Rattle.code_file.proofs.Loop.{with_front}
 use Rattle.code_file.proofs.operands.counted_operands.Given as goal
 
 abbrev pub invariant-loop : goal.invariant-loop
-invariant-loop l = repeated_at (operand_at (front_of l.fn.front) l.fn.link) (l.count - l.counter) l.operands.items (left_of l.rest) ≡ repeated_at (operand_at (front_of l.fn.front) l.fn.link) l.count [] (left_of l.fn.start)
+invariant-loop l = repeated_at (operand_at (front_seen l.fn.front) l.fn.link) (l.count - l.counter) l.operands.items (left_of l.rest) ≡ repeated_at (operand_at (front_seen l.fn.front) l.fn.link) l.count [] (left_of l.fn.start)
