@@ -54,3 +54,9 @@ decoders_fit net rate field (sink ∷ sinks) [] fit = absurd cc
 decoders_fit net rate field (sink ∷ sinks) (decoder ∷ decoders) fit =
     let both = and_parts _ _ fit in
     and_from _ _ (and_parts _ _ both.0).1 (decoders_fit net rate field sinks decoders both.1)
+
+-- the front of a file, piece by piece
+pub front_joined : (out mark : List ℕ) (version field rate : ℕ) (node_count : Item) (nodes : List Item) (link_count : Item) (links : List Item) (source sink_count : Item) (sinks : List Item) (pattern_count : Item) (patterns : List Item)
+    → (((((((((out ++ (mark ++ (version ∷ field ∷ rate ∷ []))) ++ node_count) ++ concat nodes) ++ link_count) ++ concat links) ++ source) ++ sink_count) ++ concat sinks) ++ pattern_count) ++ concat patterns
+    ≡ out ++ concat (mark ∷ (version ∷ []) ∷ (field ∷ []) ∷ (rate ∷ []) ∷ node_count ∷ (nodes ++ (link_count ∷ (links ++ (source ∷ sink_count ∷ (sinks ++ (pattern_count ∷ patterns)))))))
+front_joined out mark version field rate node_count nodes link_count links source sink_count sinks pattern_count patterns = simp (concat-append, append_assoc)

@@ -4,3 +4,4 @@ pub mod Joined
 pub mod Lists
 pub mod Loop
 pub mod Named
+pub mod Refusals

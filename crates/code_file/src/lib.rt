@@ -18,5 +18,6 @@ mod rest;
 mod rising;
 mod writing;
 
+pub use reading::read_code;
 pub use refusal::CodeRefusal;
 pub use writing::write_code;
