@@ -1,8 +1,8 @@
 -- Items that were written, and one more.
-use Rattle.std.proofs.Common.{◌≡◌, ℕ, ◌+◌, ◌<◌, Bool, true, ◌&&◌, List, [], ◌∷◌, ◌++◌, length, map, get_or, take, ltb, refl, sym, ap, ◌∙◌, append_assoc, arith}
+use Rattle.std.proofs.Common.{◌≡◌, ℕ, ◌+◌, ◌<◌, true, ◌&&◌, List, [], ◌∷◌, ◌++◌, length, map, get_or, take, ltb, refl, sym, ap, ◌∙◌, append_assoc}
 use Rattle.std.specs.List.{concat, flat_map, list_all}
 use Rattle.std.proofs.lemmas.Bool.{and_parts, and_from}
-use Rattle.std.proofs.lemmas.List.{take_more, map_push, append-nil, take_all}
+use Rattle.std.proofs.lemmas.List.{take_more, map_push, append-nil}
 use Rattle.std.proofs.lemmas.List.Concat.{flat_map-append}
 use Rattle.std.proofs.lemmas.List.Folds.{concat-append}
 use Rattle.gf_tables.specs.Product.{size_of}
@@ -11,8 +11,7 @@ use Rattle.net_model.specs.declared.Link.{Link}
 use Rattle.net_model.specs.declared.net.Net.{Net}
 use Rattle.node_program.specs.declared.Operand.{Operand}
 use Rattle.node_program.specs.declared.Decoder.{Decoder}
-use Rattle.node_program.specs.Code.{are_operands_of, are_decoders, is_source_of, leads_into}
-use Rattle.net_model.specs.Lists.{is_rising}
+use Rattle.node_program.specs.Code.{are_operands_of, are_decoders, is_source_of}
 use Rattle.code_file.specs.Items.{Item}
 use Rattle.code_file.specs.Written.{are_elements, has_elements}
 

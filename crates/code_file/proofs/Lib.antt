@@ -5,3 +5,4 @@ pub mod Lists
 pub mod Loop
 pub mod Named
 pub mod Refusals
+pub mod Sizes

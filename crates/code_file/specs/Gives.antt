@@ -1,6 +1,5 @@
 -- What a function of the reader returns, against what reading gives.
-use Rattle.std.specs.Prelude.{◌≡◌, ◌≢◌, ℕ, ◌<◌, Bool, List, length, slice_get, Option, Some, Result, Ok, Err}
-use Rattle.net_model.specs.Lists.{is_among}
+use Rattle.std.specs.Prelude.{◌≡◌, ◌≢◌, Result, Ok, Err}
 use Rattle.code_file.specs.declared.refusal.CodeRefusal.{CodeRefusal}
 use Rattle.code_file.specs.declared.refusal.CodeRefusal.TheVariants.{OutOfMemory}
 use Rattle.code_file.specs.declared.rest.Rest as rust

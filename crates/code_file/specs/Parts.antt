@@ -1,6 +1,4 @@
 -- The parts that are read, as a code file says them.
-use Rattle.std.specs.Prelude.{◌≡◌, ℕ, ◌<◌, Bool, List, length, slice_get, Some}
-use Rattle.net_model.specs.Lists.{is_among}
 use Rattle.code_file.specs.declared.parts.Front as rust_front
 use Rattle.code_file.specs.declared.parts.Parts as rust_parts
 use Rattle.code_file.specs.Reading.{Front, Contents}

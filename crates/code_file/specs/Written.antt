@@ -1,5 +1,5 @@
 -- The numbers of elements that are written fit the field.
-use Rattle.std.specs.Prelude.{ℕ, Bool, nat_lt, List}
+use Rattle.std.specs.Prelude.{Bool, nat_lt, List}
 use Rattle.std.specs.List.{list_all}
 use Rattle.gf_tables.specs.Product.{size_of}
 use Rattle.gf_tables.specs.declared.kind.FieldKind.{FieldKind}

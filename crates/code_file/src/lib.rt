@@ -16,8 +16,12 @@ mod reading;
 mod refusal;
 mod rest;
 mod rising;
+mod room;
 mod writing;
 
 pub use reading::read_code;
 pub use refusal::CodeRefusal;
 pub use writing::write_code;
+
+#[cfg(test)]
+mod tests;

@@ -36,10 +36,7 @@ fn counted_nodes<'a>(
 
 /// The nodes, behind their number.
 #[tactic(auto, unfolding(crate::specs::Reading::nodes_at))]
-pub(crate) fn nodes<'a>(
-    alloc: Global,
-    rest: Rest<'a>,
-) -> Result<(NameList, Rest<'a>), CodeRefusal>
+pub(crate) fn nodes<'a>(alloc: Global, rest: Rest<'a>) -> Result<(NameList, Rest<'a>), CodeRefusal>
     ensures { Gives (λ x. (x.0, left_of x.1)) result (nodes_at (left_of rest.entry)) }
 {
     let (count, rest) = count(rest, 4096)?;

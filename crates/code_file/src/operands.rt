@@ -59,10 +59,7 @@ fn from_at<'a>(
 
 // A coefficient.
 #[tactic(auto, using(crate::proofs::Checks::element_checked))]
-fn coefficient<'a>(
-    field: FieldKind,
-    rest: Rest<'a>,
-) -> Result<(u32, Rest<'a>), CodeRefusal>
+fn coefficient<'a>(field: FieldKind, rest: Rest<'a>) -> Result<(u32, Rest<'a>), CodeRefusal>
     ensures { Gives (λ x. (x.0, left_of x.1)) result (element_at field (left_of rest.entry) (λ n. (n == 0, CodeRefusal.ZeroCoefficient rest.entry.at) ∷ [])) }
 {
     let (times, after) = element(field, rest)?;

@@ -17,11 +17,7 @@ const NONE: &[u8] = b"none";
 
 // One link of a pattern.
 #[tactic(auto, using(crate::proofs::Checks::number_checked))]
-fn failed<'a>(
-    links: usize,
-    before: &[u32],
-    rest: Rest<'a>,
-) -> Result<(u32, Rest<'a>), CodeRefusal>
+fn failed<'a>(links: usize, before: &[u32], rest: Rest<'a>) -> Result<(u32, Rest<'a>), CodeRefusal>
     ensures { Gives (λ x. (x.0, left_of x.1)) result (number_at (left_of rest.entry) (λ n. (not (nat_lt n links), CodeRefusal.BadIndex rest.entry.at) ∷ (not (is_above_last before.now n), CodeRefusal.NotRising rest.entry.at) ∷ [])) }
 {
     let (link, after) = number(rest)?;

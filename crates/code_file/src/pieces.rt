@@ -1,12 +1,12 @@
 //! The pieces of a code file: numbers, names, elements, and lists of these.
-ghost use Rattle.std.specs.Prelude.{◌≡◌, ◌<◌, ◌++◌, map, nat_lt, IsTrue, OnOk};
+ghost use Rattle.std.specs.Prelude.{◌≡◌, ◌<◌, ◌++◌, drop, map, nat_lt, IsTrue, OnOk};
 ghost use Rattle.std.specs.List.{concat, list_all};
 ghost use Rattle.gf_tables.specs.Product.{size_of};
 ghost use Rattle.code_file.specs.Items.{number_item, name_item, element_item};
 
 use byteorder::{BigEndian, ByteOrder};
 use gf_tables::FieldKind;
-use net_model::Name;
+use net_model::{Name, Net, Pattern};
 use std::alloc::AllocError;
 
 /// Adds the two low bytes of a number.
@@ -75,4 +75,14 @@ pub(crate) fn put_elements(
         put_element(out, field, *element)?;
     }
     Ok(())
+}
+
+/// The patterns behind `none`.
+pub(crate) fn listed(net: &Net) -> &[Pattern]
+    ensures { result.now ≡ drop 1 net.now.patterns }
+{
+    match net.patterns.as_slice() {
+        [_, listed @ ..] => listed,
+        [] => &[],
+    }
 }

@@ -5,8 +5,11 @@ ghost use Rattle.gf_tables.specs.Product.{mark_of, size_of};
 ghost use Rattle.code_file.specs.Items.{link_items, pattern_items, operand_items, operand_list_items, operand_table_items, decoder_items, decoder_table_items, front_items, bytes_of};
 ghost use Rattle.code_file.specs.Written.{are_elements, has_elements};
 
-use crate::pieces::{put_element, put_elements, put_name, put_names, put_number, put_numbers};
+use crate::pieces::{
+    listed, put_element, put_elements, put_name, put_names, put_number, put_numbers,
+};
 use crate::reading::MARK;
+use crate::room::code_room;
 use gf_tables::FieldKind;
 use net_model::{Link, Net, Pattern};
 use node_program::{Code, Decoder, Operand, OperandList};
@@ -60,11 +63,7 @@ fn put_operand(out: &mut Vec<u8>, field: FieldKind, operand: Operand) -> Result<
 }
 
 // Adds the operands of a link, without their number.
-fn put_operands(
-    out: &mut Vec<u8>,
-    field: FieldKind,
-    operands: &[Operand],
-) -> Result<(), AllocError>
+fn put_operands(out: &mut Vec<u8>, field: FieldKind, operands: &[Operand]) -> Result<(), AllocError>
     requires { IsTrue (are_elements field operands.now) }
     ensures { OnOk result (out.new.items ≡ out.old.items ++ concat (flat_map (operand_items field) operands.now)) }
 {
@@ -112,11 +111,7 @@ fn put_decoder(out: &mut Vec<u8>, field: FieldKind, decoder: &Decoder) -> Result
 }
 
 // Adds the decoders.
-fn put_decoders(
-    out: &mut Vec<u8>,
-    field: FieldKind,
-    decoders: &[Decoder],
-) -> Result<(), AllocError>
+fn put_decoders(out: &mut Vec<u8>, field: FieldKind, decoders: &[Decoder]) -> Result<(), AllocError>
     requires { IsTrue (list_all (has_elements field) decoders.now) }
     ensures { OnOk result (out.new.items ≡ out.old.items ++ concat (decoder_table_items field decoders.now)) }
 {
@@ -124,16 +119,6 @@ fn put_decoders(
         put_decoder(out, field, decoder)?;
     }
     Ok(())
-}
-
-// The patterns behind `none`.
-fn listed(net: &Net) -> &[Pattern]
-    ensures { result.now ≡ drop 1 net.now.patterns }
-{
-    match net.patterns.as_slice() {
-        [_, listed @ ..] => listed,
-        [] => &[],
-    }
 }
 
 // Adds the mark, the version, the field and the rate.
@@ -182,12 +167,12 @@ fn put_front(
     put_patterns(out, listed)
 }
 
-/// The code file of a code.
+/// The code file of a code. Its room is taken once.
 #[tactic(auto, unfolding(crate::specs::Items::items_of, crate::specs::Items::bytes_of))]
 pub fn write_code(alloc: Global, code: &Code) -> Result<Vec<u8>, AllocError>
     ensures { IfOk result (λ bytes. bytes.items ≡ bytes_of code.now) }
 {
-    let mut out = Vec::new(alloc);
+    let mut out = Vec::with_capacity(alloc, code_room(code))?;
     put_front(&mut out, MARK, 1, &code.net, code.rate, code.field)?;
     put_operand_table(&mut out, code.field, code.operands.as_slice())?;
     put_decoders(&mut out, code.field, code.decoders.as_slice())?;

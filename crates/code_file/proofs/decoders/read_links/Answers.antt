@@ -1,15 +1,10 @@
-use Rattle.std.proofs.Common.{◌≡◌, ℕ, ◌-◌, ◌+◌, ◌||◌, ◌==◌, nat_lt, not, List, [], ◌∷◌, ◌++◌, length, map, codes, drop, take, get_or, Ok, Err, refl, sym, ap, subst, ◌∙◌, arith}
-use Rattle.std.specs.List.{list_any, flat_map}
-use Rattle.std.specs.Str.{bytes_eq}
+use Rattle.std.proofs.Common.{◌≡◌, ℕ, not, List, [], ◌∷◌, Ok}
 use Rattle.std.proofs.lemmas.Result.{err_from_is_err_and}
-use Rattle.std.proofs.lemmas.List.{map_push, length_push}
-use Rattle.net_model.specs.Lists.{is_among}
 use Rattle.node_program.specs.Code.{leads_into}
-use Rattle.code_file.specs.declared.refusal.CodeRefusal.TheVariants.{BadIndex, NotRising, BadOperand}
-use Rattle.code_file.specs.Reading.{Rest, Reading, repeated_at, each_at, name_at, number_at, element_at, link_at, pattern_at, operand_at, operands_at_link, decoder_at, is_above_last}
+use Rattle.code_file.specs.declared.refusal.CodeRefusal.TheVariants.{NotRising, BadOperand}
+use Rattle.code_file.specs.Reading.{Rest, Reading, number_at, is_above_last}
 use Rattle.code_file.specs.Gives.{Fails, left_of}
-use Rattle.code_file.specs.Parts.{front_seen}
-use Rattle.code_file.proofs.Loop.{goes_on, ends, is_done, each_goes_on, each_ends, each_is_done}
+use Rattle.code_file.proofs.Loop.{goes_on, ends, is_done}
 use Rattle.code_file.proofs.decoders.read_links.Goals as goal
 
 pub returns-in_err-one : goal.returns-in_err-one
@@ -26,6 +21,6 @@ loop-preserved c =
     rw c.in_ok-push.ensures.items (goes_on part c.args.front.now.rate c.loop.counter c.loop.all.items (left_of c.loop.rest) _ c.in_ok-one.one (left_of c.in_ok-one.after) c.loop-test.true read c.loop.invariant)
 
 pub returns : goal.returns
-returns c = 
+returns c =
     let part : List (ℕ) → Rest → Reading (ℕ) = λ earlier at. number_at at (λ n. (not (is_above_last earlier n), NotRising at.at) ∷ (not (leads_into c.args.front.now.links c.args.sink n), BadOperand at.at) ∷ []) in
     is_done part c.args.front.now.rate c.loop.counter c.loop.all.items (left_of c.loop.rest) _ c.loop-test.false c.loop.invariant

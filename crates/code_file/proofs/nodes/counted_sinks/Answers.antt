@@ -1,16 +1,12 @@
-use Rattle.std.proofs.Common.{◌≡◌, ℕ, ◌-◌, ◌+◌, ◌||◌, ◌==◌, nat_lt, not, List, [], ◌∷◌, ◌++◌, length, map, codes, drop, take, get_or, Ok, Err, refl, sym, ap, subst, ◌∙◌, arith}
-use Rattle.std.specs.List.{list_any, flat_map}
-use Rattle.std.specs.Str.{bytes_eq}
+use Rattle.std.proofs.Common.{◌≡◌, ℕ, ◌+◌, ◌||◌, ◌==◌, nat_lt, not, List, [], ◌∷◌, ◌++◌, length, drop, take, Ok, ap, ◌∙◌, arith}
 use Rattle.std.proofs.lemmas.Result.{err_from_is_err_and}
-use Rattle.std.proofs.lemmas.List.{map_push, length_push}
+use Rattle.std.proofs.lemmas.List.{length_push}
 use Rattle.net_model.specs.Lists.{is_among}
-use Rattle.node_program.specs.Code.{leads_into}
-use Rattle.code_file.specs.declared.refusal.CodeRefusal.TheVariants.{BadIndex, NotRising, BadOperand}
-use Rattle.code_file.specs.Reading.{Rest, Reading, repeated_at, each_at, name_at, number_at, element_at, link_at, pattern_at, operand_at, operands_at_link, decoder_at, is_above_last}
+use Rattle.code_file.specs.declared.refusal.CodeRefusal.TheVariants.{BadIndex}
+use Rattle.code_file.specs.Reading.{Rest, Reading, number_at}
 use Rattle.code_file.specs.Gives.{Fails, left_of}
-use Rattle.code_file.specs.Parts.{front_seen}
 use Rattle.code_file.proofs.Lists.{kept_size}
-use Rattle.code_file.proofs.Loop.{goes_on, ends, is_done, each_goes_on, each_ends, each_is_done}
+use Rattle.code_file.proofs.Loop.{goes_on, ends, is_done}
 use Rattle.code_file.proofs.nodes.counted_sinks.Goals as goal
 
 pub returns-in_err-one-clause-gives : goal.returns-in_err-one-clause-gives
@@ -25,7 +21,7 @@ loop-preserved c =
     let part : List (ℕ) → Rest → Reading (ℕ) = λ earlier at. number_at at (λ n. (not (nat_lt n c.args.nodes) || (n == c.args.source) || is_among earlier n, BadIndex at.at) ∷ []) in
     let read : part c.loop.sinks.items (left_of c.loop.rest) ≡ Ok (c.in_ok-one.one, left_of c.in_ok-one.after) = rw (← c.deref.ensures.value) (c.in_ok-one.ensures.gives) in
     let kept : take c.loop.marks.len (c.sink.new.marks ++ drop (length c.sink.new.marks) c.loop.marks.items) ≡ c.sink.new.marks =
-      kept_size _ _ _ (omega (arith, c.in_ok-one.ensures.marked.size, c.loop.invariant.marks.size)) (omega (arith, c.loop.marks.ok.0)) in
+    kept_size _ _ _ (omega (arith, c.in_ok-one.ensures.marked.size, c.loop.invariant.marks.size)) (omega (arith, c.loop.marks.ok.0)) in
     record {
       so_far = rw c.in_ok-push.ensures.items (goes_on part c.args.count c.loop.counter c.loop.sinks.items (left_of c.loop.rest) _ c.in_ok-one.one (left_of c.in_ok-one.after) c.loop-test.true read c.loop.invariant.so_far);
       marks = rw (c.in_ok-push.ensures.items, kept, ← c.deref.ensures.value) c.in_ok-one.ensures.marked;
@@ -33,6 +29,6 @@ loop-preserved c =
     }
 
 pub returns-clause-gives : goal.returns-clause-gives
-returns-clause-gives c = 
+returns-clause-gives c =
     let part : List (ℕ) → Rest → Reading (ℕ) = λ earlier at. number_at at (λ n. (not (nat_lt n c.args.nodes) || (n == c.args.source) || is_among earlier n, BadIndex at.at) ∷ []) in
     is_done part c.args.count c.loop.counter c.loop.sinks.items (left_of c.loop.rest) _ c.loop-test.false c.loop.invariant.so_far

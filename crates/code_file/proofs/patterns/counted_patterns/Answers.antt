@@ -1,15 +1,9 @@
-use Rattle.std.proofs.Common.{◌≡◌, ℕ, ◌-◌, ◌+◌, ◌||◌, ◌==◌, nat_lt, not, List, [], ◌∷◌, ◌++◌, length, map, codes, drop, take, get_or, Ok, Err, refl, sym, ap, subst, ◌∙◌, arith}
-use Rattle.std.specs.List.{list_any, flat_map}
-use Rattle.std.specs.Str.{bytes_eq}
+use Rattle.std.proofs.Common.{◌≡◌, ◌+◌, [], ◌∷◌, ◌++◌, Ok, ap, ◌∙◌}
 use Rattle.std.proofs.lemmas.Result.{err_from_is_err_and}
 use Rattle.std.proofs.lemmas.List.{map_push, length_push}
-use Rattle.net_model.specs.Lists.{is_among}
-use Rattle.node_program.specs.Code.{leads_into}
-use Rattle.code_file.specs.declared.refusal.CodeRefusal.TheVariants.{BadIndex, NotRising, BadOperand}
-use Rattle.code_file.specs.Reading.{repeated_at, each_at, name_at, number_at, element_at, link_at, pattern_at, operand_at, operands_at_link, decoder_at, is_above_last}
+use Rattle.code_file.specs.Reading.{pattern_at}
 use Rattle.code_file.specs.Gives.{Fails, left_of}
-use Rattle.code_file.specs.Parts.{front_seen}
-use Rattle.code_file.proofs.Loop.{goes_on, ends, is_done, each_goes_on, each_ends, each_is_done}
+use Rattle.code_file.proofs.Loop.{goes_on, ends, is_done}
 use Rattle.code_file.proofs.patterns.counted_patterns.Goals as goal
 
 pub returns-in_err-one-clause-gives : goal.returns-in_err-one-clause-gives

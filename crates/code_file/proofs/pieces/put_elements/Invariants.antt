@@ -1,6 +1,6 @@
 use Rattle.std.proofs.Common.{◌≡◌, ◌++◌, map, take}
-use Rattle.std.specs.List.{concat, flat_map}
-use Rattle.code_file.specs.Items.{number_item, name_item, element_item, link_items, pattern_items, operand_items, operand_list_items, decoder_items}
+use Rattle.std.specs.List.{concat}
+use Rattle.code_file.specs.Items.{element_item}
 use Rattle.code_file.proofs.pieces.put_elements.Given as goal
 
 abbrev pub invariant-loop-element : goal.invariant-loop-element

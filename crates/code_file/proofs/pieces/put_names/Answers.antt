@@ -1,5 +1,5 @@
-use Rattle.code_file.specs.Items.{number_item, name_item, element_item, link_items, pattern_items, operand_items, operand_list_items, decoder_items}
-use Rattle.code_file.proofs.Joined.{one_item_more, items_more}
+use Rattle.code_file.specs.Items.{name_item}
+use Rattle.code_file.proofs.Joined.{one_item_more}
 use Rattle.code_file.proofs.pieces.put_names.Goals as goal
 
 pub loop-name-preserved : goal.loop-name-preserved

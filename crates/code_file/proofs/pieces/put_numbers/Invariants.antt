@@ -1,6 +1,6 @@
 use Rattle.std.proofs.Common.{◌≡◌, ◌++◌, map, take}
-use Rattle.std.specs.List.{concat, flat_map}
-use Rattle.code_file.specs.Items.{number_item, name_item, element_item, link_items, pattern_items, operand_items, operand_list_items, decoder_items}
+use Rattle.std.specs.List.{concat}
+use Rattle.code_file.specs.Items.{number_item}
 use Rattle.code_file.proofs.pieces.put_numbers.Given as goal
 
 abbrev pub invariant-loop-number : goal.invariant-loop-number

@@ -1,6 +1,5 @@
-use Rattle.std.proofs.Common.{◌≡◌, Ok, sym, ap, ◌∙◌, arith}
+use Rattle.std.proofs.Common.{sym, ap, ◌∙◌, arith}
 use Rattle.std.proofs.lemmas.Result.{err_from_is_err_and}
-use Rattle.code_file.specs.declared.refusal.CodeRefusal.TheVariants.{OutOfMemory}
 use Rattle.code_file.specs.Reading.{Contents, contents_of}
 use Rattle.code_file.specs.Readers.{ok_of}
 use Rattle.code_file.specs.ReadingLaws.{AreContents-from_contents_of, bytes_of-from_contents_of, contents_of-bytes_of}

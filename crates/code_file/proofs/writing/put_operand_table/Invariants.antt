@@ -1,6 +1,6 @@
-use Rattle.std.proofs.Common.{◌≡◌, ◌++◌, map, take}
+use Rattle.std.proofs.Common.{◌≡◌, ◌++◌, take}
 use Rattle.std.specs.List.{concat, flat_map}
-use Rattle.code_file.specs.Items.{number_item, name_item, element_item, link_items, pattern_items, operand_items, operand_list_items, decoder_items}
+use Rattle.code_file.specs.Items.{operand_list_items}
 use Rattle.code_file.proofs.writing.put_operand_table.Given as goal
 
 abbrev pub invariant-loop-operands : goal.invariant-loop-operands

@@ -1,5 +1,5 @@
-use Rattle.code_file.specs.Items.{number_item, name_item, element_item, link_items, pattern_items, operand_items, operand_list_items, decoder_items}
-use Rattle.code_file.proofs.Joined.{one_item_more, items_more}
+use Rattle.code_file.specs.Items.{pattern_items}
+use Rattle.code_file.proofs.Joined.{items_more}
 use Rattle.code_file.proofs.writing.put_patterns.Goals as goal
 
 pub loop-pattern-preserved : goal.loop-pattern-preserved

@@ -1,7 +1,6 @@
 use Rattle.std.proofs.Common.{rules, append_assoc}
 use Rattle.std.proofs.lemmas.Result.{IfOk-equal}
 use Rattle.std.proofs.lemmas.List.Folds.{concat-append}
-use Rattle.std.proofs.Common.{[]}
 use Rattle.net_model.specs.Demands.{sinks_of_demands}
 use Rattle.code_file.specs.Items.{items_of, bytes_of}
 use Rattle.code_file.proofs.Joined.{operands_fit, decoders_fit}
