@@ -1,0 +1,14 @@
+-- Which refusals there are.
+use Rattle.std.proofs.Common.{◌≡◌, ◌≢◌, Result, Ok, Err, refl}
+use Rattle.code_file.specs.declared.refusal.CodeRefusal.{CodeRefusal}
+use Rattle.code_file.specs.declared.refusal.CodeRefusal.TheVariants.{OutOfMemory}
+use Rattle.code_file.specs.Reading.{Contents}
+
+-- a refusal that is no other one is for want of memory
+pub memory_alone : (why : CodeRefusal) → ((why ≢ OutOfMemory) → ⊥) → why ≡ OutOfMemory
+memory_alone OutOfMemory not_other = refl
+memory_alone _ not_other = absurd (not_other (λ same. absurd cc))
+
+-- what is read is not refused
+pub not_both : (read : Result Contents CodeRefusal) (contents : Contents) (why : CodeRefusal) → read ≡ Ok contents → read ≡ Err why → ⊥
+not_both read contents why good bad = absurd cc

@@ -1,0 +1,221 @@
+-- Reading a code file from left to right. Which item comes next is determined by the items before it. An item whose
+-- bytes aren't all there is truncated; else it is refused by the first of its conditions that holds. The refusal of the
+-- file is that of the first item that isn't good.
+use Rattle.std.specs.Prelude.{ℕ, zero, suc, ◌+◌, ◌*◌, Bool, true, not, ◌||◌, ◌==◌, nat_lt, List, [], ◌∷◌, ◌++◌, length, map, take, drop, replicate, slice_index, codes, Option, Some, None, Result, Ok, Err, if◌then◌else◌}
+use Rattle.std.specs.Int.{w16, from_be_bytes}
+use Rattle.std.specs.List.{list_any, flat_map}
+use Rattle.std.specs.Str.{bytes_eq}
+use Rattle.gf_tables.specs.declared.kind.FieldKind.{FieldKind}
+use Rattle.gf_tables.specs.declared.kind.FieldKind.TheVariants.{Eight, Sixteen}
+use Rattle.net_model.specs.Lists.{is_among}
+use Rattle.net_model.specs.Name.{is_name}
+use Rattle.net_model.specs.declared.Link.{Link}
+use Rattle.net_model.specs.declared.Pattern.{Pattern}
+use Rattle.node_program.specs.Code.{leads_into}
+use Rattle.node_program.specs.declared.Operand.{Operand}
+use Rattle.node_program.specs.declared.Decoder.{Decoder}
+use Rattle.code_file.specs.declared.refusal.CodeRefusal.{CodeRefusal}
+use Rattle.code_file.specs.declared.refusal.CodeRefusal.TheVariants.{BadMagic, BadVersion, Truncated, BadField, BadRate, BadName, BadIndex, OutOfOrder, NotRising, ZeroCoefficient, BadOperand, TooMany, TrailingBytes}
+
+-- what is left of a file, and the place of its first byte
+pub record Rest : Type 0 where
+  pub at : ℕ
+  pub bytes : List ℕ
+
+-- what was read and what is left, or the refusal
+abbrev pub Reading : Type 0 → Type 0
+Reading X = Result (X × Rest) CodeRefusal
+
+infixl 10 ◌>>=◌
+abbrev pub ◌>>=◌ : {A B : Type 0} → Result A CodeRefusal → (A → Result B CodeRefusal) → Result B CodeRefusal
+(Ok x) >>= f = f x
+(Err refusal) >>= f = Err refusal
+
+-- the first refusal whose condition holds
+abbrev pub refused_first : {A : Type 0} → List (Bool × CodeRefusal) → A → Result A CodeRefusal
+refused_first [] x = Ok x
+refused_first (condition ∷ conditions) x = if condition.0 then Err condition.1 else refused_first conditions x
+
+-- the next item, of so many bytes, and the conditions under which it is refused
+unfoldable pub item : ℕ → Rest → (List ℕ → List (Bool × CodeRefusal)) → Reading (List ℕ)
+item size rest conditions =
+    if nat_lt (length rest.bytes) size then Err (Truncated rest.at)
+    else refused_first (conditions (take size rest.bytes)) (take size rest.bytes, record { at = rest.at + size; bytes = drop size rest.bytes })
+
+-- a number of one byte, and of two
+unfoldable pub byte_at : Rest → (ℕ → List (Bool × CodeRefusal)) → Reading ℕ
+byte_at rest conditions = do
+  it ← item 1 rest (λ bytes. conditions (slice_index bytes 0))
+  Ok (slice_index it.0 0, it.1)
+
+unfoldable pub number_at : Rest → (ℕ → List (Bool × CodeRefusal)) → Reading ℕ
+number_at rest conditions = do
+  it ← item 2 rest (λ bytes. conditions (from_be_bytes w16 bytes))
+  Ok (from_be_bytes w16 it.0, it.1)
+
+-- the number of an element
+abbrev pub element_at : FieldKind → Rest → (ℕ → List (Bool × CodeRefusal)) → Reading ℕ
+element_at Eight = byte_at
+element_at Sixteen = number_at
+
+-- a name behind the byte of its length
+unfoldable pub name_at : Rest → (List ℕ → Bool) → Reading (List ℕ)
+name_at rest is_bad = do
+  it ← item (1 + slice_index rest.bytes 0) rest (λ bytes. (not (is_name (drop 1 bytes)) || is_bad (drop 1 bytes), BadName rest.at) ∷ [])
+  Ok (drop 1 it.0, it.1)
+
+-- so many parts one after another, each in view of the earlier ones
+unfoldable pub repeated_at : {X : Type 0} → (List X → Rest → Reading X) → ℕ → List X → Rest → Reading (List X)
+repeated_at part zero earlier rest = Ok (earlier, rest)
+repeated_at part (suc count) earlier rest = do
+  one ← part earlier rest
+  repeated_at part count (earlier ++ one.0 ∷ []) one.1
+
+-- a number is above the last of a list
+abbrev pub is_above_last : List ℕ → ℕ → Bool
+is_above_last [] number = true
+is_above_last (one ∷ []) number = nat_lt one number
+is_above_last (one ∷ other ∷ others) number = is_above_last (other ∷ others) number
+
+-- what stands in a code file up to the operands
+pub record Front : Type 0 where
+  pub field : FieldKind
+  pub rate : ℕ
+  pub nodes : List (List ℕ)
+  pub links : List Link
+  pub source : ℕ
+  pub sinks : List ℕ
+  pub patterns : List Pattern
+
+-- the mark and the version
+unfoldable pub mark_at : List ℕ → ℕ → Rest → Result Rest CodeRefusal
+mark_at mark version rest = do
+  it ← item 4 rest (λ bytes. (not (bytes_eq bytes mark), BadMagic) ∷ [])
+  number ← byte_at it.1 (λ n. (not (n == version), BadVersion) ∷ [])
+  Ok number.1
+
+-- the field
+unfoldable pub field_at : Rest → Reading FieldKind
+field_at rest = do
+  number ← byte_at rest (λ n. (not ((n == 8) || (n == 16)), BadField) ∷ [])
+  Ok ((if number.0 == 8 then Eight else Sixteen), number.1)
+
+-- the rate
+abbrev pub rate_at : Rest → Reading ℕ
+rate_at rest = byte_at rest (λ n. ((n == 0) || nat_lt 32 n, BadRate) ∷ [])
+
+-- the nodes, behind their number
+unfoldable pub nodes_at : Rest → Reading (List (List ℕ))
+nodes_at rest = do
+  count ← number_at rest (λ n. (nat_lt 4096 n, TooMany rest.at) ∷ [])
+  repeated_at (λ earlier at. name_at at (λ name. list_any (bytes_eq name) earlier)) count.0 [] count.1
+
+-- one link
+unfoldable pub link_at : ℕ → List Link → Rest → Reading Link
+link_at nodes earlier rest = do
+  name ← name_at rest (λ name. list_any (λ link. bytes_eq name link.name) earlier)
+  tail ← number_at name.1 (λ n. (not (nat_lt n nodes), BadIndex name.1.at) ∷ [])
+  head ← number_at tail.1 (λ n. (not (nat_lt n nodes), BadIndex tail.1.at) ∷ ((n == tail.0) || is_among (map (λ link. link.tail) earlier) n, OutOfOrder (length earlier)) ∷ [])
+  Ok (record { name = name.0; tail = tail.0; head = head.0 }, head.1)
+
+-- the links, behind their number
+unfoldable pub links_at : ℕ → Rest → Reading (List Link)
+links_at nodes rest = do
+  count ← number_at rest (λ n. (nat_lt 8192 n, TooMany rest.at) ∷ [])
+  repeated_at (link_at nodes) count.0 [] count.1
+
+-- the source
+abbrev pub source_at : ℕ → Rest → Reading ℕ
+source_at nodes rest = number_at rest (λ n. (not (nat_lt n nodes), BadIndex rest.at) ∷ [])
+
+-- the sinks, behind their number
+unfoldable pub sinks_at : ℕ → ℕ → Rest → Reading (List ℕ)
+sinks_at nodes source rest = do
+  count ← number_at rest (λ n. (n == 0, BadIndex rest.at) ∷ (nat_lt 4096 n, TooMany rest.at) ∷ [])
+  repeated_at (λ earlier at. number_at at (λ n. (not (nat_lt n nodes) || (n == source) || is_among earlier n, BadIndex at.at) ∷ [])) count.0 [] count.1
+
+-- one listed pattern
+unfoldable pub pattern_at : ℕ → List Pattern → Rest → Reading Pattern
+pattern_at links earlier rest = do
+  name ← name_at rest (λ name. list_any (λ pattern. bytes_eq name pattern.name) earlier)
+  count ← number_at name.1 (λ n. (n == 0, BadIndex name.1.at) ∷ (nat_lt links n, TooMany name.1.at) ∷ [])
+  failed ← repeated_at (λ before at. number_at at (λ n. (not (nat_lt n links), BadIndex at.at) ∷ (not (is_above_last before n), NotRising at.at) ∷ [])) count.0 [] count.1
+  Ok (record { name = name.0; links = failed.0 }, failed.1)
+
+-- the pattern `none` and the listed patterns, behind the number of these
+unfoldable pub patterns_at : ℕ → ℕ → Rest → Reading (List Pattern)
+patterns_at links sinks rest = do
+  count ← number_at rest (λ n. (nat_lt 4095 n || nat_lt 65536 (sinks * (n + 1)), TooMany rest.at) ∷ [])
+  repeated_at (pattern_at links) count.0 (record { name = codes "none"; links = [] } ∷ []) count.1
+
+-- all up to the operands
+unfoldable pub front_at : List ℕ → ℕ → Rest → Reading Front
+front_at mark version start = do
+  rest ← mark_at mark version start
+  field ← field_at rest
+  rate ← rate_at field.1
+  nodes ← nodes_at rate.1
+  links ← links_at (length nodes.0) nodes.1
+  source ← source_at (length nodes.0) links.1
+  sinks ← sinks_at (length nodes.0) source.0 source.1
+  patterns ← patterns_at (length links.0) (length sinks.0) sinks.1
+  Ok (record { field = field.0; rate = rate.0; nodes = nodes.0; links = links.0; source = source.0; sinks = sinks.0; patterns = patterns.0 }, patterns.1)
+
+-- what an operand of a link may name: a source row, where the link leaves the source, else a link into its tail
+abbrev pub may_read : Front → Link → ℕ → Bool
+may_read front link from = if link.tail == front.source then nat_lt from front.rate else leads_into front.links link.tail from
+
+-- one operand of a link
+unfoldable pub operand_at : Front → Link → List Operand → Rest → Reading Operand
+operand_at front link earlier rest = do
+  from ← number_at rest (λ n. (not (is_above_last (map (λ operand. operand.from) earlier) n), NotRising rest.at) ∷ (not (may_read front link n), BadOperand rest.at) ∷ [])
+  times ← element_at front.field from.1 (λ n. (n == 0, ZeroCoefficient from.1.at) ∷ [])
+  Ok (record { from = from.0; times = times.0 }, times.1)
+
+-- the operands of a link, behind their number
+unfoldable pub operands_at_link : Front → Link → Rest → Reading (List Operand)
+operands_at_link front link rest = do
+  count ← number_at rest (λ n. (nat_lt 8192 n, TooMany rest.at) ∷ [])
+  repeated_at (operand_at front link) count.0 [] count.1
+
+-- a part for each of these, in order
+unfoldable pub each_at : {X Y : Type 0} → (X → Rest → Reading Y) → List X → Rest → Reading (List Y)
+each_at part [] rest = Ok ([], rest)
+each_at part (x ∷ xs) rest = do
+  one ← part x rest
+  others ← each_at part xs one.1
+  Ok (one.0 ∷ others.0, others.1)
+
+-- the decoder of a demand, by its sink
+unfoldable pub decoder_at : Front → ℕ → Rest → Reading Decoder
+decoder_at front sink rest = do
+  links ← repeated_at (λ earlier at. number_at at (λ n. (not (is_above_last earlier n), NotRising at.at) ∷ (not (leads_into front.links sink n), BadOperand at.at) ∷ [])) front.rate [] rest
+  entries ← repeated_at (λ earlier at. element_at front.field at (λ n. [])) (front.rate * front.rate) [] links.1
+  Ok (record { links = links.0; entries = entries.0 }, entries.1)
+
+-- the sinks of all demands in order
+abbrev pub demand_sinks : Front → List ℕ
+demand_sinks front = flat_map (λ sink. replicate (length front.patterns) sink) front.sinks
+
+-- what a code file says
+pub record Contents : Type 0 where
+  pub front : Front
+  pub operands : List (List Operand)
+  pub decoders : List Decoder
+
+-- all of a code file
+unfoldable pub contents_of : List ℕ → Result Contents CodeRefusal
+contents_of bytes = do
+  front ← front_at (codes "LIFC") 1 (record { at = 0; bytes = bytes })
+  operands ← each_at (operands_at_link front.0) front.0.links front.1
+  decoders ← each_at (decoder_at front.0) (demand_sinks front.0) operands.1
+  if length decoders.1.bytes == 0 then Ok (record { front = front.0; operands = operands.0; decoders = decoders.0 }) else Err (TrailingBytes decoders.1.at)
+
+-- the refusal that a result is
+abbrev pub refusal_in : {X : Type 0} → Result X CodeRefusal → Option CodeRefusal
+refusal_in (Ok x) = None
+refusal_in (Err refusal) = Some refusal
+
+-- the refusal of a file, if it's refused
+unfoldable pub refusal_of : List ℕ → Option CodeRefusal
+refusal_of bytes = refusal_in (contents_of bytes)

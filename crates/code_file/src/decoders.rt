@@ -1,0 +1,150 @@
+//! The decoders of demands.
+ghost use Rattle.std.specs.Prelude.{◌≡◌, ◌≤◌, ◌*◌, ◌++◌, ◌∷◌, [], not, length, replicate, IfOk, OnOk};
+ghost use Rattle.node_program.specs.Code.{leads_into};
+ghost use Rattle.code_file.specs.Reading.{number_at, element_at, is_above_last, repeated_at, decoder_at, demand_sinks, each_at};
+ghost use Rattle.code_file.specs.Gives.{Gives, left_of};
+ghost use Rattle.code_file.specs.Parts.{front_seen};
+
+use crate::CodeRefusal;
+use crate::items::{element, number};
+use crate::operands::leads_into;
+use crate::parts::Front;
+use crate::rest::Rest;
+use crate::rising::is_above_last;
+use gf_tables::FieldKind;
+use net_model::LinkList;
+use node_program::{Decoder, Entries};
+use std::alloc::{AllocError, AllocFailed, Global};
+
+// One link of a decoder, which leads into the sink.
+#[tactic(auto, using(crate::proofs::Checks::number_checked))]
+fn read_link<'a>(
+    front: &Front,
+    sink: u32,
+    earlier: &[u32],
+    rest: Rest<'a>,
+) -> Result<(u32, Rest<'a>), CodeRefusal>
+    ensures { Gives (λ x. (x.0, left_of x.1)) result (number_at (left_of rest.entry) (λ n. (not (is_above_last earlier.now n), CodeRefusal.NotRising rest.entry.at) ∷ (not (leads_into front.now.links sink n), CodeRefusal.BadOperand rest.entry.at) ∷ [])) }
+{
+    let (link, after) = number(rest)?;
+    let link = u32::from(link);
+    if !is_above_last(earlier, link) {
+        return Err(CodeRefusal::NotRising { at: rest.at });
+    }
+    if !leads_into(front.links.as_slice(), sink, link) {
+        return Err(CodeRefusal::BadOperand { at: rest.at });
+    }
+    Ok((link, after))
+}
+
+// As many links as the rate.
+fn read_links<'a>(
+    alloc: Global,
+    front: &Front,
+    sink: u32,
+    start: Rest<'a>,
+) -> Result<(Vec<u32>, Rest<'a>), CodeRefusal>
+    ensures { Gives (λ x. (x.0.items, left_of x.1)) result (repeated_at (λ earlier at. number_at at (λ n. (not (is_above_last earlier n), CodeRefusal.NotRising at.at) ∷ (not (leads_into front.now.links sink n), CodeRefusal.BadOperand at.at) ∷ [])) front.now.rate [] (left_of start.entry)) }
+{
+    let count = front.rate;
+    let mut all = Vec::with_capacity(alloc, count as usize)?;
+    let mut rest = start;
+    for _ in 0..count {
+        let (one, after) = read_link(front, sink, &all, rest)?;
+        all.push(one)?;
+        rest = after;
+    }
+    Ok((all, rest))
+}
+
+// So many entries of a matrix.
+fn entries<'a>(
+    alloc: Global,
+    field: FieldKind,
+    count: u32,
+    start: Rest<'a>,
+) -> Result<(Vec<u32>, Rest<'a>), CodeRefusal>
+    ensures { Gives (λ x. (x.0.items, left_of x.1)) result (repeated_at (λ earlier at. element_at field at (λ n. [])) count [] (left_of start.entry)) }
+{
+    let mut entries = Vec::with_capacity(alloc, count as usize)?;
+    let mut rest = start;
+    for _ in 0..count {
+        let (one, after) = element(field, rest)?;
+        entries.push(one)?;
+        rest = after;
+    }
+    Ok((entries, rest))
+}
+
+// The decoder of a demand.
+#[tactic(auto, unfolding(crate::specs::Reading::decoder_at))]
+fn decoder<'a>(
+    alloc: Global,
+    front: &Front,
+    sink: u32,
+    rest: Rest<'a>,
+) -> Result<(Decoder, Rest<'a>), CodeRefusal>
+    ensures { Gives (λ x. (x.0, left_of x.1)) result (decoder_at (front_seen front.now) sink (left_of rest.entry)) }
+{
+    let (links, rest) = read_links(alloc, front, sink, rest)?;
+    let (entries, rest) = entries(alloc, front.field, front.rate * front.rate, rest)?;
+    let decoder = Decoder {
+        links: LinkList::of(links),
+        entries: Entries::of(entries),
+    };
+    Ok((decoder, rest))
+}
+
+// Adds a number so many times.
+fn add_times(numbers: &mut Vec<u32>, number: u32, times: usize) -> Result<(), AllocFailed<u32>>
+    ensures { OnOk result (numbers.new.items ≡ numbers.old.items ++ replicate times number) }
+{
+    for _ in 0..times {
+        numbers.push(number)?;
+    }
+    Ok(())
+}
+
+// The sink of each demand.
+fn sinks_of_demands(alloc: Global, front: &Front) -> Result<Vec<u32>, AllocError>
+    ensures { IfOk result (λ sinks. sinks.items ≡ demand_sinks (front_seen front.now)) }
+{
+    let sinks = front.sinks.as_slice();
+    let patterns = front.patterns.len();
+    let mut all = Vec::with_capacity(alloc, sinks.len() * patterns)?;
+    for sink in sinks {
+        add_times(&mut all, *sink, patterns)?;
+    }
+    Ok(all)
+}
+
+// A decoder for each of the sinks.
+fn counted_decoders<'a>(
+    alloc: Global,
+    front: &Front,
+    sinks: &[u32],
+    start: Rest<'a>,
+) -> Result<(Vec<Decoder>, Rest<'a>), CodeRefusal>
+    ensures { Gives (λ x. (x.0.items, left_of x.1)) result (each_at (decoder_at (front_seen front.now)) sinks.now (left_of start.entry)) }
+{
+    let mut decoders = Vec::with_capacity(alloc, sinks.len())?;
+    let mut rest = start;
+    for sink in sinks {
+        let (one, after) = decoder(alloc, front, *sink, rest)?;
+        decoders.push(one)?;
+        rest = after;
+    }
+    Ok((decoders, rest))
+}
+
+/// The decoder of each demand.
+pub(crate) fn decoder_table<'a>(
+    alloc: Global,
+    front: &Front,
+    rest: Rest<'a>,
+) -> Result<(Vec<Decoder>, Rest<'a>), CodeRefusal>
+    ensures { Gives (λ x. (x.0.items, left_of x.1)) result (each_at (decoder_at (front_seen front.now)) (demand_sinks (front_seen front.now)) (left_of rest.entry)) }
+{
+    let sinks = sinks_of_demands(alloc, front)?;
+    counted_decoders(alloc, front, &sinks, rest)
+}

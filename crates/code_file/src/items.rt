@@ -1,0 +1,89 @@
+//! The next items of a file: numbers and elements.
+ghost use Rattle.std.specs.Prelude.{◌≡◌, ◌<◌, ◌≤◌, ◌∷◌, not, [], length, nat_lt, IfOk};
+ghost use Rattle.gf_tables.specs.Product.{size_of};
+ghost use Rattle.code_file.specs.Reading.{item, byte_at, number_at, element_at};
+ghost use Rattle.code_file.specs.Gives.{Gives, left_of};
+
+use crate::CodeRefusal;
+use crate::rest::Rest;
+use gf_tables::FieldKind;
+
+/// The next item, of so many bytes.
+#[tactic(auto, unfolding(crate::specs::Reading::item))]
+pub(crate) fn item<'a>(rest: Rest<'a>, size: usize) -> Result<(&'a [u8], Rest<'a>), CodeRefusal>
+    ensures gives { Gives (λ x. (x.0.now, left_of x.1)) result (item size (left_of rest.entry) (λ _. [])) }
+    ensures size { IfOk result (λ x. length x.0.now ≡ size) }
+{
+    if rest.bytes.len() < size {
+        return Err(CodeRefusal::Truncated { at: rest.at });
+    }
+    let (item, after) = rest.bytes.split_at(size);
+    Ok((
+        item,
+        Rest {
+            at: rest.at + size as u64,
+            bytes: after,
+        },
+    ))
+}
+
+/// A number of one byte.
+#[tactic(auto, unfolding(crate::specs::Reading::byte_at))]
+pub(crate) fn byte<'a>(rest: Rest<'a>) -> Result<(u8, Rest<'a>), CodeRefusal>
+    ensures { Gives (λ x. (x.0, left_of x.1)) result (byte_at (left_of rest.entry) (λ _. [])) }
+{
+    let (item, after) = item(rest, 1)?;
+    Ok((item[0], after))
+}
+
+/// A number of two bytes.
+#[tactic(auto, unfolding(crate::specs::Reading::number_at))]
+pub(crate) fn number<'a>(rest: Rest<'a>) -> Result<(u16, Rest<'a>), CodeRefusal>
+    ensures { Gives (λ x. (x.0, left_of x.1)) result (number_at (left_of rest.entry) (λ _. [])) }
+{
+    let (item, after) = item(rest, 2)?;
+    Ok((u16::from_be_bytes([item[0], item[1]]), after))
+}
+
+/// The number of an element.
+pub(crate) fn element<'a>(field: FieldKind, rest: Rest<'a>) -> Result<(u32, Rest<'a>), CodeRefusal>
+    ensures gives { Gives (λ x. (x.0, left_of x.1)) result (element_at field (left_of rest.entry) (λ _. [])) }
+    ensures below { IfOk result (λ x. x.0 < size_of field) }
+{
+    match field {
+        FieldKind::Eight => {
+            let (number, after) = byte(rest)?;
+            Ok((u32::from(number), after))
+        }
+        FieldKind::Sixteen => {
+            let (number, after) = number(rest)?;
+            Ok((u32::from(number), after))
+        }
+    }
+}
+
+/// A count that has a limit.
+#[tactic(auto, using(crate::proofs::Checks::number_checked))]
+pub(crate) fn count<'a>(rest: Rest<'a>, limit: u16) -> Result<(u16, Rest<'a>), CodeRefusal>
+    ensures gives { Gives (λ x. (x.0, left_of x.1)) result (number_at (left_of rest.entry) (λ n. (nat_lt limit n, CodeRefusal.TooMany rest.entry.at) ∷ [])) }
+    ensures few { IfOk result (λ x. x.0 ≤ limit) }
+{
+    let (count, after) = number(rest)?;
+    if count > limit {
+        return Err(CodeRefusal::TooMany { at: rest.at });
+    }
+    Ok((count, after))
+}
+
+/// A number below a limit.
+#[tactic(auto, using(crate::proofs::Checks::number_checked))]
+pub(crate) fn index<'a>(rest: Rest<'a>, limit: usize) -> Result<(u32, Rest<'a>), CodeRefusal>
+    ensures gives { Gives (λ x. (x.0, left_of x.1)) result (number_at (left_of rest.entry) (λ n. (not (nat_lt n limit), CodeRefusal.BadIndex rest.entry.at) ∷ [])) }
+    ensures below { IfOk result (λ x. x.0 < limit) }
+{
+    let (index, after) = number(rest)?;
+    if usize::from(index) >= limit {
+        return Err(CodeRefusal::BadIndex { at: rest.at });
+    }
+    Ok((u32::from(index), after))
+}

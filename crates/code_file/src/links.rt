@@ -1,0 +1,100 @@
+//! Links.
+ghost use Rattle.std.specs.Prelude.{◌≡◌, ◌<◌, ◌≤◌, ◌==◌, ◌||◌, ◌++◌, ◌∷◌, [], not, nat_lt, length, map, IfOk};
+ghost use Rattle.net_model.specs.Lists.{is_among};
+ghost use Rattle.code_file.specs.Reading.{number_at, repeated_at, link_at, links_at};
+ghost use Rattle.code_file.specs.Gives.{Gives, left_of};
+ghost use Rattle.code_file.specs.Marks.{AreMarks};
+
+use crate::CodeRefusal;
+use crate::items::{count, index, number};
+use crate::marks::{is_marked, mark, no_marks};
+use crate::names::{Names, name};
+use crate::rest::Rest;
+use net_model::{Link, LinkTable};
+use std::alloc::Global;
+
+// The head of a link, which is neither its tail nor that of an earlier link.
+#[tactic(auto, using(crate::proofs::Checks::number_checked))]
+fn head<'a>(
+    nodes: usize,
+    tail: u32,
+    earlier: &[Link],
+    tails: &[bool],
+    rest: Rest<'a>,
+) -> Result<(u32, Rest<'a>), CodeRefusal>
+    requires few { length earlier.now ≤ 8192 }
+    requires tails { AreMarks nodes (map (λ link. link.tail) earlier.now) tails.now }
+    ensures { Gives (λ x. (x.0, left_of x.1)) result (number_at (left_of rest.entry) (λ n. (not (nat_lt n nodes), CodeRefusal.BadIndex rest.entry.at) ∷ ((n == tail) || is_among (map (λ link. link.tail) earlier.now) n, CodeRefusal.OutOfOrder (length earlier.now)) ∷ [])) }
+{
+    let (head, after) = number(rest)?;
+    let place = usize::from(head);
+    if place >= nodes {
+        return Err(CodeRefusal::BadIndex { at: rest.at });
+    }
+    if u32::from(head) == tail || is_marked(tails, place) {
+        return Err(CodeRefusal::OutOfOrder {
+            link: earlier.len() as u32,
+        });
+    }
+    Ok((u32::from(head), after))
+}
+
+// One link.
+#[tactic(auto, unfolding(crate::specs::Reading::link_at))]
+fn link<'a>(
+    alloc: Global,
+    nodes: usize,
+    earlier: &[Link],
+    names: &mut Names<'a>,
+    tails: &mut [bool],
+    rest: Rest<'a>,
+) -> Result<(Link, Rest<'a>), CodeRefusal>
+    requires few { length earlier.now ≤ 8192 }
+    requires names { names.old ≡ map (λ link. link.name) earlier.now }
+    requires tails { AreMarks nodes (map (λ link. link.tail) earlier.now) tails.old }
+    ensures gives { Gives (λ x. (x.0, left_of x.1)) result (link_at nodes earlier.now (left_of rest.entry)) }
+    ensures named { IfOk result (λ x. names.new ≡ map (λ link. link.name) (earlier.now ++ x.0 ∷ [])) }
+    ensures marked { IfOk result (λ x. AreMarks nodes (map (λ link. link.tail) (earlier.now ++ x.0 ∷ [])) tails.new) }
+{
+    let (name, rest) = name(alloc, rest, names)?;
+    let (tail, rest) = index(rest, nodes)?;
+    let (head, rest) = head(nodes, tail, earlier, tails, rest)?;
+    mark(tails, tail as usize);
+    Ok((Link { name, tail, head }, rest))
+}
+
+// So many links.
+fn counted_links<'a>(
+    alloc: Global,
+    nodes: usize,
+    count: u16,
+    start: Rest<'a>,
+) -> Result<(Vec<Link>, Rest<'a>), CodeRefusal>
+    requires { count ≤ 8192 }
+    ensures { Gives (λ x. (x.0.items, left_of x.1)) result (repeated_at (link_at nodes) count [] (left_of start.entry)) }
+{
+    let mut links = Vec::with_capacity(alloc, usize::from(count))?;
+    let mut names = Names::new(alloc);
+    let mut tails = no_marks(alloc, nodes)?;
+    let mut rest = start;
+    for _ in 0..count {
+        let (one, after) = link(alloc, nodes, &links, &mut names, &mut tails, rest)?;
+        links.push(one)?;
+        rest = after;
+    }
+    Ok((links, rest))
+}
+
+/// The links, behind their number.
+#[tactic(auto, unfolding(crate::specs::Reading::links_at))]
+pub(crate) fn links<'a>(
+    alloc: Global,
+    nodes: usize,
+    rest: Rest<'a>,
+) -> Result<(LinkTable, Rest<'a>), CodeRefusal>
+    ensures { Gives (λ x. (x.0, left_of x.1)) result (links_at nodes (left_of rest.entry)) }
+{
+    let (count, rest) = count(rest, 8192)?;
+    let (links, rest) = counted_links(alloc, nodes, count, rest)?;
+    Ok((LinkTable::of(links), rest))
+}

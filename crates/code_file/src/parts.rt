@@ -1,0 +1,28 @@
+//! The parts of a code, as they are read.
+ghost use Rattle.std.specs.Prelude.{◌≤◌, ◌*◌, length};
+
+use gf_tables::FieldKind;
+use net_model::{LinkTable, NameList, NodeList, PatternList};
+use node_program::{DecoderTable, OperandTable};
+
+/// What stands in a code file up to the operands.
+#[derive(Drop)]
+pub(crate) struct Front {
+    pub field: FieldKind,
+    pub rate: u32,
+    pub nodes: NameList,
+    pub links: LinkTable,
+    pub source: u32,
+    pub sinks: NodeList,
+    pub patterns: PatternList,
+    ghost low_rate: { rate ≤ 32 },
+    ghost few_demands: { length sinks * length patterns ≤ 65536 },
+}
+
+/// All that a code file says.
+#[derive(Drop)]
+pub(crate) struct Parts {
+    pub front: Front,
+    pub operands: OperandTable,
+    pub decoders: DecoderTable,
+}

@@ -1,0 +1,151 @@
+//! Patterns.
+ghost use Rattle.std.specs.Prelude.{◌≡◌, ◌<◌, ◌≤◌, ◌+◌, ◌*◌, ◌==◌, ◌||◌, ◌++◌, ◌∷◌, [], List, not, nat_lt, length, map, codes, IfOk, IfErr};
+ghost use Rattle.net_model.specs.declared.Pattern.{Pattern};
+ghost use Rattle.code_file.specs.Reading.{number_at, repeated_at, is_above_last, pattern_at, patterns_at};
+ghost use Rattle.code_file.specs.Gives.{Gives, left_of};
+
+use crate::CodeRefusal;
+use crate::items::number;
+use crate::names::{Names, name};
+use crate::rest::Rest;
+use crate::rising::is_above_last;
+use net_model::{LinkList, Name, Pattern, PatternList};
+use std::alloc::Global;
+
+/// The name of the pattern without links.
+const NONE: &[u8] = b"none";
+
+// One link of a pattern.
+#[tactic(auto, using(crate::proofs::Checks::number_checked))]
+fn failed<'a>(links: usize, before: &[u32], rest: Rest<'a>) -> Result<(u32, Rest<'a>), CodeRefusal>
+    ensures { Gives (λ x. (x.0, left_of x.1)) result (number_at (left_of rest.entry) (λ n. (not (nat_lt n links), CodeRefusal.BadIndex rest.entry.at) ∷ (not (is_above_last before.now n), CodeRefusal.NotRising rest.entry.at) ∷ [])) }
+{
+    let (link, after) = number(rest)?;
+    if usize::from(link) >= links {
+        return Err(CodeRefusal::BadIndex { at: rest.at });
+    }
+    if !is_above_last(before, u32::from(link)) {
+        return Err(CodeRefusal::NotRising { at: rest.at });
+    }
+    Ok((u32::from(link), after))
+}
+
+// So many links of a pattern.
+fn counted_failed<'a>(
+    alloc: Global,
+    links: usize,
+    count: u16,
+    start: Rest<'a>,
+) -> Result<(Vec<u32>, Rest<'a>), CodeRefusal>
+    ensures { Gives (λ x. (x.0.items, left_of x.1)) result (repeated_at (λ before at. number_at at (λ n. (not (nat_lt n links), CodeRefusal.BadIndex at.at) ∷ (not (is_above_last before n), CodeRefusal.NotRising at.at) ∷ [])) count [] (left_of start.entry)) }
+{
+    let mut all = Vec::with_capacity(alloc, usize::from(count))?;
+    let mut rest = start;
+    for _ in 0..count {
+        let (one, after) = failed(links, &all, rest)?;
+        all.push(one)?;
+        rest = after;
+    }
+    Ok((all, rest))
+}
+
+// The number of the links of a pattern.
+#[tactic(auto, using(crate::proofs::Checks::number_checked))]
+fn failed_count<'a>(links: usize, rest: Rest<'a>) -> Result<(u16, Rest<'a>), CodeRefusal>
+    ensures { Gives (λ x. (x.0, left_of x.1)) result (number_at (left_of rest.entry) (λ n. (n == 0, CodeRefusal.BadIndex rest.entry.at) ∷ (nat_lt links n, CodeRefusal.TooMany rest.entry.at) ∷ [])) }
+{
+    let (count, after) = number(rest)?;
+    if count == 0 {
+        return Err(CodeRefusal::BadIndex { at: rest.at });
+    }
+    if usize::from(count) > links {
+        return Err(CodeRefusal::TooMany { at: rest.at });
+    }
+    Ok((count, after))
+}
+
+// One listed pattern.
+#[tactic(auto, unfolding(crate::specs::Reading::pattern_at))]
+fn pattern<'a>(
+    alloc: Global,
+    links: usize,
+    names: &mut Names<'a>,
+    rest: Rest<'a>,
+) -> Result<(Pattern, Rest<'a>), CodeRefusal>
+    ensures gives { (earlier : List Pattern) → names.old ≡ map (λ pattern. pattern.name) earlier → Gives (λ x. (x.0, left_of x.1)) result (pattern_at links earlier (left_of rest.entry)) }
+    ensures named { IfOk result (λ x. names.new ≡ names.old ++ x.0.name ∷ []) }
+{
+    let (name, rest) = name(alloc, rest, names)?;
+    let (count, rest) = failed_count(links, rest)?;
+    let (failed, rest) = counted_failed(alloc, links, count, rest)?;
+    let links = LinkList::of(failed);
+    Ok((Pattern { name, links }, rest))
+}
+
+// The pattern without links.
+fn no_links(alloc: Global) -> Result<Pattern, CodeRefusal>
+    ensures gives { IfOk result (λ pattern. pattern ≡ record { name = codes "none"; links = [] }) }
+    ensures refused { IfErr result (λ refusal. refusal ≡ CodeRefusal.OutOfMemory) }
+{
+    match Name::of(alloc, NONE) {
+        Ok(name) => Ok(Pattern {
+            name,
+            links: LinkList::of(Vec::new(alloc)),
+        }),
+        Err(_) => Err(CodeRefusal::OutOfMemory),
+    }
+}
+
+// The pattern `none`, and so many listed ones.
+fn counted_patterns<'a>(
+    alloc: Global,
+    links: usize,
+    count: u16,
+    start: Rest<'a>,
+) -> Result<(Vec<Pattern>, Rest<'a>), CodeRefusal>
+    ensures gives { Gives (λ x. (x.0.items, left_of x.1)) result (repeated_at (pattern_at links) count (record { name = codes "none"; links = [] } ∷ []) (left_of start.entry)) }
+    ensures len { IfOk result (λ x. length x.0.items ≡ count + 1) }
+{
+    let mut patterns = Vec::with_capacity(alloc, usize::from(count) + 1)?;
+    patterns.push(no_links(alloc)?)?;
+    let mut names = Names::new(alloc);
+    names.add(NONE)?;
+    let mut rest = start;
+    for _ in 0..count {
+        let (one, after) = pattern(alloc, links, &mut names, rest)?;
+        patterns.push(one)?;
+        rest = after;
+    }
+    Ok((patterns, rest))
+}
+
+// The number of the listed patterns.
+#[tactic(auto, using(crate::proofs::Checks::number_checked))]
+fn pattern_count<'a>(sinks: usize, rest: Rest<'a>) -> Result<(u16, Rest<'a>), CodeRefusal>
+    requires { sinks ≤ 4096 }
+    ensures gives { Gives (λ x. (x.0, left_of x.1)) result (number_at (left_of rest.entry) (λ n. (nat_lt 4095 n || nat_lt 65536 (sinks * (n + 1)), CodeRefusal.TooMany rest.entry.at) ∷ [])) }
+    ensures few { IfOk result (λ x. sinks * (x.0 + 1) ≤ 65536) }
+{
+    let (count, after) = number(rest)?;
+    if count > 4095 || sinks * (usize::from(count) + 1) > 65536 {
+        return Err(CodeRefusal::TooMany { at: rest.at });
+    }
+    Ok((count, after))
+}
+
+/// The pattern `none` and the listed patterns, behind the number of these.
+#[tactic(auto, unfolding(crate::specs::Reading::patterns_at))]
+pub(crate) fn patterns<'a>(
+    alloc: Global,
+    links: usize,
+    sinks: usize,
+    rest: Rest<'a>,
+) -> Result<(PatternList, Rest<'a>), CodeRefusal>
+    requires { sinks ≤ 4096 }
+    ensures gives { Gives (λ x. (x.0, left_of x.1)) result (patterns_at links sinks (left_of rest.entry)) }
+    ensures few { IfOk result (λ x. sinks * length x.0 ≤ 65536) }
+{
+    let (count, rest) = pattern_count(sinks, rest)?;
+    let (patterns, rest) = counted_patterns(alloc, links, count, rest)?;
+    Ok((PatternList::of(patterns), rest))
+}

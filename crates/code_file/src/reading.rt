@@ -1,0 +1,87 @@
+//! All of a code file.
+ghost use Rattle.std.specs.Prelude.{◌≡◌, ◌≢◌, ◌≤◌, ◌^◌, length, Err, IfOk, IfErr};
+ghost use Rattle.node_program.specs.Code.{choice_of};
+ghost use Rattle.node_program.specs.declared.code.Code.{Code as SpecCode};
+ghost use Rattle.code_file.specs.Items.{bytes_of};
+ghost use Rattle.code_file.specs.Reading.{contents_of};
+ghost use Rattle.code_file.specs.Gives.{Gives};
+ghost use Rattle.code_file.specs.Parts.{contents_seen};
+ghost use Rattle.code_file.specs.Spelling.{contents_in, AreContents};
+
+use crate::CodeRefusal;
+use crate::decoders::decoder_table;
+use crate::front::front;
+use crate::operands::operand_table;
+use crate::parts::{Front, Parts};
+use crate::rest::Rest;
+use gf_tables::FieldKind;
+use net_model::{FieldChoice, Net};
+use node_program::{Code, DecoderTable, OperandTable};
+use std::alloc::Global;
+
+/// What stands at the front of a code file.
+pub(crate) const MARK: &[u8] = b"LIFC";
+
+// All that the bytes say.
+#[tactic(auto, unfolding(crate::specs::Reading::contents_of))]
+fn read_parts(alloc: Global, bytes: &[u8]) -> Result<Parts, CodeRefusal>
+    requires { length bytes.now ≤ 2 ^ 28 }
+    ensures { Gives contents_seen result (contents_of bytes.now) }
+{
+    let (front, rest) = front(alloc, MARK, 1, Rest { at: 0, bytes })?;
+    let (operands, rest) = operand_table(alloc, &front, rest)?;
+    let (decoders, rest) = decoder_table(alloc, &front, rest)?;
+    if !rest.bytes.is_empty() {
+        return Err(CodeRefusal::TrailingBytes { at: rest.at });
+    }
+    Ok(Parts {
+        front,
+        operands: OperandTable::of(operands),
+        decoders: DecoderTable::of(decoders),
+    })
+}
+
+// The choice that names a field.
+fn choice_of(field: FieldKind) -> FieldChoice
+    ensures { result ≡ choice_of field }
+{
+    match field {
+        FieldKind::Eight => FieldChoice::Eight,
+        FieldKind::Sixteen => FieldChoice::Sixteen,
+    }
+}
+
+// The code of its parts.
+fn code_of(parts: Parts) -> Code
+    requires { AreContents (contents_seen parts) }
+    ensures { contents_in result ≡ contents_seen parts }
+{
+    let Parts {
+        front,
+        operands,
+        decoders,
+    } = parts;
+    let Front {
+        field,
+        rate,
+        nodes,
+        links,
+        source,
+        sinks,
+        patterns,
+    } = front;
+    let net = Net::of(nodes, links, source, sinks, patterns, choice_of(field));
+    Code::of(net, rate, field, operands, decoders)
+}
+
+/// The code whose file the bytes are. A refusal is that of the first item that isn't good, and comes only where the
+/// bytes are no code's file.
+pub fn read_code(alloc: Global, bytes: &[u8]) -> Result<Code, CodeRefusal>
+    requires { length bytes.now ≤ 2 ^ 28 }
+    ensures ok { IfOk result (λ code. bytes.now ≡ bytes_of code) }
+    ensures refused { IfErr result (λ why. why ≢ CodeRefusal.OutOfMemory → contents_of bytes.now ≡ Err why) }
+    ensures none { (code : SpecCode) → bytes.now ≡ bytes_of code → IfErr result (λ why. why ≡ CodeRefusal.OutOfMemory) }
+{
+    let parts = read_parts(alloc, bytes)?;
+    Ok(code_of(parts))
+}

@@ -1,0 +1,128 @@
+//! How much room the file of a code takes.
+ghost use Rattle.std.specs.Prelude.{◌≡◌, ℕ, List, map, length};
+ghost use Rattle.std.specs.List.{flat_map};
+ghost use Rattle.gf_tables.specs.Product.{bytes_of_element};
+ghost use Rattle.gf_tables.specs.declared.kind.FieldKind.{FieldKind as Kind};
+ghost use Rattle.code_file.specs.Items.{name_item, link_items, pattern_items, operand_list_items, operand_table_items, decoder_items, decoder_table_items, front_items, items_of};
+ghost use Rattle.code_file.specs.Room.{capped, size_of_items};
+
+use crate::pieces::listed;
+use gf_tables::FieldKind;
+use net_model::{Link, Name, Net, Pattern};
+use node_program::{Code, Decoder, OperandList};
+
+// How many bytes an element takes.
+fn element_room(field: FieldKind) -> usize
+    ensures { result ≡ bytes_of_element field }
+{
+    match field {
+        FieldKind::Eight => 1,
+        FieldKind::Sixteen => 2,
+    }
+}
+
+// How much room a pattern takes.
+fn pattern_room(pattern: &Pattern) -> usize
+    ensures { result ≡ capped (size_of_items (pattern_items pattern.now)) }
+{
+    let numbers = pattern.links.len().saturating_mul(2);
+    numbers.saturating_add(pattern.name.bytes().len() + 3)
+}
+
+// How much room the operands of a link take, with their number.
+fn operand_room(field: FieldKind, operands: &OperandList) -> usize
+    ensures { result ≡ capped (size_of_items (operand_list_items field operands.now)) }
+{
+    let all = operands.len().saturating_mul(2 + element_room(field));
+    all.saturating_add(2)
+}
+
+// How much room a decoder takes.
+fn decoder_room(field: FieldKind, decoder: &Decoder) -> usize
+    ensures { result ≡ capped (size_of_items (decoder_items field decoder.now)) }
+{
+    let links = decoder.links.len().saturating_mul(2);
+    let entries = decoder.entries.len().saturating_mul(element_room(field));
+    links.saturating_add(entries)
+}
+
+// How much room names take.
+fn names_room(names: &[Name]) -> usize
+    ensures { result ≡ capped (size_of_items (map name_item names.now)) }
+{
+    let mut room: usize = 0;
+    for name in names {
+        room = room.saturating_add(1 + name.bytes().len());
+    }
+    room
+}
+
+// How much room links take.
+fn links_room(links: &[Link]) -> usize
+    ensures { result ≡ capped (size_of_items (flat_map link_items links.now)) }
+{
+    let mut room: usize = 0;
+    for link in links {
+        room = room.saturating_add(5 + link.name.bytes().len());
+    }
+    room
+}
+
+// How much room patterns take.
+fn patterns_room(patterns: &[Pattern]) -> usize
+    ensures { result ≡ capped (size_of_items (flat_map pattern_items patterns.now)) }
+{
+    let mut room: usize = 0;
+    for pattern in patterns {
+        room = room.saturating_add(pattern_room(pattern));
+    }
+    room
+}
+
+// How much room the operands of all links take.
+fn operands_room(field: FieldKind, table: &[OperandList]) -> usize
+    ensures { result ≡ capped (size_of_items (operand_table_items field table.now)) }
+{
+    let mut room: usize = 0;
+    for operands in table {
+        room = room.saturating_add(operand_room(field, operands));
+    }
+    room
+}
+
+// How much room decoders take.
+fn decoders_room(field: FieldKind, decoders: &[Decoder]) -> usize
+    ensures { result ≡ capped (size_of_items (decoder_table_items field decoders.now)) }
+{
+    let mut room: usize = 0;
+    for decoder in decoders {
+        room = room.saturating_add(decoder_room(field, decoder));
+    }
+    room
+}
+
+// How much room all up to the operands takes, behind a mark of four bytes.
+fn front_room(net: &Net) -> usize
+    ensures { (mark : List ℕ) (version : ℕ) (rate : ℕ) (field : Kind) → length mark ≡ 4 → result ≡ capped (size_of_items (front_items mark version net.now rate field)) }
+{
+    let nodes = names_room(net.nodes.as_slice());
+    let links = links_room(net.links.as_slice());
+    let sinks = net.sinks.len().saturating_mul(2);
+    let patterns = patterns_room(listed(net));
+    nodes
+        .saturating_add(links)
+        .saturating_add(sinks)
+        .saturating_add(patterns)
+        .saturating_add(17)
+}
+
+/// How much room the file of a code takes, or the greatest number of the machine where that is less.
+#[tactic(auto, unfolding(crate::specs::Items::items_of))]
+pub(crate) fn code_room(code: &Code) -> usize
+    ensures { result ≡ capped (size_of_items (items_of code.now)) }
+{
+    let front = front_room(&code.net);
+    let operands = operands_room(code.field, code.operands.as_slice());
+    let decoders = decoders_room(code.field, code.decoders.as_slice());
+    front.saturating_add(operands).saturating_add(decoders)
+}
