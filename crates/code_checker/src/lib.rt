@@ -10,3 +10,6 @@ mod products;
 
 pub use checked::{CheckRefusal, Checked, Refused};
 pub use checking::check;
+
+#[cfg(test)]
+mod tests;

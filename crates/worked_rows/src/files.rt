@@ -1,5 +1,5 @@
 //! Code files of the examples.
-ghost use Rattle.std.specs.Prelude.{◌≡◌, [], ◌∷◌, ◌++◌, take, drop, slice_range, slice_set, codes};
+ghost use Rattle.std.specs.Prelude.{◌≡◌, slice_set};
 ghost use Rattle.code_file.specs.Items.{bytes_of};
 ghost use Rattle.worked_rows.specs.OneLink.{one_link, wide_one_link, doubled_one_link};
 ghost use Rattle.worked_rows.specs.Butterfly.{butterfly, changed_butterfly};
@@ -63,6 +63,36 @@ pub const BUTTERFLY: &[u8] = b"LIFC\x01\x08\x02\
     \x00\x02\x00\x07\x01\x00\x01\x01\
     \x00\x03\x00\x08\x01\x01\x01\x00";
 
+/// The butterfly with the pattern `cut` of the link from `s` to `a`.
+pub const CUT_BUTTERFLY: &[u8] = b"LIFC\x01\x08\x02\
+    \x00\x07\x01s\x02t1\x02t2\x01a\x01b\x01c\x01d\
+    \x00\x09\
+    \x03s-a\x00\x00\x00\x03\
+    \x03s-b\x00\x00\x00\x04\
+    \x04a-t1\x00\x03\x00\x01\
+    \x04b-t2\x00\x04\x00\x02\
+    \x03a-c\x00\x03\x00\x05\
+    \x03b-c\x00\x04\x00\x05\
+    \x03c-d\x00\x05\x00\x06\
+    \x04d-t1\x00\x06\x00\x01\
+    \x04d-t2\x00\x06\x00\x02\
+    \x00\x00\
+    \x00\x02\x00\x01\x00\x02\
+    \x00\x01\x03cut\x00\x01\x00\x00\
+    \x00\x01\x00\x00\x01\
+    \x00\x01\x00\x01\x01\
+    \x00\x01\x00\x00\x01\
+    \x00\x01\x00\x01\x01\
+    \x00\x01\x00\x00\x01\
+    \x00\x01\x00\x01\x01\
+    \x00\x02\x00\x04\x01\x00\x05\x01\
+    \x00\x01\x00\x06\x01\
+    \x00\x01\x00\x06\x01\
+    \x00\x02\x00\x07\x01\x00\x01\x01\
+    \x00\x02\x00\x07\x01\x00\x01\x01\
+    \x00\x03\x00\x08\x01\x01\x01\x00\
+    \x00\x03\x00\x08\x01\x01\x01\x00";
+
 /// The file of the code of one link.
 pub fn one_link_is_spelled()
     ensures { bytes_of one_link ≡ ONE_LINK.now }
@@ -88,10 +118,7 @@ pub fn changed_butterfly_is_spelled()
     ensures { bytes_of changed_butterfly ≡ slice_set BUTTERFLY.now 173 2 }
 {}
 
-/// The file of the butterfly with the pattern `cut` of the link 0: where the number of listed patterns stands,
-/// the pattern too, and each decoder once more.
+/// The file of the butterfly with the pattern `cut` of the link 0.
 pub fn cut_butterfly_is_spelled()
-    ensures { bytes_of cut_butterfly
-        ≡ take 111 BUTTERFLY.now ++ (0 ∷ 1 ∷ 3 ∷ codes "cut") ++ (0 ∷ 1 ∷ 0 ∷ 0 ∷ [])
-        ++ slice_range BUTTERFLY.now 113 169 ++ drop 161 BUTTERFLY.now ++ drop 169 BUTTERFLY.now }
+    ensures { bytes_of cut_butterfly ≡ CUT_BUTTERFLY.now }
 {}

@@ -1,4 +1,5 @@
 //! The top call over objects in memory: how it ends, what is said, and what the sink's file holds.
+mod checks;
 mod coefficients;
 mod faults;
 
