@@ -1,3 +1,4 @@
 pub mod Checking
 pub mod Loaded
 pub mod First
+pub mod CheckingLaws

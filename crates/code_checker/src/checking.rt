@@ -1,5 +1,5 @@
 //! The check of a code, pattern by pattern.
-ghost use Rattle.std.specs.Prelude.{◌≡◌, ◌<◌, ◌+◌, length, IfOk, IfErr, OnOk};
+ghost use Rattle.std.specs.Prelude.{◌≡◌, ◌≢◌, ◌<◌, ◌+◌, length, IfOk, IfErr, OnOk};
 ghost use Rattle.gf_tables.specs.Kind.{IsOfKind};
 ghost use Rattle.node_program.specs.Decoding.{IsAccepted};
 ghost use Rattle.code_checker.specs.Checking.{IsRefusal};
@@ -30,6 +30,7 @@ pub fn check<G: Gate + Sync, R: Threads + Sync>(
     ensures accepted { OnOk result (IsAccepted code) }
     ensures returned { IfErr result (λ refused. refused.code ≡ code) }
     ensures refused { IfErr result (λ refused. IsRefusal code refused.why) }
+    ensures rejected { IfErr result (λ refused. refused.why ≢ CheckRefusal.OutOfMemory → ¬ IsAccepted code) }
 {
     gate.enter(0);
     match first_failure(alloc, &code) {
