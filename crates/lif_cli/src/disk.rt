@@ -8,7 +8,7 @@ ghost use Rattle.lif_cli.specs.Disk.{read_faults_of, write_faults_of, path_read_
 #[cfg(test)]
 mod tests;
 
-use crate::appending::{Appending, append_to};
+use crate::appending::{OpenFiles, append_to};
 use crate::faults::counted;
 use crate::pieces::{move_to, read_full};
 use lif_outside::{Failed, Store};
@@ -17,12 +17,13 @@ use std::rt::Files;
 use std::{fs, io};
 
 /// The files of the system, by their paths. It tells nothing of what they hold, and doesn't force what was
-/// written out of the system's memory.
+/// written out of the system's memory. A file that was appended to stays open for the next append, until it is
+/// made anew or an append to it fails; at most 512 are open so, and one more closes that which was opened first.
 #[derive(Drop)]
 pub struct DiskStore<'r> {
     rt: &'r HostRuntime,
-    // The file that was appended to last.
-    last: Option<Appending<File>>,
+    // Those that were appended to.
+    open: OpenFiles<File>,
     read_faults: u64,
     write_faults: u64,
 }
@@ -35,7 +36,7 @@ impl<'r> DiskStore<'r> {
     {
         DiskStore {
             rt,
-            last: None,
+            open: OpenFiles::new(rt.alloc()),
             read_faults: 0,
             write_faults: 0,
         }
@@ -98,7 +99,7 @@ impl<'r> Store for DiskStore<'r> {
         ensures faults_err { OnErr result (write_faults_of self.new ≡ one_more (write_faults_of self.old)) }
         ensures reads { read_faults_of self.new ≡ read_faults_of self.old }
     {
-        self.last = None;
+        self.open.close(path);
         counted(create_empty(self.rt, path), &mut self.write_faults)
     }
 
@@ -111,7 +112,7 @@ impl<'r> Store for DiskStore<'r> {
         ensures faults_err { OnErr result (write_faults_of self.new ≡ one_more (write_faults_of self.old)) }
         ensures reads { read_faults_of self.new ≡ read_faults_of self.old }
     {
-        let outcome = append_to(self.rt, &mut self.last, path, bytes);
+        let outcome = append_to(self.rt, &mut self.open, path, bytes);
         counted(outcome, &mut self.write_faults)
     }
 }

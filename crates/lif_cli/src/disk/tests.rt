@@ -95,3 +95,37 @@ fn faults_of_the_system_are_counted(rt: HostRuntime) -> Result<(), Fail> {
     fs::remove_dir(&rt, folder)?;
     Ok(())
 }
+
+// The bytes of a number.
+fn tag(place: u32) -> [u8; 4] {
+    place.to_be_bytes()
+}
+
+#[test]
+fn more_files_than_stay_open_are_appended_to(rt: HostRuntime) -> Result<(), Fail> {
+    let folder = "disk-store-many-test";
+    fs::create_dir(&rt, folder)?;
+    let mut store = DiskStore::new(&rt);
+    for place in 0..600u32 {
+        let path = format!(in rt.alloc(); "{folder}/{place}")?;
+        assert_eq!(rt; store.create(&path), Ok(()), "{place}");
+    }
+    for _round in 0..3 {
+        for place in 0..600u32 {
+            let path = format!(in rt.alloc(); "{folder}/{place}")?;
+            assert_eq!(rt; store.append(&path, &tag(place)), Ok(()), "{place}");
+        }
+    }
+    for place in 0..600u32 {
+        let path = format!(in rt.alloc(); "{folder}/{place}")?;
+        let mut into = [0; 13];
+        assert_eq!(rt; store.read(&path, 0, &mut into), Ok(12), "{place}");
+        for round in 0..3 {
+            assert_eq!(rt; into[4 * round..4 * round + 4], *tag(place).as_slice(), "{place}");
+        }
+        fs::remove_file(&rt, &path)?;
+    }
+    assert_eq!(rt; (store.read_faults, store.write_faults), (0, 0));
+    fs::remove_dir(&rt, folder)?;
+    Ok(())
+}
