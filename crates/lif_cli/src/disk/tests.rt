@@ -121,7 +121,11 @@ fn more_files_than_stay_open_are_appended_to(rt: HostRuntime) -> Result<(), Fail
         let mut into = [0; 13];
         assert_eq!(rt; store.read(&path, 0, &mut into), Ok(12), "{place}");
         for round in 0..3 {
-            assert_eq!(rt; into[4 * round..4 * round + 4], *tag(place).as_slice(), "{place}");
+            assert_eq!(rt;
+                into[4 * round..4 * round + 4],
+                *tag(place).as_slice(),
+                "{place}"
+            );
         }
         fs::remove_file(&rt, &path)?;
     }
