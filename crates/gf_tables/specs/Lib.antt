@@ -7,8 +7,6 @@ pub mod Powers
 pub mod PowersLaws
 pub mod TablesTest
 pub mod Poly11D
-pub mod Nibbles
-pub mod Halves
 pub mod NoRoot
 pub mod Field
 pub mod NumberField

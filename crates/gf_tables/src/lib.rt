@@ -3,15 +3,12 @@
 
 mod field;
 mod kind;
-mod lanes;
-mod nibbles;
 mod octet;
 mod poly_11d;
 mod quad;
 
 pub use field::Field;
 pub use kind::{FieldKind, product};
-pub use nibbles::NibbleTables;
 pub use octet::{Generates, Octet};
 pub use poly_11d::{Gf8, Poly11D};
 pub use quad::{Gf16, NoRoot, Quad};

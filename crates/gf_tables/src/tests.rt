@@ -1,8 +1,6 @@
 ghost use Rattle.std.specs.Prelude.{◌<◌};
 
-use crate::{
-    Field, FieldKind, Generates, Gf8, Gf16, NibbleTables, NoRoot, Octet, Poly11D, Quad, product,
-};
+use crate::{Field, FieldKind, Generates, Gf8, Gf16, NoRoot, Octet, Poly11D, Quad, product};
 use std::thread::join;
 
 // The product of bytes by its definition: a is doubled for each bit of b, and reduced where it has nine bits.
@@ -88,55 +86,6 @@ fn products_by_kind(rt: HostRuntime) {
     assert_eq!(rt; product(FieldKind::Sixteen, 0x0100, 0x0100), 0x0120);
 }
 
-#[test]
-fn by_nibbles(rt: HostRuntime) {
-    for multiplier in [0, 1, 2, 0x1D, 0x80, 0xFF] {
-        let element = Gf8::of_number(multiplier);
-        let tables = NibbleTables::new(element);
-        assert_eq!(rt; tables.multiplier(), element);
-        for byte in 0..=255u8 {
-            let product = element.mul(Gf8::of_number(byte as u32)).number();
-            assert_eq!(rt;
-                tables.times(byte) as u32,
-                product,
-                "{multiplier} times {byte}"
-            );
-        }
-    }
-}
-
-// Bytes from a first one on, each a step above the one before.
-fn in_steps(first: u8, step: u8) -> [u8; 1100] {
-    let mut bytes = [first; 1100];
-    for place in 1..1100 {
-        bytes[place] = bytes[place - 1].wrapping_add(step);
-    }
-    bytes
-}
-
-#[test]
-fn products_added_to_rows(rt: HostRuntime) {
-    let from = in_steps(5, 3);
-    let before = in_steps(1, 2);
-    for multiplier in [0, 1, 2, 0x1D, 0x80, 0xFF] {
-        let element = Gf8::of_number(multiplier);
-        let tables = NibbleTables::new(element);
-        for count in [0, 1, 63, 64, 65, 128, 200, 1024] {
-            let mut into = before;
-            tables.add_scaled(&mut into[..count], &from[..count]);
-            for place in 0..1100 {
-                let product = element.mul(Gf8::of_number(from[place] as u32)).number() as u8;
-                let added = if place < count { product } else { 0 };
-                assert_eq!(rt;
-                    into[place],
-                    before[place] ^ added,
-                    "{multiplier} at {place} of {count}"
-                );
-            }
-        }
-    }
-}
-
 // The numbers of the first powers of an element.
 fn powers_of<F: Field>(element: F) -> [u32; 100] {
     let mut numbers = [0; 100];
@@ -148,40 +97,31 @@ fn powers_of<F: Field>(element: F) -> [u32; 100] {
     numbers
 }
 
-// Products with both fields and by tables.
-fn products_of(
-    octet: &Gf8,
-    pair: &Gf16,
-    tables: &NibbleTables<Poly11D>,
-) -> ([u32; 100], [u32; 100], u8) {
-    (powers_of(*octet), powers_of(*pair), tables.times(0x53))
+// Products with both fields.
+fn products_of(octet: &Gf8, pair: &Gf16) -> ([u32; 100], [u32; 100]) {
+    (powers_of(*octet), powers_of(*pair))
 }
 
 #[test]
 fn threads_share_fields(rt: HostRuntime) {
     let octet = Gf8::of_number(3);
     let pair = Gf16::of_number(0x0203);
-    let tables = NibbleTables::new(octet);
     let (first, second) = join(
         &rt,
-        || products_of(&octet, &pair, &tables),
-        || products_of(&octet, &pair, &tables),
+        || products_of(&octet, &pair),
+        || products_of(&octet, &pair),
     );
-    let alone = products_of(&octet, &pair, &tables);
+    let alone = products_of(&octet, &pair);
     assert_eq!(rt; first, alone);
     assert_eq!(rt; second, alone);
 }
 
-// Threads can share values of the type.
-fn shared<T: Send + Sync>() {}
-
-// They can copy and compare them too.
+// Threads can share values of the type, copy and compare them.
 fn shared_values<T: Copy + Eq + Send + Sync>() {}
 
 fn shared_over<T: Generates + Send + Sync, F: NoRoot + Send + Sync>() {
     shared_values::<Octet<T>>();
     shared_values::<Quad<F>>();
-    shared::<NibbleTables<T>>();
 }
 
 #[test]

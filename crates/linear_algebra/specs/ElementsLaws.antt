@@ -123,7 +123,7 @@ bytes_of_row-AreBytes Eight row h = h
 bytes_of_row-AreBytes Sixteen row h = bytes_of_pairs-bytes row h
 
 -- the exclusive or of two numbers goes by their bytes
-xor_of_pairs : (a b c d : ℕ) → b < 256 → d < 256 → 256 * bit_xor a c + bit_xor b d ≡ bit_xor (256 * a + b) (256 * c + d)
+pub xor_of_pairs : (a b c d : ℕ) → b < 256 → d < 256 → 256 * bit_xor a c + bit_xor b d ≡ bit_xor (256 * a + b) (256 * c + d)
 xor_of_pairs a b c d below_b below_d =
     let first : 256 * a + b ≡ a * 2 ^ 8 + b = omega arith in
     let second : 256 * c + d ≡ c * 2 ^ 8 + d = omega arith in

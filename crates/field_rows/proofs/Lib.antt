@@ -1,0 +1,5 @@
+pub mod Halves
+pub mod LookUps
+pub mod Added
+pub mod PairProducts
+pub mod PairLanes

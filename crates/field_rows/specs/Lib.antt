@@ -1,0 +1,7 @@
+pub mod Bytes
+pub mod BytesLaws
+pub mod Nibbles
+pub mod Halves
+pub mod Parted
+pub mod Added
+pub mod PairSums

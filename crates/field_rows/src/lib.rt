@@ -1,0 +1,12 @@
+//! Sums of rows of field elements, over the bytes that the elements are.
+#![tactic(auto)]
+
+mod lanes;
+mod nibbles;
+mod pairs;
+mod row_tables;
+
+pub use row_tables::RowTables;
+
+#[cfg(test)]
+mod tests;

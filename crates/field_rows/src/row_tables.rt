@@ -1,0 +1,72 @@
+//! Sums of rows of both fields.
+ghost use Rattle.std.specs.Prelude.{◌≡◌, ◌<◌, ◌/◌, ◌%◌, ℕ, length, slice_index_or};
+ghost use Rattle.field_rows.specs.Bytes.{elements_of};
+ghost use Rattle.gf_tables.specs.Product.{bytes_of_element, size_of};
+ghost use Rattle.linear_algebra.specs.Rows.{add_rows, scale_row};
+
+use crate::nibbles::NibbleTables;
+use crate::pairs::PairTables;
+use gf_tables::{Field, FieldKind, Gf8, Poly11D};
+use std::array::from_fn;
+
+// The constant of the field of pairs, in which y*y = y + C.
+const PAIR_CONSTANT: u8 = 0x20;
+
+/// The tables of the products with each octet. By them a row of elements of either field is
+/// multiplied with any element.
+#[derive(Drop)]
+pub struct RowTables {
+    tables: [NibbleTables<Poly11D>; 256],
+    ghost each_its_own: { (octet none : ℕ) → octet < 256 → slice_index_or tables octet none ≡ octet },
+}
+
+impl RowTables {
+    /// The tables of all octets. They take no memory but the value's own, about 8 KiB.
+    pub fn new() -> RowTables {
+        RowTables {
+            tables: from_fn(
+                |octet: usize| -> NibbleTables<Poly11D>
+                    requires { octet < 256 }
+                    ensures { result ≡ octet }
+                { NibbleTables::new(Gf8::of_number(octet as u32)) },
+            ),
+        }
+    }
+
+    // The tables of an octet.
+    fn of_octet(&self, octet: u8) -> &NibbleTables<Poly11D>
+        ensures { result.now ≡ octet }
+    {
+        &self.tables[octet as usize]
+    }
+
+    // The tables for products with the pair of octets that a number stands for.
+    fn of_pair(&self, by: u32) -> PairTables<'_>
+        requires { by < 65536 }
+        ensures low { result.low.now ≡ by % 256 }
+        ensures high { result.high.now ≡ by / 256 }
+    {
+        let low = (by & 255) as u8;
+        let high = (by >> 8) as u8;
+        PairTables {
+            low: self.of_octet(low),
+            high: self.of_octet(high),
+            both: self.of_octet(low ^ high),
+            wrapped: self.of_octet(self.of_octet(PAIR_CONSTANT).times(high)),
+        }
+    }
+
+    /// Adds to each element of a row `by` times the element of another row at its place.
+    pub fn add_scaled(&self, field: FieldKind, into: &mut [u8], by: u32, from: &[u8])
+        requires same_length { length into.old ≡ length from.now }
+        requires whole { length from.now % bytes_of_element field ≡ 0 }
+        requires element { by < size_of field }
+        ensures count { length into.new ≡ length into.old }
+        ensures sum { elements_of field into.new ≡ add_rows (elements_of field into.old) (scale_row field by (elements_of field from.now)) }
+    {
+        match field {
+            FieldKind::Eight => self.of_octet(by as u8).add_scaled(into, from),
+            FieldKind::Sixteen => self.of_pair(by).add_scaled(into, from),
+        }
+    }
+}

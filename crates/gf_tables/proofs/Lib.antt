@@ -1,3 +1,0 @@
-pub mod Halves
-pub mod LookUps
-pub mod Added
