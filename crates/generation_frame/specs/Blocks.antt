@@ -1,5 +1,5 @@
 -- The blocks of a file. A block is a count of four bytes, that many bytes of the file, and zeros.
-use Rattle.std.specs.Prelude.{ℕ, ◌+◌, ◌-◌, ◌*◌, ◌/◌, min, List, ◌++◌, length, map, take, drop, replicate}
+use Rattle.std.specs.Prelude.{ℕ, ◌+◌, ◌-◌, ◌*◌, ◌/◌, min, nat_lt, filter, List, ◌++◌, length, map, take, drop, replicate}
 use Rattle.std.specs.List.{range_with_len}
 use Rattle.std.specs.Int.{to_be_bytes, from_be_bytes, w32}
 
@@ -17,6 +17,15 @@ block_count file rate = length file / capacity rate + 1
 -- the bytes of a file that the block of a number has
 abbrev pub piece_of : List ℕ → ℕ → ℕ → List ℕ
 piece_of file rate generation = take (capacity rate) (drop (generation * capacity rate) file)
+
+-- what the first generations of a file have of its bytes, without those that have none
+abbrev pub pieces_before : List ℕ → ℕ → ℕ → List (List ℕ)
+pieces_before file rate generations =
+    filter (λ piece. nat_lt 0 (length piece)) (map (piece_of file rate) (range_with_len 0 generations))
+
+-- a file, cut into what its generations have of it
+abbrev pub pieces_of : List ℕ → ℕ → List (List ℕ)
+pieces_of file rate = pieces_before file rate (block_count file rate)
 
 -- the blocks of a file, each at its generation
 abbrev pub blocks_of : List ℕ → ℕ → List (List ℕ)

@@ -1,2 +1,3 @@
 pub mod Blocks
 pub mod BlockLaws
+pub mod PieceLaws

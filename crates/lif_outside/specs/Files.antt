@@ -1,5 +1,5 @@
 -- Files by their paths, and what stands at paths before and after calls.
-use Rattle.std.specs.Prelude.{◌≡◌, ◌⊎◌, ℕ, List, [], Option, Some, take, Contains}
+use Rattle.std.specs.Prelude.{◌≡◌, ◌⊎◌, ℕ, List, [], ◌∷◌, Option, Some, take, Contains}
 
 -- what each path holds, or that no file is there
 abbrev pub Files : Type 0
@@ -24,3 +24,14 @@ HoldsPrefix bytes file = (kept : ℕ) × (file ≡ Some (take kept bytes))
 -- what stands at a path is as before, or an empty file
 abbrev pub IsSameOrEmpty : Option (List ℕ) → Option (List ℕ) → Type 0
 IsSameOrEmpty old new = (new ≡ old) ⊎ (new ≡ Some [])
+
+-- No path outside this list is changed, and of each path in it this holds: of the path, of what stood there, and of
+-- what stands there.
+pub record ChangesOnly (paths : List (List ℕ)) (P : List ℕ → Option (List ℕ) → Option (List ℕ) → Type 0) (old new : Files) : Type 0 where
+  pub others : SameBut paths old new
+  pub these : (path : List ℕ) → Contains paths path → P path (old path) (new path)
+
+-- no path stands twice
+abbrev pub AreDistinct : List (List ℕ) → Type 0
+AreDistinct [] = Unit {0}
+AreDistinct (path ∷ paths) = ¬ Contains paths path × AreDistinct paths

@@ -8,7 +8,9 @@ pub mod EventLaws
 pub mod Runs
 pub mod RunLaws
 pub mod FaultLaws
+pub mod TurnLaws
 pub mod Puts
+pub mod PutLaws
 pub mod Accounts
 pub mod AccountLaws
 pub mod Calls

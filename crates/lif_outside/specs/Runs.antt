@@ -1,7 +1,8 @@
 -- Runs of calls: reads of a whole file, and appends to files.
-use Rattle.std.specs.Prelude.{◌≡◌, ◌<◌, ◌≤◌, ◌+◌, ℕ, List, [], ◌∷◌, ◌++◌, length, if◌then◌else◌, Contains}
+use Rattle.std.specs.Prelude.{◌≡◌, ◌<◌, ◌≤◌, ◌+◌, ℕ, List, [], ◌∷◌, ◌++◌, length, map, if◌then◌else◌, Contains}
+use Rattle.std.specs.List.{flat_map}
 use Rattle.std.specs.Str.{bytes_eq}
-use Rattle.lif_outside.specs.Events.{Event, read, read_failed, appended}
+use Rattle.lif_outside.specs.Events.{Event, read, read_failed, created, create_failed, appended, append_failed}
 
 -- The calls are reads of a path from a place on, each from where the one before ended, and each gave something.
 abbrev pub AreReadsFrom : ℕ → List ℕ → List Event → Type 0
@@ -43,6 +44,41 @@ pub record ReadsPastLimit (path : List ℕ) (limit : ℕ) (events : List Event) 
 pub record ReadsSome (path : List ℕ) (limit : ℕ) (events : List Event) : Type 0 where
   pub reads : AreReadsFrom 0 path events
   pub short : length (bytes_read events) ≤ limit + 1
+
+-- The calls are some of which P holds, and then some of which Q holds.
+pub record Then (P Q : List Event → Type 0) (events : List Event) : Type 0 where
+  pub first : List Event
+  pub later : List Event
+  pub events_are : events ≡ first ++ later
+  pub holds_first : P first
+  pub holds_later : Q later
+
+-- the calls are these
+abbrev pub Are : List Event → List Event → Type 0
+Are these events = events ≡ these
+
+-- a call, had it failed
+abbrev pub failed_of : Event → Event
+failed_of (read path at room bytes) = read_failed path at room
+failed_of (created path) = create_failed path
+failed_of (appended path bytes) = append_failed path bytes
+failed_of event = event
+
+-- The calls are these up to one, and that one failed.
+pub record StopsWithin (these events : List Event) : Type 0 where
+  pub front : List Event
+  pub next : Event
+  pub rest : List Event
+  pub these_are : these ≡ front ++ next ∷ rest
+  pub events_are : events ≡ front ++ failed_of next ∷ []
+
+-- each of these paths is created, in order
+abbrev pub creates_of : List (List ℕ) → List Event
+creates_of paths = map created paths
+
+-- piece by piece, each of these paths gets the piece
+abbrev pub appends_of : List (List ℕ) → List (List ℕ) → List Event
+appends_of paths pieces = flat_map (λ piece. map (λ path. appended path piece) paths) pieces
 
 -- the calls are appends to some of these paths, all done
 abbrev pub AreAppendsTo : List (List ℕ) → List Event → Type 0
