@@ -1,0 +1,22 @@
+-- A code at work on blocks, under a pattern.
+use Rattle.std.specs.Prelude.{◌≡◌, ◌*◌, ℕ, List, length}
+use Rattle.field_rows.specs.Bytes.{element_rows}
+use Rattle.node_program.specs.declared.code.Code.{Code}
+
+-- the bytes of a row
+abbrev pub row_bytes : ℕ
+row_bytes = 1024
+
+-- A code, a pattern, and the block that was carried last; none was where it is empty.
+pub record Carried : Type 0 where
+  pub code : Code
+  pub pattern : ℕ
+  pub block : List ℕ
+
+-- a block was carried
+abbrev pub HasBlock : Carried → Type 0
+HasBlock carried = length carried.block ≡ carried.code.rate * row_bytes
+
+-- the rows of elements that a block of a code is
+abbrev pub block_elements : Code → List ℕ → List (List ℕ)
+block_elements code block = element_rows code.field code.rate row_bytes block
