@@ -9,7 +9,7 @@ ghost use Rattle.lif_cli.specs.Run.{RunsWords};
 #[cfg(test)]
 mod tests;
 
-use lif_outside::{Sink, Store};
+use lif_outside::{NoGate, Sink, Store};
 use lif_top::{Status, lif};
 use std::alloc::Global;
 use std::process::ExitCode;
@@ -39,8 +39,8 @@ fn end_of<S: Store, C: Sink, R: Threads + Sync>(
     ensures say_count { C.faults say.old ≤ C.faults say.new }
 {
     match words {
-        Words::Given(words) => lif(rt, alloc, words.as_slice(), store, say),
-        Words::NotText => lif(rt, alloc, &[], store, say),
+        Words::Given(words) => lif(rt, alloc, words.as_slice(), store, say, &NoGate),
+        Words::NotText => lif(rt, alloc, &[], store, say, &NoGate),
         Words::NoMemory => {
             let _ = say.put(b"out of memory\n");
             Status::OutOfMemory

@@ -1,6 +1,7 @@
 -- The command `send`.
-pub mod Ends
-pub mod Leaves
-pub mod Answers
+pub mod Runs
+pub mod Changes
+pub mod Due
 pub mod Promise
+pub mod Given
 pub mod Ready

@@ -1,9 +1,9 @@
 -- The words that the program is called with.
-use Rattle.std.specs.Prelude.{ℕ, ◌+◌, ◌-◌, ◌*◌, ◌^◌, ◌&&◌, nat_lt, is_some, if◌then◌else◌, fold, List, [], ◌∷◌, length, Option, Some, None, codes}
+use Rattle.std.specs.Prelude.{ℕ, ◌+◌, ◌-◌, ◌*◌, ◌^◌, ◌&&◌, nat_lt, if◌then◌else◌, fold, List, [], ◌∷◌, length, Option, Some, None, codes}
 use Rattle.std.specs.Char.{is_ascii_digit}
 use Rattle.std.specs.List.{list_all}
+use Rattle.std.specs.Option.{option_map}
 use Rattle.std.specs.Str.{bytes_eq}
-use Rattle.lif_top.specs.declared.words.SendWords.{SendWords}
 
 -- the value of decimal digits
 abbrev pub value_of_digits : List ℕ → ℕ
@@ -15,19 +15,34 @@ number_of word =
     if nat_lt 0 (length word) && list_all is_ascii_digit word && nat_lt (value_of_digits word) (2 ^ 64)
     then Some (value_of_digits word) else None
 
--- the paths of a command `send`
+-- what a command `send` is given
 pub record Send : Type 0 where
   pub code : List ℕ
+  pub pattern : List ℕ
+  pub seed : ℕ
   pub source : List ℕ
   pub prefix : List ℕ
 
--- the paths that the words name
-abbrev pub paths_of : SendWords → Send
-paths_of words = record { code = words.code.now; source = words.source.now; prefix = words.prefix.now }
+-- A command with what it is given.
+pub data Command : Type 0 where
+  check : (code : List ℕ) → Command
+  send : (given : Send) → Command
 
--- `send CODE PATTERN SEED SRC PREFIX`, with the pattern `none`
-abbrev pub send_of : List (List ℕ) → Option Send
-send_of (command ∷ code ∷ pattern ∷ seed ∷ source ∷ prefix ∷ []) =
-    if bytes_eq command (codes "send") && bytes_eq pattern (codes "none") && is_some (number_of seed)
-    then Some (record { code = code; source = source; prefix = prefix }) else None
+-- `check CODE`
+abbrev pub check_of : List (List ℕ) → Option Command
+check_of (code ∷ []) = Some (check code)
+check_of _ = None
+
+-- `send CODE PATTERN SEED SRC PREFIX`
+abbrev pub send_of : List (List ℕ) → Option Command
+send_of (code ∷ pattern ∷ seed ∷ source ∷ prefix ∷ []) =
+    option_map (λ number. send (record { code = code; pattern = pattern; seed = number; source = source; prefix = prefix })) (number_of seed)
 send_of _ = None
+
+-- the command that words are
+abbrev pub command_of : List (List ℕ) → Option Command
+command_of [] = None
+command_of (name ∷ given) =
+    if bytes_eq name (codes "check") then check_of given
+    else if bytes_eq name (codes "send") then send_of given
+    else None

@@ -1,19 +1,21 @@
 //! The program: words to commands, and what they do.
 #![tactic(auto)]
 
-mod carrier;
-mod one_link;
-mod output;
+mod accepting;
+mod checking;
+mod delivering;
+mod delivery;
+mod lines;
+mod names;
+mod outcome;
+mod paths;
+mod preparing;
 mod program;
 mod reading;
-mod saying;
 mod sending;
 mod status;
-mod transfer;
 mod words;
 
+pub use code_file::CodeRefusal;
 pub use program::lif;
-pub use status::{CodeRefusal, Status};
-
-/// The rate of the codes that are built so far.
-const RATE: u32 = 1;
+pub use status::Status;

@@ -1,44 +1,42 @@
 //! The top call: words to a command, and what it does.
-ghost use Rattle.std.specs.Prelude.{◌≡◌, ◌≤◌, ◌↔◌, None, IfNone, IfSome, map, string_bytes};
-ghost use Rattle.lif_outside.specs.Calls.{Does, KeepsStore};
-ghost use Rattle.lif_top.specs.Send.Promise.{Sends};
-ghost use Rattle.lif_top.specs.Usage.{IsMisused};
-ghost use Rattle.lif_top.specs.Words.{send_of};
+ghost use Rattle.std.specs.Prelude.{◌≤◌, map, string_bytes};
+ghost use Rattle.lif_outside.specs.Calls.{KeepsStore};
+ghost use Rattle.lif_top.specs.Promises.{Promises};
 
 use crate::Status;
-use crate::saying::refuse;
+use crate::checking::check;
+use crate::outcome::{Outcome, conclude};
 use crate::sending::send;
-use crate::words::send_of;
-use lif_outside::{Sink, Store};
+use crate::words::{Command, command_of};
+use lif_outside::{Gate, Sink, Store};
 use std::alloc::Global;
 use std::thread::Threads;
 
 /// Does what the words say, over a store of files and a sink for what is said, and tells how it ended. The words
-/// are those after the program's name. The one command that is built is `send CODE PATTERN SEED SRC PREFIX`,
-/// with the pattern `none`: it reads the file of a code at CODE, makes `PREFIX.<sink>` and writes to it the
-/// file at SRC.
-pub fn lif<S: Store, C: Sink, R: Threads + Sync>(
-    _rt: &R,
+/// are those after the program's name:
+///
+/// - `check CODE` reads a code file and says whether its code is accepted.
+/// - `send CODE PATTERN SEED SRC PREFIX` makes `PREFIX.<sink>` for each sink of an accepted code and writes to it what
+///   the sink decodes of the file at SRC, where the links of the pattern fail.
+///
+/// The jobs of a check enter the gate.
+pub fn lif<S: Store, C: Sink, G: Gate + Sync, R: Threads + Sync>(
+    rt: &R,
     alloc: Global,
     words: &[String],
     store: &mut S,
     say: &mut C,
+    gate: &G,
 ) -> Status
-    // Words that are no form.
-    ensures usage { (result ≡ Status.Usage) ↔ (send_of (map string_bytes words.now) ≡ None) }
-    ensures misused { IfNone (send_of (map string_bytes words.now))
-        (Does S.Store C.Sink store.old store.new say.old say.new IsMisused) }
-
-    // `send`: its calls, what it leaves, and which status comes.
-    ensures send { IfSome (send_of (map string_bytes words.now)) (λ send.
-        Sends S.Store C.Sink send store.old store.new say.old say.new result) }
+    ensures promises { Promises S.Store C.Sink (map string_bytes words.now) store.old store.new say.old say.new result }
 
     // No count falls.
     ensures counts { KeepsStore S.Store store.old store.new }
     ensures say_count { C.faults say.old ≤ C.faults say.new }
 {
-    match send_of(words) {
-        Some(paths) => send(alloc, &paths, store, say),
-        None => refuse(Status::Usage, say),
+    match command_of(words) {
+        Some(Command::Check(path)) => conclude(&check(rt, alloc, path, store, gate), say),
+        Some(Command::Send(given)) => conclude(&send(rt, alloc, &given, store, gate), say),
+        None => conclude(&Outcome::usage(), say),
     }
 }

@@ -2,9 +2,8 @@
 ghost use Rattle.std.specs.Prelude.{◌≡◌, ◌≤◌, ◌<◌, ◌+◌, ◌^◌, [], length, true, IfOk, IfErr, IsErrOf, vec_len, vec_capacity};
 ghost use Rattle.lif_outside.specs.Calls.{MakesCalls};
 ghost use Rattle.lif_outside.specs.Runs.{ReadsWhole};
-ghost use Rattle.lif_top.specs.Reading.{ReadsMore, StopsReading};
+ghost use Rattle.lif_top.specs.FileReading.{ReadsMore, StopsReading};
 
-use crate::Status;
 use lif_outside::Store;
 
 /// How many bytes are read at a time.
@@ -19,21 +18,6 @@ pub enum ReadRefusal {
     TooLong,
     /// There was no memory.
     OutOfMemory,
-}
-
-impl From<ReadRefusal> for Status {
-    ghost use Rattle.std.specs.Prelude.{◌≡◌};
-    ghost use Rattle.lif_top.specs.Reading.{status_of};
-
-    ghost from_gives = { λ refusal status. status ≡ status_of refusal };
-
-    fn from(refusal: ReadRefusal) -> Status {
-        match refusal {
-            ReadRefusal::Fault => Status::ReadFault,
-            ReadRefusal::TooLong => Status::TooLong,
-            ReadRefusal::OutOfMemory => Status::OutOfMemory,
-        }
-    }
 }
 
 // Reads more of a file behind its front, and answers whether there was more. At most one byte past the limit

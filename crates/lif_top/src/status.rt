@@ -1,6 +1,5 @@
 //! How the program ends.
-use std::alloc::AllocError;
-use thiserror::Error;
+use code_file::CodeRefusal;
 
 /// How the program ended. Each refusal says its line.
 #[derive(Clone, Copy, Debug, PartialEq, Eq)]
@@ -11,6 +10,19 @@ pub enum Status {
     Usage,
     /// The file at the path of the code isn't that of a code.
     CodeRefused(CodeRefusal),
+    /// The code isn't accepted: a demand's decoder times the vectors of its links isn't the identity.
+    CheckFailed {
+        /// The first such demand.
+        demand: u32,
+        /// The row of the first entry that differs, by rows.
+        row: u32,
+        /// Its column.
+        column: u32,
+        /// The number of the element that stands there.
+        found: u32,
+    },
+    /// No pattern of the code has the name.
+    UnknownPattern,
     /// An input couldn't be read.
     ReadFault,
     /// An output couldn't be written, or a line couldn't be said.
@@ -19,25 +31,8 @@ pub enum Status {
     TooLong,
     /// There was no memory.
     OutOfMemory,
-}
-
-/// Why the bytes of a code are refused.
-#[derive(Clone, Copy, Debug, PartialEq, Eq, Error)]
-pub enum CodeRefusal {
-    /// They aren't the file of a code that is built.
-    #[error("the bytes aren't the file of a code that is built")]
-    Unbuilt,
-}
-
-impl From<AllocError> for Status {
-    ghost use Rattle.std.specs.Prelude.{◌≡◌};
-    ghost use Rattle.lif_top.specs.declared.status.Status.TheVariants.{OutOfMemory};
-
-    ghost from_gives = { λ _ status. status ≡ OutOfMemory };
-
-    fn from(_: AllocError) -> Status {
-        Status::OutOfMemory
-    }
+    /// The path of an output is that of an input or of another output.
+    SamePath,
 }
 
 impl Status {
@@ -52,10 +47,13 @@ impl Status {
             Status::Done => 0,
             Status::Usage => 2,
             Status::CodeRefused(_) => 7,
+            Status::CheckFailed { .. } => 8,
+            Status::UnknownPattern => 9,
             Status::ReadFault => 10,
             Status::WriteFault => 11,
             Status::TooLong => 12,
             Status::OutOfMemory => 13,
+            Status::SamePath => 14,
         }
     }
 }

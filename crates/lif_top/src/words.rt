@@ -3,38 +3,78 @@ ghost use Rattle.std.specs.Prelude.{◌≡◌, ◌<◌, ◌^◌, map, string_byt
 ghost use Rattle.std.specs.Char.{is_ascii_digit};
 ghost use Rattle.std.specs.List.{list_all};
 ghost use Rattle.std.specs.Option.{SomeIff, option_map};
-ghost use Rattle.lif_top.specs.Words.{number_of, paths_of, send_of, value_of_digits};
+ghost use Rattle.lif_top.specs.Words.{check_of, command_of, number_of, send_of, value_of_digits};
+ghost use Rattle.lif_top.specs.Given.{command_in};
 
-/// The paths of a command `send`.
+/// What a command `send` is given.
 #[derive(Clone, Copy)]
 pub struct SendWords<'a> {
+    /// The path of the code.
     pub code: &'a str,
+    /// The name of the pattern that holds.
+    pub pattern: &'a str,
+    /// The seed of the order of delivery.
+    pub seed: u64,
+    /// The path of the source.
     pub source: &'a str,
+    /// What the paths of the sinks' files begin with.
     pub prefix: &'a str,
 }
 
-/// The command `send CODE PATTERN SEED SRC PREFIX` that the words are, with the pattern `none`.
-pub fn send_of(words: &[String]) -> Option<SendWords<'_>>
-    ensures { option_map paths_of result ≡ send_of (map string_bytes words.now) }
-{
-    let [command, code, pattern, seed, source, prefix] = words else {
-        return None;
-    };
-    if command.as_str() != "send"
-        || pattern.as_str() != "none"
-        || number_of(seed.as_str()).is_none()
-    {
-        return None;
-    }
-    Some(SendWords {
-        code: code.as_str(),
-        source: source.as_str(),
-        prefix: prefix.as_str(),
-    })
+/// A command with what it is given.
+#[derive(Clone, Copy)]
+pub enum Command<'a> {
+    /// `check CODE`.
+    Check(&'a str),
+    /// `send CODE PATTERN SEED SRC PREFIX`.
+    Send(SendWords<'a>),
 }
 
-/// The number that a word is: one or more digits of ASCII, with a value below 2^64.
-pub fn number_of(word: &str) -> Option<u64>
+/// The command that the words are, if they are one.
+pub fn command_of(words: &[String]) -> Option<Command<'_>>
+    ensures { option_map command_in result ≡ command_of (map string_bytes words.now) }
+{
+    let [name, given @ ..] = words else {
+        return None;
+    };
+    match name.as_str() {
+        "check" => check_of(given),
+        "send" => send_of(given),
+        _ => None,
+    }
+}
+
+// `check CODE`.
+fn check_of(given: &[String]) -> Option<Command<'_>>
+    ensures { option_map command_in result ≡ check_of (map string_bytes given.now) }
+{
+    let [code] = given else {
+        return None;
+    };
+    Some(Command::Check(code.as_str()))
+}
+
+// `send CODE PATTERN SEED SRC PREFIX`.
+fn send_of(given: &[String]) -> Option<Command<'_>>
+    ensures { option_map command_in result ≡ send_of (map string_bytes given.now) }
+{
+    let [code, pattern, seed, source, prefix] = given else {
+        return None;
+    };
+    let Some(seed) = number_of(seed.as_str()) else {
+        return None;
+    };
+    Some(Command::Send(SendWords {
+        code: code.as_str(),
+        pattern: pattern.as_str(),
+        seed,
+        source: source.as_str(),
+        prefix: prefix.as_str(),
+    }))
+}
+
+// The number that a word is: one or more digits of ASCII, with a value below 2^64.
+fn number_of(word: &str) -> Option<u64>
     ensures { result ≡ number_of word.now }
 {
     let digits = word.as_bytes();

@@ -1,40 +1,43 @@
-use Rattle.std.proofs.Common.{[], IfNone, IfSome, refl, subst}
-use Rattle.std.specs.Prelude.{Option}
-use Rattle.lif_outside.specs.Calls.{Does, outside_at}
-use Rattle.lif_outside.specs.DeedLaws.{accounted}
-use Rattle.lif_top.specs.Send.Promise.{Sends}
-use Rattle.lif_top.specs.Usage.{IsMisused}
-use Rattle.lif_top.specs.Words.{Send, paths_of}
-use Rattle.lif_top.proofs.Causing.{causes}
-use Rattle.lif_top.proofs.Complete.{answers}
-use Rattle.lif_top.proofs.Leaving.{leaves}
+use Rattle.std.proofs.Common.{Some, sym, ap, ◌∙◌}
+use Rattle.std.specs.Option.{option_map}
+use Rattle.lif_outside.specs.AccountLaws.{keeps_same}
+use Rattle.lif_top.specs.Given.{given_in, command_in}
+use Rattle.lif_top.specs.declared.words.Command.{Command}
+use Rattle.lif_top.proofs.Promising.{misused_promises, check_promises, send_promises}
 use Rattle.lif_top.proofs.program.lif.Goals as goal
 
-pub returns-in-Some-clause-send : goal.returns-in-Some-clause-send
-returns-in-Some-clause-send g c =
-    let store = g.S.Store in
-    let say = g.C.Sink in
-    let send = paths_of c.in-Some.paths in
-    let does = c.send.ensures in
-    let before = outside_at store say c.args.store.now c.args.say.now in
-    let after = outside_at store say c.send.new.store c.send.new.say in
-    let accounts = accounted store say does.deeds c.args.store.now c.send.new.store c.args.say.now c.send.new.say
-    (g.met.S.Store.accounts does.deeds.calls _ _ does.on_store) (g.met.C.Sink.accounts does.deeds.puts _ _ does.on_say) in
-    let left = leaves send does.deeds before after accounts c.send.result does.holds in
-    subst (λ (words : Option Send). IfSome words (λ send. Sends store say send c.args.store.now c.send.new.store c.args.say.now c.send.new.say c.send.result)) c.in-Some.ensures
-    (record {
-      of_calls = record { deeds = does.deeds; on_store = does.on_store; on_say = does.on_say; holds = (does.holds, causes send does.deeds c.send.result does.holds) };
-      of_content = left;
-      of_inputs = answers send before after c.send.result left;
-    })
+pub returns-in-None : goal.returns-in-None
+returns-in-None g c =
+    let puts = c.conclude-in-None.ensures in
+    record {
+      promises = misused_promises g.S.Store g.C.Sink _ _ _ _ _ _ (sym c.command_of.ensures ∙ ap (option_map command_in) c.in-None.is)
+          c.usage.result c.usage.ensures.status c.usage.ensures.line (g.met.S.Store.no_calls c.args.store.now) puts;
+      counts = keeps_same c.args.store.now;
+      say_count = (g.met.C.Sink.accounts puts.made _ _ puts.lead).count;
+    }
 
-pub returns-in-None-clause-misused : goal.returns-in-None-clause-misused
-returns-in-None-clause-misused g c =
-    let line = c.refuse.ensures.said in
-    subst (λ (words : Option Send). IfNone words (Does g.S.Store g.C.Sink c.args.store.now c.args.store.now c.args.say.now c.refuse.new.say IsMisused)) c.in-None.ensures
-    (record {
-      deeds = record { calls = []; puts = line.made };
-      on_store = g.met.S.Store.no_calls c.args.store.now;
-      on_say = line.lead;
-      holds = record { no_call = refl; says = line.holds };
-    })
+pub returns-in-Some-Check : goal.returns-in-Some-Check
+returns-in-Some-Check g c =
+    let calls = c.check.ensures in
+    let puts = c.conclude.ensures in
+    record {
+      promises = check_promises g.S.Store g.C.Sink _ _ _ _ _ _ (λ events lead. g.met.S.Store.accounts events _ _ lead) (λ puts lead. g.met.C.Sink.accounts puts _ _ lead)
+          c.in-Some-Check.path.now
+          (sym c.command_of.ensures ∙ ap (option_map command_in) (c.in-Some-Check.is ∙ ap (λ (command : Command). Some command) c.in-Some-Check.field-0-is))
+          c.check.result calls puts;
+      counts = (g.met.S.Store.accounts calls.made _ _ calls.lead).counts;
+      say_count = (g.met.C.Sink.accounts puts.made _ _ puts.lead).count;
+    }
+
+pub returns-in-Some-Send : goal.returns-in-Some-Send
+returns-in-Some-Send g c =
+    let calls = c.send.ensures in
+    let puts = c.conclude-in-Some-Send.ensures in
+    record {
+      promises = send_promises g.S.Store g.C.Sink _ _ _ _ _ _ (λ events lead. g.met.S.Store.accounts events _ _ lead) (λ puts lead. g.met.C.Sink.accounts puts _ _ lead)
+          (given_in c.in-Some-Send.given)
+          (sym c.command_of.ensures ∙ ap (option_map command_in) (c.in-Some-Send.is ∙ ap (λ (command : Command). Some command) c.in-Some-Send.field-0-is))
+          c.send.result calls puts;
+      counts = (g.met.S.Store.accounts calls.made _ _ calls.lead).counts;
+      say_count = (g.met.C.Sink.accounts puts.made _ _ puts.lead).count;
+    }

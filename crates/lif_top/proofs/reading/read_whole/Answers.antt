@@ -2,9 +2,9 @@ use Rattle.std.proofs.Common.{◌≤◌, Ok, Err, true, false, length, subst, ap
 use Rattle.lif_outside.specs.Calls.{MakesCalls}
 use Rattle.lif_outside.specs.CallLaws.{calls_then}
 use Rattle.lif_outside.specs.Runs.{ReadsWhole}
-use Rattle.lif_top.specs.Reading.{ReadsMore, StopsReading}
+use Rattle.lif_top.specs.FileReading.{ReadsMore, StopsReading}
 use Rattle.lif_top.proofs.Exits.{if_err}
-use Rattle.lif_top.proofs.ReadingLaws.{Gave, gave_more, gave_all, stops_more}
+use Rattle.lif_top.proofs.FileReadingLaws.{Gave, gave_more, gave_all, stops_more}
 use Rattle.lif_top.proofs.reading.read_whole.Goals as goal
 
 pub returns-in_err-read_more-clause-refused : goal.returns-in_err-read_more-clause-refused

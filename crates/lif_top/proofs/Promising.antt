@@ -1,0 +1,101 @@
+-- All that the program promises, by the command that its words are, and by its deeds.
+use Rattle.std.specs.Prelude.{◌≡◌, ◌≢◌, ℕ, List, [], Some, None}
+use Rattle.std.proofs.Common.{refl, sym, ap, subst, ◌∙◌, ⊎_elim}
+use Rattle.lif_outside.specs.declared.sink.Sink.{Ghosts as SinkGhosts}
+use Rattle.lif_outside.specs.declared.store.Store.{Ghosts as StoreGhosts}
+use Rattle.lif_outside.specs.Accounts.{StoreAccounts, SinkAccounts}
+use Rattle.lif_outside.specs.Calls.{Deeds, Does, MakesCalls, MakesPuts, outside_at}
+use Rattle.lif_outside.specs.DeedLaws.{Accounted, accounted}
+use Rattle.lif_outside.specs.Events.{Event}
+use Rattle.lif_outside.specs.Puts.{Put}
+use Rattle.lif_top.specs.Check.{Checks, Runs as CheckRuns}
+use Rattle.lif_top.specs.Lines.{usage_line}
+use Rattle.lif_top.specs.Outcome.{status_unsaid, SaysOutcome, Concludes, EndsAtOnce}
+use Rattle.lif_top.specs.Promises.{Promises}
+use Rattle.lif_top.specs.Send.Promise.{Sends}
+use Rattle.lif_top.specs.Send.Runs.{Runs as SendRuns}
+use Rattle.lif_top.specs.Words.{Send, check, send, command_of}
+use Rattle.lif_top.specs.declared.outcome.Outcome.{Outcome}
+use Rattle.lif_top.specs.declared.status.Status.{Status}
+use Rattle.lif_top.specs.declared.status.Status.TheVariants.{Done, Usage}
+use Rattle.lif_top.proofs.CheckPerforms.{check_known, check_used}
+use Rattle.lif_top.proofs.CodeHolding.{same_outcome}
+use Rattle.lif_top.proofs.Performing.{performs}
+use Rattle.lif_top.proofs.SendPerforms.{send_known, send_used}
+
+-- a status is that of words that are no form where the outcome's is, and nowhere else
+unsaid_used : (status : Status) → status ≢ Usage → status_unsaid status ≢ Usage
+unsaid_used Done used e = cc
+unsaid_used status used e = used e
+
+said_used : (outcome : Outcome) (status : Status) (puts : List Put) → outcome.status ≢ Usage → SaysOutcome outcome status puts → status ≢ Usage
+said_used outcome status puts used says is = ⊎_elim
+    (λ all. used (sym all.0 ∙ is))
+    (λ part. unsaid_used outcome.status used (sym part.0 ∙ is))
+    says
+
+said_usage : (outcome : Outcome) (status : Status) (puts : List Put) → outcome.status ≡ Usage → SaysOutcome outcome status puts → status ≡ Usage
+said_usage outcome status puts is says = ⊎_elim
+    (λ all. all.0 ∙ is)
+    (λ part. part.0 ∙ ap status_unsaid is)
+    says
+
+module _ {S C : Type 0} (g : StoreGhosts S) (h : SinkGhosts C) (words : List (List ℕ)) (store_old store_new : S) (say_old say_new : C) (status : Status) where
+  -- the calls of an outcome, and then the puts of its line
+  concludes : (Runs : Outcome → List Event → Type 0) (outcome : Outcome) → MakesCalls g store_old store_new (Runs outcome) → MakesPuts h say_old say_new (SaysOutcome outcome status)
+      → Does g h store_old store_new say_old say_new (Concludes Runs status)
+  concludes Runs outcome calls puts = record {
+    deeds = record { calls = calls.made; puts = puts.made };
+    on_store = calls.lead;
+    on_say = puts.lead;
+    holds = record { outcome = outcome; runs = calls.holds; says = puts.holds };
+  }
+
+  -- words that are no form
+  pub misused_promises : command_of words ≡ None → (outcome : Outcome) → outcome.status ≡ Usage → outcome.line ≡ usage_line → g.calls [] store_old store_new → MakesPuts h say_old say_new (SaysOutcome outcome status)
+      → Promises g h words store_old store_new say_old say_new status
+  misused_promises none outcome is line_is no_calls puts =
+      let usage : Outcome = record { status = Usage; line = usage_line } in
+      record {
+        usage = ((λ _. none), (λ _. said_usage outcome status puts.made is puts.holds));
+        misused = λ _. concludes (EndsAtOnce usage) outcome (record { made = []; lead = no_calls; holds = (same_outcome outcome usage (is, line_is), refl) }) puts;
+        checks = λ code some. absurd (cc);
+        sends = λ given some. absurd (cc);
+      }
+
+  module _ (store_accounts : (events : List Event) → g.calls events store_old store_new → StoreAccounts g.files g.read_faults g.write_faults g.made events store_old store_new)
+      (say_accounts : (puts : List Put) → h.puts puts say_old say_new → SinkAccounts h.written h.faults puts say_old say_new) where
+    deeds_accounted : {P : Deeds → Type 0} (does : Does g h store_old store_new say_old say_new P) → Accounted does.deeds (outside_at g h store_old say_old) (outside_at g h store_new say_new)
+    deeds_accounted does = accounted g h does.deeds store_old store_new say_old say_new (store_accounts does.deeds.calls does.on_store) (say_accounts does.deeds.puts does.on_say)
+
+    -- the words are a command `check`
+    pub check_promises : (path : List ℕ) → command_of words ≡ Some (check path) → (outcome : Outcome) → MakesCalls g store_old store_new (CheckRuns path outcome) → MakesPuts h say_old say_new (SaysOutcome outcome status)
+        → Promises g h words store_old store_new say_old say_new status
+    check_promises path some outcome calls puts =
+        let does = concludes (CheckRuns path) outcome calls puts in
+        let used = said_used outcome status puts.made (check_used path outcome calls.made calls.holds) puts.holds in
+        record {
+          usage = ((λ is. absurd (used is)), (λ none. absurd (cc)));
+          misused = λ none. absurd (cc);
+          checks = λ code other.
+              let same : path ≡ code = cc in
+              subst (λ code. Checks g h code store_old store_new say_old say_new status) same
+              (performs _ _ _ _ (check_known path) g h store_old store_new say_old say_new status does (deeds_accounted does));
+          sends = λ given other. absurd (cc);
+        }
+
+    -- the words are a command `send`
+    pub send_promises : (given : Send) → command_of words ≡ Some (send given) → (outcome : Outcome) → MakesCalls g store_old store_new (SendRuns given outcome) → MakesPuts h say_old say_new (SaysOutcome outcome status)
+        → Promises g h words store_old store_new say_old say_new status
+    send_promises given some outcome calls puts =
+        let does = concludes (SendRuns given) outcome calls puts in
+        let used = said_used outcome status puts.made (send_used given outcome calls.made calls.holds) puts.holds in
+        record {
+          usage = ((λ is. absurd (used is)), (λ none. absurd (cc)));
+          misused = λ none. absurd (cc);
+          checks = λ code other. absurd (cc);
+          sends = λ other_given other.
+              let same : given ≡ other_given = cc in
+              subst (λ given. Sends g h given store_old store_new say_old say_new status) same
+              (performs _ _ _ _ (send_known given) g h store_old store_new say_old say_new status does (deeds_accounted does));
+        }

@@ -1,0 +1,13 @@
+-- The commands that words were read as.
+use Rattle.lif_top.specs.Words.{Send, Command as Form, check, send}
+use Rattle.lif_top.specs.declared.words.SendWords.{SendWords}
+use Rattle.lif_top.specs.declared.words.Command.{Command}
+use Rattle.lif_top.specs.declared.words.Command.TheVariants as read
+
+-- what a command `send` is given, by its words
+abbrev pub given_in : SendWords → Send
+given_in words = record { code = words.code.now; pattern = words.pattern.now; seed = words.seed; source = words.source.now; prefix = words.prefix.now }
+
+abbrev pub command_in : Command → Form
+command_in (read.Check path) = check path.now
+command_in (read.Send words) = send (given_in words)

@@ -1,0 +1,21 @@
+-- What the program promises, by its words.
+use Rattle.std.specs.Prelude.{◌≡◌, ◌↔◌, ℕ, List, None, Some}
+use Rattle.lif_outside.specs.declared.sink.Sink.{Ghosts as SinkGhosts}
+use Rattle.lif_outside.specs.declared.store.Store.{Ghosts as StoreGhosts}
+use Rattle.lif_outside.specs.Calls.{Does}
+use Rattle.lif_top.specs.Check.{Checks}
+use Rattle.lif_top.specs.Lines.{usage_line}
+use Rattle.lif_top.specs.Outcome.{Concludes, EndsAtOnce}
+use Rattle.lif_top.specs.Send.Promise.{Sends}
+use Rattle.lif_top.specs.Words.{Send, check, command_of, send}
+use Rattle.lif_top.specs.declared.status.Status.{Status}
+use Rattle.lif_top.specs.declared.status.Status.TheVariants.{Usage}
+
+pub record Promises {S C : Type 0} (g : StoreGhosts S) (h : SinkGhosts C) (words : List (List ℕ)) (store_old store_new : S) (say_old say_new : C) (status : Status) : Type 0 where
+  -- words that are no form: no call is made, and the usage is said
+  pub usage : (status ≡ Usage) ↔ (command_of words ≡ None)
+  pub misused : command_of words ≡ None
+      → Does g h store_old store_new say_old say_new (Concludes (EndsAtOnce (record { status = Usage; line = usage_line })) status)
+  -- each command: its calls, what it leaves, and which status comes
+  pub checks : (code : List ℕ) → command_of words ≡ Some (check code) → Checks g h code store_old store_new say_old say_new status
+  pub sends : (given : Send) → command_of words ≡ Some (send given) → Sends g h given store_old store_new say_old say_new status

@@ -1,0 +1,33 @@
+-- What `send` is given, beside an accepted code: a pattern, a source, and paths to write to.
+use Rattle.std.specs.Prelude.{◌≡◌, ℕ, List, [], ◌∷◌, length, Option, None, position, IsSome}
+use Rattle.std.specs.Str.{bytes_eq}
+use Rattle.generation_frame.specs.Blocks.{block_count}
+use Rattle.node_program.specs.declared.code.Code.{Code}
+use Rattle.lif_top.specs.Lines.{sent_line}
+use Rattle.lif_top.specs.Paths.{output_paths, shared_path}
+use Rattle.lif_top.specs.Words.{Send}
+
+-- the greatest length of a source
+abbrev pub source_limit : ℕ
+source_limit = 67108864
+
+-- the number of the pattern that is named
+abbrev pub pattern_of : Send → Code → Option ℕ
+pattern_of send code = position (λ pattern. bytes_eq pattern.name send.pattern) code.net.patterns
+
+-- the paths of the sinks' files, in order
+abbrev pub outputs_of : Send → Code → List (List ℕ)
+outputs_of send code = output_paths send.prefix code.net
+
+-- the first of them that is that of an input or of another output
+abbrev pub shared_of : Send → Code → Option (List ℕ)
+shared_of send code = shared_path (send.code ∷ send.source ∷ []) (outputs_of send code)
+
+-- the pattern is known, and no path is shared
+pub record IsClear (send : Send) (code : Code) : Type 0 where
+  pub known : IsSome (pattern_of send code)
+  pub apart : shared_of send code ≡ None
+
+-- the line of a source that was sent
+abbrev pub line_of_sent : Code → List ℕ → List ℕ
+line_of_sent code source = sent_line (length source) (block_count source code.rate) (length code.net.sinks)

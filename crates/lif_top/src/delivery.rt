@@ -1,0 +1,35 @@
+//! A code at work, and the files of its sinks.
+ghost use Rattle.std.specs.Prelude.{◌≡◌, ◌*◌, length, vec_len};
+ghost use Rattle.block_carrier.specs.Carried.{row_bytes};
+
+use block_carrier::Carrier;
+
+/// How much was sent.
+#[derive(Drop)]
+pub struct SentCounts {
+    /// The length of the source.
+    pub bytes: u64,
+    /// The number of its blocks.
+    pub generations: u64,
+    /// The number of sinks.
+    pub sinks: u64,
+}
+
+/// A code at work, and the files of its sinks.
+#[derive(Drop)]
+pub struct Delivery<'c> {
+    /// The rate of the code.
+    pub rate: u32,
+    /// The code at work under the pattern.
+    pub carrier: Carrier<'c>,
+    /// The path of each sink's file.
+    pub outputs: Vec<String>,
+    /// Room for a block of the source.
+    pub block: Vec<u8>,
+    /// Room for the block as a sink decodes it.
+    pub decoded: Vec<u8>,
+    ghost rate_of: { rate ≡ carrier.code.rate },
+    ghost sinks: { vec_len outputs ≡ length carrier.code.net.sinks },
+    ghost block_length: { vec_len block ≡ carrier.code.rate * row_bytes },
+    ghost decoded_length: { vec_len decoded ≡ carrier.code.rate * row_bytes },
+}
