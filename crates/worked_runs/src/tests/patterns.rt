@@ -1,0 +1,113 @@
+//! Codes with listed patterns, sent under each.
+use super::{CHECK, NO_OUTPUT, ONE_BYTE, Run, check};
+use lif_top::Status;
+use std::test;
+use worked_rows::files::BUTTERFLY;
+
+// Two ways from `s` to `c`, of which the pattern `f` cuts the one through `a`, and a link from `c` to the sink that
+// carries three times the row, or the row alone.
+const TWO_WAYS: &[u8] = b"LIFC\x01\x08\x01\
+    \x00\x04\x01s\x01t\x01a\x01c\
+    \x00\x04\
+    \x01u\x00\x00\x00\x02\
+    \x01w\x00\x00\x00\x03\
+    \x01v\x00\x02\x00\x03\
+    \x01z\x00\x03\x00\x01\
+    \x00\x00\
+    \x00\x01\x00\x01\
+    \x00\x01\x01f\x00\x01\x00\x00\
+    \x00\x01\x00\x00\x01\
+    \x00\x01\x00\x00\x01\
+    \x00\x01\x00\x00\x01\
+    \x00\x02\x00\x01\x01\x00\x02\x02\
+    \x00\x03\xf4\
+    \x00\x03\x01";
+
+const TWO_WAYS_BYTE: Run<'static> = Run {
+    name: "none of two ways fails",
+    code: Some(TWO_WAYS),
+    source: Some(b"Z"),
+    ..ONE_BYTE
+};
+
+const UNKNOWN: Run<'static> = Run {
+    name: "a pattern that one link doesn't have",
+    words: &["send", "code", "f9", "1", "src", "out"],
+    status: Status::UnknownPattern,
+    line: "unknown pattern: f9\n",
+    ..NO_OUTPUT
+};
+
+const PATTERNS: &[Run<'static>] = &[
+    TWO_WAYS_BYTE,
+    Run {
+        name: "one of two ways fails",
+        words: &["send", "code", "f", "1", "src", "out"],
+        ..TWO_WAYS_BYTE
+    },
+    Run {
+        name: "two ways are checked",
+        words: CHECK,
+        line: "accepted rate 1 field 8 demands 2\n",
+        code: Some(TWO_WAYS),
+        ..NO_OUTPUT
+    },
+    Run {
+        name: "a path is shared where one of two ways fails",
+        words: &["send", "code", "f", "1", "out.t", "out"],
+        code: Some(TWO_WAYS),
+        status: Status::SamePath,
+        line: "same path: out.t\n",
+        ..NO_OUTPUT
+    },
+    UNKNOWN,
+    Run {
+        name: "a pattern that two ways don't have",
+        code: Some(TWO_WAYS),
+        ..UNKNOWN
+    },
+    Run {
+        name: "a pattern that the butterfly doesn't have",
+        code: Some(BUTTERFLY),
+        ..UNKNOWN
+    },
+    Run {
+        name: "no name",
+        words: &["send", "code", "", "1", "src", "out"],
+        line: "unknown pattern: \n",
+        ..UNKNOWN
+    },
+    Run {
+        name: "a part of a name",
+        words: &["send", "code", "non", "1", "src", "out"],
+        line: "unknown pattern: non\n",
+        ..UNKNOWN
+    },
+    Run {
+        name: "a longer word than a line has room for",
+        words: &[
+            "send",
+            "code",
+            "long-long-long-long-long-long-long-long-long-long-long-long-long-long-long-long-long-long-long-long-long-long-long-long-long-long-long-long-long-long-long-long-long-long-long-long-long-long-long-long-long-long-long-long-long-long-long-long-long-long-long-long-long-long-long-long-long-long-long-long",
+            "1",
+            "src",
+            "out",
+        ],
+        line: "unknown pattern: long-long-long-long-long-long-long-long-long-long-long-long-long-long-long-long-long-long-long-long-long-long-long-long-long-long-long-long-long-long-long-long-long-long-long-long-long-long-long-long-long-long-long-long-long-long-long-long-long-long-long-long-long-long-long-long-long-long-long-long\n",
+        ..UNKNOWN
+    },
+    Run {
+        name: "a word with other letters than names have",
+        words: &["send", "code", "\u{e4}\n/", "1", "src", "out"],
+        line: "unknown pattern: \u{e4}\n/\n",
+        ..UNKNOWN
+    },
+];
+
+#[test]
+fn listed_patterns_are_known(rt: HostRuntime) -> Result<(), test::Fail> {
+    for run in PATTERNS {
+        check(&rt, rt.alloc(), run)?;
+    }
+    Ok(())
+}

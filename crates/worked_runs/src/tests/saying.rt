@@ -1,0 +1,141 @@
+//! Each put of what is said fails in turn.
+use super::{CHECK, NO_OUTPUT, ONE_BYTE, Run, TWO_SINKS, check};
+use lif_top::{CodeRefusal, Status};
+use std::test;
+use worked_rows::files::{BUTTERFLY, CUT_BUTTERFLY};
+
+// A run, and what is said where the first put fails, where the next one does, and at last where none does.
+#[derive(Clone, Copy)]
+struct Said {
+    run: Run<'static>,
+    lines: &'static [&'static str],
+}
+
+// Which put fails.
+const NTH: &[&[u64]] = &[&[1], &[2], &[3], &[4]];
+
+const SAID: &[Said] = &[
+    Said {
+        run: ONE_BYTE,
+        lines: &["", "sent 1 bytes in 1 generations to 1 sinks\n"],
+    },
+    Said {
+        run: Run {
+            name: "two sinks",
+            code: Some(BUTTERFLY),
+            received: TWO_SINKS,
+            ..ONE_BYTE
+        },
+        lines: &["", "sent 1 bytes in 1 generations to 2 sinks\n"],
+    },
+    Said {
+        run: Run {
+            name: "accepted",
+            words: CHECK,
+            ..NO_OUTPUT
+        },
+        lines: &["", "accepted rate 1 field 8 demands 1\n"],
+    },
+    Said {
+        run: Run {
+            name: "no words",
+            words: &[],
+            status: Status::Usage,
+            ..NO_OUTPUT
+        },
+        lines: &[
+            "",
+            "usage: lif order NET | cuts NET | compile NET CODE REPORT | check CODE | send CODE PATTERN SEED SRC PREFIX | demo N K BYTES\n",
+        ],
+    },
+    Said {
+        run: Run {
+            name: "no code",
+            code: None,
+            status: Status::ReadFault,
+            ..NO_OUTPUT
+        },
+        lines: &["", "read fault\n"],
+    },
+    Said {
+        run: Run {
+            name: "a code that is refused",
+            code: Some(b"LIF"),
+            status: Status::CodeRefused(CodeRefusal::Truncated { at: 0 }),
+            ..NO_OUTPUT
+        },
+        lines: &["", "code refused: Truncated 0\n"],
+    },
+    Said {
+        run: Run {
+            name: "a code whose check fails",
+            code: Some(CUT_BUTTERFLY),
+            status: Status::CheckFailed {
+                demand: 1,
+                row: 0,
+                column: 0,
+                found: 0,
+            },
+            ..NO_OUTPUT
+        },
+        lines: &["", "check failed: demand t1 cut row 0 column 0 found 0\n"],
+    },
+    Said {
+        run: Run {
+            name: "a pattern that isn't known",
+            words: &["send", "code", "f9", "1", "src", "out"],
+            status: Status::UnknownPattern,
+            ..NO_OUTPUT
+        },
+        lines: &[
+            "",
+            "unknown pattern: ",
+            "unknown pattern: f9",
+            "unknown pattern: f9\n",
+        ],
+    },
+    Said {
+        run: Run {
+            name: "one path",
+            words: &["send", "code", "none", "1", "out.t", "out"],
+            source: None,
+            files: &[("out.t", b"A")],
+            received: &[],
+            status: Status::SamePath,
+            made: &[],
+            ..ONE_BYTE
+        },
+        lines: &["", "same path: ", "same path: out.t", "same path: out.t\n"],
+    },
+];
+
+// The status where the line isn't said to its end: a fault only where all else was done.
+fn status_unsaid(status: Status) -> Status {
+    match status {
+        Status::Done => Status::WriteFault,
+        refusal => refusal,
+    }
+}
+
+#[test]
+fn each_put_fails_in_turn(rt: HostRuntime) -> Result<(), test::Fail> {
+    for said in SAID {
+        let mut left = said.lines.len();
+        for (&line, &say_fails) in said.lines.iter().zip(NTH) {
+            left = left.saturating_sub(1);
+            let status = if left == 0 {
+                said.run.status
+            } else {
+                status_unsaid(said.run.status)
+            };
+            let run = Run {
+                say_fails,
+                status,
+                line,
+                ..said.run
+            };
+            check(&rt, rt.alloc(), &run)?;
+        }
+    }
+    Ok(())
+}

@@ -1,0 +1,166 @@
+//! Words: which are a form, and what comes first where more than one thing is wrong.
+use super::{CHECK, NO_OUTPUT, ONE_BYTE, Run, SEND, check};
+use lif_top::{CodeRefusal, Status};
+use std::test;
+use worked_rows::files::{CUT_BUTTERFLY, ONE_LINK};
+
+const NO_FORM: Run<'static> = Run {
+    name: "no words",
+    words: &[],
+    status: Status::Usage,
+    line: "usage: lif order NET | cuts NET | compile NET CODE REPORT | check CODE | send CODE PATTERN SEED SRC PREFIX | demo N K BYTES\n",
+    ..NO_OUTPUT
+};
+
+const WORDS: &[Run<'static>] = &[
+    NO_FORM,
+    Run {
+        name: "a command that isn't built",
+        words: &["demo", "0", "0", "1"],
+        ..NO_FORM
+    },
+    Run {
+        name: "no command",
+        words: &["sent", "code", "none", "1", "src", "out"],
+        ..NO_FORM
+    },
+    Run {
+        name: "a capital letter",
+        words: &["Check", "code"],
+        ..NO_FORM
+    },
+    Run {
+        name: "a word too few to send",
+        words: &["send", "code", "none", "1", "src"],
+        ..NO_FORM
+    },
+    Run {
+        name: "a word too many to send",
+        words: &["send", "code", "none", "1", "src", "out", "out"],
+        ..NO_FORM
+    },
+    Run {
+        name: "a word too few to check",
+        words: &["check"],
+        ..NO_FORM
+    },
+    Run {
+        name: "a word too many to check",
+        words: &["check", "code", "none"],
+        ..NO_FORM
+    },
+    Run {
+        name: "a seed with a sign",
+        words: &["send", "code", "none", "-1", "src", "out"],
+        ..NO_FORM
+    },
+    Run {
+        name: "a seed without digits",
+        words: &["send", "code", "none", "", "src", "out"],
+        ..NO_FORM
+    },
+    Run {
+        name: "a seed with a letter",
+        words: &["send", "code", "none", "1a", "src", "out"],
+        ..NO_FORM
+    },
+    Run {
+        name: "a seed that is too great",
+        words: &["send", "code", "none", "18446744073709551616", "src", "out"],
+        ..NO_FORM
+    },
+    Run {
+        name: "the greatest seed",
+        words: &["send", "code", "none", "18446744073709551615", "src", "out"],
+        ..ONE_BYTE
+    },
+    Run {
+        name: "a seed with zeros in front",
+        words: &[
+            "send",
+            "code",
+            "none",
+            "000000000000000000000000001",
+            "src",
+            "out",
+        ],
+        ..ONE_BYTE
+    },
+];
+
+#[test]
+fn words_that_are_no_form_are_refused(rt: HostRuntime) -> Result<(), test::Fail> {
+    for run in WORDS {
+        check(&rt, rt.alloc(), run)?;
+    }
+    Ok(())
+}
+
+const NO_CODE: Run<'static> = Run {
+    name: "no file of a code to send by",
+    words: &["send", "code", "f9", "1", "out.t", "out"],
+    code: None,
+    source: None,
+    status: Status::ReadFault,
+    line: "read fault\n",
+    ..NO_OUTPUT
+};
+
+// Each of these has every fault of those below it.
+const FIRST_FAULTS: &[Run<'static>] = &[
+    NO_CODE,
+    Run {
+        name: "no file of a code to check",
+        words: CHECK,
+        ..NO_CODE
+    },
+    Run {
+        name: "a code that is refused",
+        code: Some(b"LIFC\x01\x08"),
+        status: Status::CodeRefused(CodeRefusal::Truncated { at: 6 }),
+        line: "code refused: Truncated 6\n",
+        ..NO_CODE
+    },
+    Run {
+        name: "a code whose check fails",
+        code: Some(CUT_BUTTERFLY),
+        status: Status::CheckFailed {
+            demand: 1,
+            row: 0,
+            column: 0,
+            found: 0,
+        },
+        line: "check failed: demand t1 cut row 0 column 0 found 0\n",
+        ..NO_CODE
+    },
+    Run {
+        name: "a pattern that the code doesn't have",
+        code: Some(ONE_LINK),
+        status: Status::UnknownPattern,
+        line: "unknown pattern: f9\n",
+        ..NO_CODE
+    },
+    Run {
+        name: "the path of the source is an output's",
+        words: &["send", "code", "none", "1", "out.t", "out"],
+        code: Some(ONE_LINK),
+        status: Status::SamePath,
+        line: "same path: out.t\n",
+        ..NO_CODE
+    },
+    Run {
+        name: "no source",
+        words: SEND,
+        code: Some(ONE_LINK),
+        made: &[("out.t", Some(b""))],
+        ..NO_CODE
+    },
+];
+
+#[test]
+fn the_first_fault_is_answered(rt: HostRuntime) -> Result<(), test::Fail> {
+    for run in FIRST_FAULTS {
+        check(&rt, rt.alloc(), run)?;
+    }
+    Ok(())
+}
