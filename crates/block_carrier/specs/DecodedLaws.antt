@@ -1,25 +1,22 @@
 -- Laws of what the sinks decode from the rows that the links carry of a block.
 use Rattle.std.specs.Prelude.{◌≡◌, ℕ, ◌+◌, ◌*◌, ◌<◌, true, List, [], length, map, take, drop, slice_get, Some}
 use Rattle.std.specs.List.{concat}
-use Rattle.std.proofs.Common.{arith, refl, sym, ap, ◌∙◌, subst, inl, inr}
+use Rattle.std.proofs.Common.{arith, refl, sym, ap, ◌∙◌, subst}
 use Rattle.std.proofs.Math.Nat.{mod-eq_of_lt, mul-le-mul_right}
-use Rattle.std.proofs.lemmas.Bool.{cases_lt, true≢false}
 use Rattle.std.proofs.lemmas.List.{length-map, get_or-map, ext_get_or}
 use Rattle.std.proofs.lemmas.List.Elements.{All-weaker}
 use Rattle.std.proofs.lemmas.Nat.{mod-mul-add}
-use Rattle.std.proofs.lemmas.Option.{slice_get_past}
 use Rattle.field_rows.specs.Bytes.{bytes_of_elements}
 use Rattle.linear_algebra.specs.EntryLaws.{get_or-rows_of, place_within}
 use Rattle.linear_algebra.specs.Matrices.{rows_of, matrix_times}
 use Rattle.linear_algebra.specs.MatrixLaws.{length-rows_of}
 use Rattle.linear_algebra.specs.Rows.{combination}
 use Rattle.net_model.specs.Demands.{demand_count, pattern_of_demand, sink_of_demand}
-use Rattle.net_model.specs.declared.Link.{Link}
 use Rattle.net_model.specs.declared.net.Net.{Net}
 use Rattle.node_program.specs.Code.{leads_into}
 use Rattle.node_program.specs.CodeValue.{value_in}
 use Rattle.node_program.specs.Decoding.{IsAccepted, decoding_of}
-use Rattle.node_program.specs.DecodingLaws.{decoder_of_demand}
+use Rattle.node_program.specs.DecodingLaws.{decoder_of_demand, link_within}
 use Rattle.node_program.specs.Value.{width_of}
 use Rattle.node_program.specs.ValueLaws.{map-agree}
 use Rattle.node_program.specs.declared.Decoder.{Decoder}
@@ -27,13 +24,6 @@ use Rattle.node_program.specs.declared.code.Code.{Code}
 use Rattle.block_carrier.specs.Carried.{block_elements}
 use Rattle.block_carrier.specs.LinkRows.{row_width, elements_at, sum_of_rows, AreCarried, IsBlockOf, decoded_rows, decoded_block}
 use Rattle.block_carrier.specs.BlockLaws.{length-block_elements, get_or-block_elements, width_of-block_elements, IsBlock-block_elements, bytes_of-block_elements, block_elements-injective}
-
--- a link that leads into a node is one of the network's
-pub link_within : (links : List Link) (node link : ℕ) → leads_into links node link ≡ true → link < length links
-link_within links node link into = elim (cases_lt link (length links)) [
-  | inl within ↦ within
-  | inr past ↦ let none = slice_get_past links link past in absurd (true≢false (sym into ∙ rw none refl))
-]
 
 -- from rows that are carried of a block, each demand's decoder makes the rows of the block
 pub decoded_rows-carried : (code : Code) (demand : ℕ) (block rows : List ℕ) → IsAccepted code → demand < demand_count code.net → IsBlockOf code block

@@ -1,7 +1,7 @@
 -- How a decoder's matrix and the vectors of its links are put into memory.
-use Rattle.std.proofs.Common.{◌≡◌, ℕ, zero, suc, ◌+◌, ◌*◌, ◌<◌, ◌≤◌, ◌⊎◌, inl, inr, true, List, [], ◌∷◌, length, map, get_or, refl, sym, ap, ◌∙◌, subst, arith, slice_get, slice_index, slice_set, replicate}
+use Rattle.std.proofs.Common.{◌≡◌, ℕ, ◌+◌, ◌*◌, ◌<◌, ◌≤◌, ◌⊎◌, inl, inr, List, [], length, map, get_or, refl, sym, ap, ◌∙◌, subst, arith, slice_get, slice_index, slice_set, replicate}
 use Rattle.std.specs.Prelude.{Option, Some, unwrap_or}
-use Rattle.std.proofs.lemmas.Bool.{cases_lt, false≢true}
+use Rattle.std.proofs.lemmas.Bool.{cases_lt}
 use Rattle.std.proofs.lemmas.List.{length-map, length-replicate, length-set, get_or-map, ext_get_or}
 use Rattle.std.proofs.lemmas.Option.{slice_get_within}
 use Rattle.field_vectors.specs.Grid.{Grid, IsMatrix, entry_of, row_of, with_row, grid_of}
@@ -14,11 +14,9 @@ use Rattle.linear_algebra.specs.RowLaws.{AreRows-get_or}
 use Rattle.linear_algebra.specs.Rows.{AreElements}
 use Rattle.net_model.specs.Demands.{demand_count, pattern_of_demand, sink_of_demand}
 use Rattle.gf_tables.specs.declared.kind.FieldKind.{FieldKind}
-use Rattle.net_model.specs.declared.Link.{Link}
-use Rattle.node_program.specs.Code.{leads_into}
 use Rattle.node_program.specs.CodeValue.{vector_in}
 use Rattle.node_program.specs.Decoding.{IsDecoder, decoder_matrix, decoder_vectors}
-use Rattle.node_program.specs.DecodingLaws.{decoder_of_demand}
+use Rattle.node_program.specs.DecodingLaws.{decoder_of_demand, link_within}
 use Rattle.node_program.specs.Vectors.{AreVectors}
 use Rattle.node_program.specs.declared.Decoder.{Decoder}
 use Rattle.node_program.specs.declared.code.Code.{Code}
@@ -134,12 +132,6 @@ filled_all {F} nil number field entries size i m nothing long elements all matri
 pub decoder_matrix-rows : (code : Code) (demand : ℕ) (decoder : Decoder) → slice_get code.decoders demand ≡ Some decoder
     → rows_of code.rate code.rate decoder.entries ≡ decoder_matrix code demand
 decoder_matrix-rows code demand decoder at = sym (rw at refl)
-
--- a link that leads into a node is one of the network's
-link_within : (links : List Link) (node link : ℕ) → leads_into links node link ≡ true → link < length links
-link_within [] node link into = absurd (false≢true into)
-link_within (first ∷ links) node zero into = omega arith
-link_within (first ∷ links) node (suc link) into = omega (arith, link_within links node link into)
 
 -- each link of a decoder is one of the network's
 pub decoder_link_within : (code : Code) (demand place : ℕ) (decoder : Decoder) → IsDecoder code.net code.rate code.field (sink_of_demand code.net demand) decoder

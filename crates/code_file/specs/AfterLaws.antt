@@ -1,12 +1,11 @@
 -- Lists whose items each fit in view of the earlier ones, in the words of networks and codes.
 use Rattle.std.specs.Prelude.{◌≡◌, ℕ, ◌+◌, ◌<◌, ◌≤◌, Bool, true, false, ◌||◌, ◌==◌, nat_eq, nat_lt, List, [], ◌∷◌, ◌++◌, length, map}
-use Rattle.std.specs.List.{list_all, list_any, AllByRecursion, IsDistinct}
+use Rattle.std.specs.List.{list_all, list_any, AllByRecursion}
 use Rattle.std.specs.Str.{bytes_eq}
 use Rattle.std.proofs.Common.{refl, sym, subst, ap, ◌∙◌, arith}
 use Rattle.std.proofs.lemmas.Bool.{and_parts, and_from, or_parts, or_from, not-true, not_from_false, eqb-true, eq-eqb, ltb-true, lt-ltb}
 use Rattle.std.proofs.lemmas.List.{map-append}
 use Rattle.std.proofs.lemmas.List.Folds.{list_any-append}
-use Rattle.std.proofs.lemmas.Map.Steps.{length-le_from_distinct_below}
 use Rattle.std.proofs.lemmas.Slice.Eq.{bytes_eq-Decides}
 use Rattle.net_model.specs.Lists.{are_distinct, is_rising, is_among}
 use Rattle.net_model.specs.Name.{is_name}
@@ -203,39 +202,6 @@ rising_fits x (y ∷ ys) bound rising below =
 pub length-is_rising : (xs : List ℕ) (bound : ℕ) → is_rising xs ≡ true → list_all (λ n. nat_lt n bound) xs ≡ true → length xs ≤ bound
 length-is_rising [] bound rising below = omega arith
 length-is_rising (x ∷ xs) bound rising below = omega (arith, rising_fits x xs bound rising below)
-
--- ---- distinct numbers below a bound are at most as many
-
--- a test that no item passes fails at each
-none_passes : {X : Type 0} (test : X → Bool) (xs : List X) → list_any test xs ≡ false → AllByRecursion (λ x. test x ≡ false) xs
-none_passes test [] none = tt
-none_passes test (x ∷ xs) none =
-    let neither = or_parts (test x) (list_any test xs) none in
-    (neither.0, none_passes test xs neither.1)
-
--- the test of distinct numbers in the words of the library
-IsDistinct-from_are_distinct : (xs : List ℕ) → are_distinct nat_eq xs ≡ true → IsDistinct nat_eq xs
-unfolding IsDistinct
-IsDistinct-from_are_distinct [] apart = tt
-IsDistinct-from_are_distinct (x ∷ xs) apart =
-    let parts = and_parts _ _ apart in
-    (none_passes (nat_eq x) xs (not-true _ parts.0), IsDistinct-from_are_distinct xs parts.1)
-
--- a number of a list of numbers below a bound is below the bound
-below_bound : (xs : List ℕ) (bound number : ℕ) → list_all (λ x. nat_lt x bound) xs ≡ true → list_any (nat_eq number) xs ≡ true → number < bound
-below_bound [] bound number below found = cc
-below_bound (x ∷ xs) bound number below found =
-    let parts = and_parts _ _ below in
-    here_or_later (nat_eq number x) refl found (λ later. below_bound xs bound number parts.1 later)
-  where
-    here_or_later : (is : Bool) → nat_eq number x ≡ is → (is || list_any (nat_eq number) xs) ≡ true → (list_any (nat_eq number) xs ≡ true → number < bound) → number < bound
-    here_or_later true same here rest = rw (eqb-true number x same) (ltb-true x bound (and_parts _ _ below).0)
-    here_or_later false same later rest = rest later
-
--- so there are no more than the bound
-pub length-are_distinct : (xs : List ℕ) (bound : ℕ) → are_distinct nat_eq xs ≡ true → list_all (λ x. nat_lt x bound) xs ≡ true → length xs ≤ bound
-length-are_distinct xs bound apart below =
-    length-le_from_distinct_below xs bound (IsDistinct-from_are_distinct xs apart) (λ number found. below_bound xs bound number below found)
 
 -- ---- the order of links
 

@@ -11,6 +11,7 @@ use Rattle.gf_tables.specs.Product.{size_of}
 use Rattle.gf_tables.specs.declared.kind.FieldKind.{FieldKind}
 use Rattle.net_model.specs.Demands.{sinks_of_demands}
 use Rattle.net_model.specs.Lists.{are_distinct, is_rising, is_among}
+use Rattle.net_model.specs.ListLaws.{length-are_distinct, list_all-implied}
 use Rattle.net_model.specs.Network.{are_names, is_link_among, is_sink_among, is_listed_pattern, are_patterns, IsNetwork}
 use Rattle.net_model.specs.declared.Link.{Link}
 use Rattle.net_model.specs.declared.Pattern.{Pattern}
@@ -24,14 +25,7 @@ use Rattle.code_file.specs.Spelling.{front_of, contents_in, AreContents}
 use Rattle.code_file.specs.Readers.{AllAfter, EachFits}
 use Rattle.code_file.specs.FrontReaders.{NameAfter, LinkAfter, SinkAfter, LinkNumberAfter, PatternAfter, none_pattern}
 use Rattle.code_file.specs.CodeReaders.{OperandAfter, AreOperandsRead, DecoderLinkAfter, IsDecoderRead, IsFrontRead, AreContentsRead}
-use Rattle.code_file.specs.AfterLaws.{Rises, LeadsOn, AllAfter-weaker, AllAfter-both, AllAfter-map, AllAfter-from_map, AllAfter-from_list_all, list_all-from_AllAfter, list_any-map, nat_eq-swap, are_distinct-from_AllAfter, AllAfter-from_are_distinct, are_names-from_AllAfter, AllAfter-from_are_names, is_rising-from_AllAfter, AllAfter-from_is_rising, length-is_rising, length-are_distinct, are_in_order-from_AllAfter, AllAfter-from_are_in_order}
-
--- a test that implies another at each item
-list_all-implied : {X : Type 0} (strong weak : X → Bool) (xs : List X) → ((x : X) → strong x ≡ true → weak x ≡ true) → list_all strong xs ≡ true → list_all weak xs ≡ true
-list_all-implied strong weak [] implies all = refl
-list_all-implied strong weak (x ∷ xs) implies all =
-    let parts = and_parts _ _ all in
-    and_from _ _ (implies x parts.0) (list_all-implied strong weak xs implies parts.1)
+use Rattle.code_file.specs.AfterLaws.{Rises, LeadsOn, AllAfter-weaker, AllAfter-both, AllAfter-map, AllAfter-from_map, AllAfter-from_list_all, list_all-from_AllAfter, list_any-map, nat_eq-swap, are_distinct-from_AllAfter, AllAfter-from_are_distinct, are_names-from_AllAfter, AllAfter-from_are_names, is_rising-from_AllAfter, AllAfter-from_is_rising, length-is_rising, are_in_order-from_AllAfter, AllAfter-from_are_in_order}
 
 -- ---- links
 

@@ -4,11 +4,12 @@ use Rattle.std.proofs.Common.{arith}
 use Rattle.std.proofs.Math.Nat.{div-lt_iff_lt-mul, mod-lt, mul-le-mul}
 use Rattle.std.proofs.lemmas.Bool.{and_parts, eqb-false, ltb-true, not-true}
 use Rattle.net_model.specs.Demands.{demand_count, pattern_of_demand, sink_of_demand, sinks_of_demands}
+use Rattle.net_model.specs.ListLaws.{length-are_distinct, list_all-implied}
 use Rattle.net_model.specs.Network.{are_patterns, is_sink_among}
 use Rattle.net_model.specs.NetworkLaws.{passes_at}
 use Rattle.net_model.specs.declared.Pattern.{Pattern}
 use Rattle.net_model.specs.declared.net.Net.{Net}
-use Rattle.failure_patterns.specs.ListLaws.{length-are_distinct, list_all-implied, length-repeated, get_or-repeated}
+use Rattle.failure_patterns.specs.ListLaws.{length-repeated, get_or-repeated}
 
 -- there are as many demands as sinks of demands
 pub length-sinks_of_demands : (net : Net) → length (sinks_of_demands net) ≡ demand_count net

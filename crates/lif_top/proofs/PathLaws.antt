@@ -12,7 +12,7 @@ use Rattle.std.proofs.lemmas.List.Folds.{find-append}
 use Rattle.std.proofs.lemmas.List.Sums.{sum_by-cons}
 use Rattle.std.proofs.lemmas.Option.{unwrap_or-slice_get}
 use Rattle.std.proofs.lemmas.Slice.Eq.{bytes_eq-Decides}
-use Rattle.failure_patterns.specs.ListLaws.{IsDistinct-from_are_distinct}
+use Rattle.net_model.specs.ListLaws.{IsDistinct-from_are_distinct}
 use Rattle.lif_outside.specs.Files.{AreDistinct}
 use Rattle.net_model.specs.declared.net.Net.{Net}
 use Rattle.lif_top.specs.Lines.{node_name}

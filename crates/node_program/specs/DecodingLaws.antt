@@ -8,6 +8,7 @@ use Rattle.gf_tables.specs.declared.kind.FieldKind.{FieldKind}
 use Rattle.net_model.specs.Demands.{demand_count, pattern_of_demand, sink_of_demand, sinks_of_demands}
 use Rattle.net_model.specs.Failed.{failed_links}
 use Rattle.net_model.specs.NetworkLaws.{passes_at}
+use Rattle.net_model.specs.declared.Link.{Link}
 use Rattle.net_model.specs.declared.net.Net.{Net}
 use Rattle.failure_patterns.specs.DemandLaws.{length-sinks_of_demands, slice_index-sinks_of_demands}
 use Rattle.linear_algebra.specs.EntryLaws.{rows_of-AreRows}
@@ -51,6 +52,12 @@ decoder_of_sink net rate field (sink ∷ sinks) (decoder ∷ decoders) zero are 
     (decoder, refl, IsDecoder-from_is_decoder net rate field sink decoder (and_parts _ _ are).0)
 decoder_of_sink net rate field (sink ∷ sinks) (decoder ∷ decoders) (suc place) are within =
     decoder_of_sink net rate field sinks decoders place (and_parts _ _ are).1 (omega arith)
+
+-- a link that leads into a node is one of the network's
+pub link_within : (links : List Link) (node link : ℕ) → leads_into links node link ≡ true → link < length links
+link_within [] node link into = absurd (false≢true into)
+link_within (first ∷ links) node zero into = omega arith
+link_within (first ∷ links) node (suc link) into = omega (arith, link_within links node link into)
 
 -- each demand of a code has a decoder at its sink
 pub decoder_of_demand : {net : Net} {rate : ℕ} {field : FieldKind} {operands : List (List Operand)} {decoders : List Decoder} → IsCode net rate field operands decoders
