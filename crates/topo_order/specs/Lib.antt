@@ -1,0 +1,8 @@
+pub mod Order
+pub mod OrderLaws
+pub mod Refusal
+pub mod Placing
+pub mod Chains
+pub mod Queue
+pub mod GoingBack
+pub mod TestNames

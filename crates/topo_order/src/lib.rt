@@ -1,0 +1,16 @@
+//! The order of a network's links, or a cycle.
+#![tactic(auto)]
+
+mod chains;
+mod ends;
+mod going_back;
+mod ordering;
+mod placing;
+mod queue;
+mod refusal;
+
+pub use ordering::order;
+pub use refusal::OrderRefusal;
+
+#[cfg(test)]
+mod tests;
