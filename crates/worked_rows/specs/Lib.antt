@@ -2,3 +2,4 @@ pub mod OneLink
 pub mod Butterfly
 pub mod CutButterfly
 pub mod Sevens
+pub mod Networks

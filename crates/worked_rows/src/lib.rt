@@ -8,3 +8,4 @@ pub mod links;
 pub mod products;
 #[cfg(test)]
 mod tests;
+pub mod texts;

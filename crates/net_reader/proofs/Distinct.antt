@@ -1,0 +1,53 @@
+-- Whether names are distinct, one after another.
+use Rattle.std.proofs.Common.{◌≡◌, ℕ, Bool, true, false, not, ◌||◌, ◌&&◌, List, [], ◌∷◌, ◌++◌, refl, ap, sym, ◌∙◌}
+use Rattle.std.specs.List.{list_all, list_any}
+use Rattle.std.specs.Str.{bytes_eq}
+use Rattle.std.proofs.lemmas.Bool.Decides.{same_from_decides}
+use Rattle.std.proofs.lemmas.Slice.Eq.{bytes_eq-Decides}
+use Rattle.std.proofs.lemmas.List.Folds.{list_any-append}
+use Rattle.net_model.specs.Lists.{are_distinct}
+use Rattle.net_reader.specs.Statements.{has}
+
+-- none of the names has been seen
+abbrev pub are_new : List (List ℕ) → List (List ℕ) → Bool
+are_new seen names = list_all (λ name. not (has seen name)) names
+
+-- none of the names has been seen, and they are distinct
+abbrev pub are_left : List (List ℕ) → List (List ℕ) → Bool
+are_left seen names = are_new seen names && are_distinct bytes_eq names
+
+none_seen : (names : List (List ℕ)) → are_new [] names ≡ true
+none_seen [] = refl
+none_seen (name ∷ names) = none_seen names
+
+pub left_first : (names : List (List ℕ)) → are_left [] names ≡ are_distinct bytes_eq names
+left_first names = ap (λ b. b && are_distinct bytes_eq names) (none_seen names)
+
+flipped : (x y : List ℕ) → bytes_eq y x ≡ bytes_eq x y
+flipped x y = same_from_decides (bytes_eq y x) (bytes_eq x y) (bytes_eq-Decides y x) (λ e. sym ((bytes_eq-Decides x y).0 e), λ e. (bytes_eq-Decides x y).1 (sym e))
+
+four : (h q a n : Bool) → (not (h || (q || false)) && (a && not n)) ≡ ((not h && a) && not (q || n))
+four true q a n = refl
+four false true true n = refl
+four false true false n = refl
+four false false a n = refl
+
+new_more : (seen : List (List ℕ)) (x : List ℕ) (rest : List (List ℕ)) → are_new (seen ++ x ∷ []) rest ≡ (are_new seen rest && not (list_any (bytes_eq x) rest))
+new_more seen x [] = refl
+new_more seen x (y ∷ rest) =
+    (λ i. not (list_any-append (bytes_eq y) seen (x ∷ []) i) && new_more seen x rest i)
+    ∙ (λ i. not (has seen y || (flipped x y i || false)) && (are_new seen rest && not (list_any (bytes_eq x) rest)))
+    ∙ four (has seen y) (bytes_eq x y) (are_new seen rest) (list_any (bytes_eq x) rest)
+
+three : (a n d : Bool) → (a && (n && d)) ≡ ((a && n) && d)
+three true n d = refl
+three false n d = refl
+
+pub left_more : (seen : List (List ℕ)) (x : List ℕ) (rest : List (List ℕ)) → has seen x ≡ false → are_left seen (x ∷ rest) ≡ are_left (seen ++ x ∷ []) rest
+left_more seen x rest fresh =
+    (λ i. (not (fresh i) && are_new seen rest) && (not (list_any (bytes_eq x) rest) && are_distinct bytes_eq rest))
+    ∙ three (are_new seen rest) (not (list_any (bytes_eq x) rest)) (are_distinct bytes_eq rest)
+    ∙ ap (λ b. b && are_distinct bytes_eq rest) (sym (new_more seen x rest))
+
+pub left_none : (seen : List (List ℕ)) (x : List ℕ) (rest : List (List ℕ)) → has seen x ≡ true → are_left seen (x ∷ rest) ≡ false
+left_none seen x rest old = λ i. (not (old i) && are_new seen rest) && are_distinct bytes_eq (x ∷ rest)

@@ -1,0 +1,6 @@
+use Rattle.net_reader.specs.Parts.{parts_seen}
+use Rattle.net_reader.specs.TextLaws.{IsNetwork-from_text}
+use Rattle.net_reader.proofs.whole.read_net.Goals as goal
+
+pub net_of-requires : goal.net_of-requires
+net_of-requires c = IsNetwork-from_text c.args.text.now (parts_seen c.in_ok-parts.parts) c.in_ok-parts.ensures

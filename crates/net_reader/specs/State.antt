@@ -1,0 +1,38 @@
+-- What the reader keeps of the statements so far.
+use Rattle.std.specs.Prelude.{◌≡◌, ◌≤◌, ℕ, length, List, ◌++◌, map, option_to_list, Result, Ok}
+use Rattle.net_reader.specs.declared.refusal.ReadRefusal.{ReadRefusal}
+use Rattle.net_reader.specs.declared.state.State.{State}
+use Rattle.net_reader.specs.Said.{statement_in}
+use Rattle.net_reader.specs.Statements.{Statement, field_bits, faults_of, link_names, nodes_of, pattern_names, refused_first, sink_names, source_names, read_line, read_words}
+use Rattle.net_reader.specs.Text.{and_then}
+
+-- the statements of a state
+abbrev pub said_in : State → List Statement
+said_in state = map statement_in state.said.items
+
+-- the tables of the state are those of these statements
+pub record AreTables (statements : List Statement) (state : State) : Type 0 where
+  pub nodes : state.nodes ≡ nodes_of statements
+  pub links : state.links ≡ link_names statements
+  pub patterns : state.patterns ≡ pattern_names statements
+  pub sinks : state.sinks ≡ sink_names statements
+  pub source : map (λ name. name.now) (option_to_list state.source) ≡ source_names statements
+  pub field : option_to_list state.field ≡ field_bits statements
+  pub few_nodes : length state.nodes ≤ 4096
+  pub few_links : length state.links ≤ 8192
+
+-- the tables of the state are those of its statements
+abbrev pub IsState : State → Type 0
+IsState state = AreTables (said_in state) state
+
+-- the statement, if it is good after earlier ones
+abbrev pub checked : List Statement → ℕ → Statement → Result (List Statement) ReadRefusal
+checked earlier line statement = refused_first (faults_of earlier line statement) statement
+
+-- the statements with what words say
+abbrev pub with_words : List Statement → ℕ → List (List ℕ) → Result (List Statement) ReadRefusal
+with_words earlier line words = and_then (read_words earlier line words) (λ statements. Ok (earlier ++ statements))
+
+-- the statements with those of a further line
+abbrev pub with_line : List Statement → ℕ → List ℕ → Result (List Statement) ReadRefusal
+with_line earlier line bytes = and_then (read_line earlier line bytes) (λ statements. Ok (earlier ++ statements))

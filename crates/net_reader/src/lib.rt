@@ -1,0 +1,17 @@
+//! Networks as texts.
+#![tactic(auto)]
+
+mod lines;
+mod names;
+mod parts;
+mod reading;
+mod refusal;
+mod state;
+mod statements;
+mod whole;
+
+pub use refusal::{ReadRefusal, What};
+pub use whole::read_net;
+
+#[cfg(test)]
+mod tests;

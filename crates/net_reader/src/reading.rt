@@ -1,0 +1,101 @@
+//! The lines of a text, one after another.
+ghost use Rattle.std.specs.Prelude.{◌≡◌, ◌++◌, ◌∷◌, ◌+◌, [], map, Ok, OnOk, IfOk};
+ghost use Rattle.net_reader.specs.Gives.{Gives};
+ghost use Rattle.net_reader.specs.Said.{statement_in};
+ghost use Rattle.net_reader.specs.State.{said_in, AreTables, IsState, checked, with_words, with_line};
+ghost use Rattle.net_reader.specs.Text.{read_lines};
+
+use crate::ReadRefusal;
+use crate::lines::{are_text, content_of, words_of};
+use crate::state::{State, note_field, note_link, note_pattern, note_sink, note_source};
+use crate::statements::{Said, statement_of};
+use std::alloc::Global;
+
+// Notes a statement, if it is good.
+fn note<'a>(
+    alloc: Global,
+    state: &mut State<'a>,
+    line: u64,
+    said: &Said<'a>,
+) -> Result<(), ReadRefusal>
+    requires { IsState state.old }
+    ensures gives { Gives (λ _. statement_in said.now ∷ []) result (checked (said_in state.old) line (statement_in said.now)) }
+    ensures noted { OnOk result (AreTables (said_in state.old ++ statement_in said.now ∷ []) state.new) }
+    ensures kept { OnOk result (state.new.said ≡ state.old.said) }
+{
+    match said {
+        Said::Field(bits) => note_field(state, line, *bits),
+        Said::Source(node) => note_source(state, line, node),
+        Said::Sink(node) => note_sink(state, line, node),
+        Said::Link { name, tail, head } => note_link(state, line, name, tail, head),
+        Said::Pattern { name, links } => note_pattern(alloc, state, line, name, links),
+    }
+}
+
+// Adds a statement, if it is good.
+fn add<'a>(
+    alloc: Global,
+    state: &mut State<'a>,
+    line: u64,
+    said: Said<'a>,
+) -> Result<(), ReadRefusal>
+    requires { IsState state.old }
+    ensures gives { Gives (λ _. statement_in said.entry ∷ []) result (checked (said_in state.old) line (statement_in said.entry)) }
+    ensures added { OnOk result (said_in state.new ≡ said_in state.old ++ statement_in said.entry ∷ []) }
+    ensures tables { OnOk result (IsState state.new) }
+{
+    note(alloc, state, line, &said)?;
+    state.said.push(said)?;
+    Ok(())
+}
+
+// Adds what words say.
+fn read_words<'a>(
+    alloc: Global,
+    state: &mut State<'a>,
+    line: u64,
+    words: &[&'a [u8]],
+) -> Result<(), ReadRefusal>
+    requires { IsState state.old }
+    ensures gives { Gives (λ _. said_in state.new) result (with_words (said_in state.old) line (map (λ word. word.now) words.now)) }
+    ensures tables { OnOk result (IsState state.new) }
+{
+    let Some((first, rest)) = words.split_first() else {
+        return Ok(());
+    };
+    let Some(said) = statement_of(alloc, first, rest)? else {
+        return Err(ReadRefusal::BadLine { line });
+    };
+    add(alloc, state, line, said)
+}
+
+// Adds what a line says.
+fn read_line<'a>(
+    alloc: Global,
+    state: &mut State<'a>,
+    line: u64,
+    bytes: &'a [u8],
+) -> Result<(), ReadRefusal>
+    requires { IsState state.old }
+    ensures gives { Gives (λ _. said_in state.new) result (with_line (said_in state.old) line bytes.now) }
+    ensures tables { OnOk result (IsState state.new) }
+{
+    let content = content_of(bytes);
+    if !are_text(content) {
+        return Err(ReadRefusal::BadByte { line });
+    }
+    let words = words_of(alloc, content)?;
+    read_words(alloc, state, line, &words)
+}
+
+/// What lines say, the first of which has the number 1.
+pub(crate) fn read_lines<'a>(alloc: Global, lines: &[&'a [u8]]) -> Result<State<'a>, ReadRefusal>
+    ensures gives { Gives said_in result (read_lines [] 1 (map (λ line. line.now) lines.now)) }
+    ensures tables { IfOk result IsState }
+{
+    let mut state = State::new(alloc);
+    for (i, line) in lines.iter().enumerate() {
+        read_line(alloc, &mut state, i as u64 + 1, line)?;
+    }
+    Ok(state)
+}

@@ -1,0 +1,101 @@
+//! Why a text is no network.
+use std::alloc::{AllocError, AllocFailed};
+
+/// Of what there are too many.
+#[derive(Clone, Copy, Debug, PartialEq, Eq)]
+pub enum What {
+    /// More than 4096 nodes.
+    Nodes,
+    /// More than 8192 links.
+    Links,
+    /// More than 4095 listed patterns.
+    Patterns,
+}
+
+/// Why a text is no network. The refusal is that of the first line that isn't good, and of its refusals the first in the
+/// order below; the last but one three are of the text as a whole. A line is counted from 1, skipped ones too.
+#[derive(Clone, Copy, Debug, PartialEq, Eq)]
+pub enum ReadRefusal {
+    /// A byte is neither a tab nor from the space to the tilde.
+    BadByte {
+        line: u64,
+    },
+    /// The line has none of the forms.
+    BadLine {
+        line: u64,
+    },
+    /// A name isn't one.
+    BadName {
+        line: u64,
+    },
+    /// An earlier link has the name.
+    DuplicateLink {
+        line: u64,
+    },
+    /// The name is `none`, or an earlier pattern has it.
+    DuplicatePattern {
+        line: u64,
+    },
+    /// The node is a sink already.
+    DuplicateSink {
+        line: u64,
+    },
+    /// There is a source already.
+    SecondSource {
+        line: u64,
+    },
+    /// The link leads from a node to itself.
+    SelfLoop {
+        line: u64,
+    },
+    /// No earlier link has the name.
+    UnknownLink {
+        line: u64,
+    },
+    /// A link is named twice.
+    RepeatedLink {
+        line: u64,
+    },
+    /// There is a field already.
+    SecondField {
+        line: u64,
+    },
+    /// With this line there is one too many.
+    TooMany {
+        line: u64,
+        what: What,
+    },
+    /// There is no source.
+    NoSource,
+    /// There is no sink.
+    NoSink,
+    /// A sink is the source.
+    SinkIsSource {
+        /// The number of the node.
+        sink: u32,
+    },
+    /// There was no memory.
+    OutOfMemory,
+}
+
+impl From<AllocError> for ReadRefusal {
+    ghost use Rattle.std.specs.Prelude.{◌≡◌};
+    ghost use Rattle.net_reader.specs.declared.refusal.ReadRefusal.TheVariants.{OutOfMemory};
+
+    ghost from_gives = { λ _ refusal. refusal ≡ OutOfMemory };
+
+    fn from(_: AllocError) -> ReadRefusal {
+        ReadRefusal::OutOfMemory
+    }
+}
+
+impl<T: Drop> From<AllocFailed<T>> for ReadRefusal {
+    ghost use Rattle.std.specs.Prelude.{◌≡◌};
+    ghost use Rattle.net_reader.specs.declared.refusal.ReadRefusal.TheVariants.{OutOfMemory};
+
+    ghost from_gives = { λ _ refusal. refusal ≡ OutOfMemory };
+
+    fn from(_: AllocFailed<T>) -> ReadRefusal {
+        ReadRefusal::OutOfMemory
+    }
+}
