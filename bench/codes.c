@@ -1,0 +1,401 @@
+// Writes a code file to standard output, made from the format that docs/FORMATS.md gives and without the program.
+//
+// `butterfly` is the code of rate 2 over the field of 256 elements through the butterfly, with two sinks.
+//
+// `fan` takes the field, the rate, and the numbers of middle nodes, of sinks, of links into each sink and of listed
+// patterns. A link leads from the source to each middle node, and carries the sum of all rows, row j times power j + 1
+// of the middle node's own element. A sink has links from middle nodes that follow one another in a ring, and gets by
+// them what these got. Pattern p fails the source's link p, counted in a ring too.
+//
+// A decoder has the first links into its sink that carry anything, and is the inverse of what they carry.
+#include <stdint.h>
+#include <stdio.h>
+#include <stdlib.h>
+#include <string.h>
+
+enum { MOST_RATE = 32, MOST_LINKS = 8192, MOST_NODES = 4096, MOST_PATTERNS = 4095 };
+
+struct operand {
+    unsigned from;
+    unsigned times;
+};
+
+struct link {
+    unsigned tail;
+    unsigned head;
+    unsigned count;
+    struct operand operands[MOST_RATE];
+};
+
+// Node 0 is the source, and the last nodes are the sinks. Each pattern fails one of the first `failing` links.
+struct code {
+    unsigned field;
+    unsigned rate;
+    unsigned nodes;
+    unsigned sinks;
+    unsigned patterns;
+    unsigned failing;
+    unsigned count;
+    struct link links[MOST_LINKS];
+    unsigned vectors[MOST_LINKS][MOST_RATE];
+};
+
+// The bytes that a file has of one demand.
+struct demand {
+    size_t length;
+    uint8_t bytes[2 * MOST_RATE + 2 * MOST_RATE * MOST_RATE];
+};
+
+static unsigned octet_product(unsigned left, unsigned right) {
+    unsigned sum = 0;
+    for (unsigned bit = 0; bit < 8; bit++) {
+        if (right >> bit & 1) sum ^= left;
+        left <<= 1;
+        if (left & 0x100) left ^= 0x11D;
+    }
+    return sum;
+}
+
+static unsigned pair_product(unsigned left, unsigned right) {
+    unsigned high = octet_product(left >> 8, right >> 8);
+    unsigned low = octet_product(left & 255, right & 255);
+    unsigned both = octet_product(left >> 8 ^ (left & 255), right >> 8 ^ (right & 255));
+    return (both ^ low) << 8 | (low ^ octet_product(0x20, high));
+}
+
+static unsigned product(unsigned field, unsigned left, unsigned right) {
+    return field == 8 ? octet_product(left, right) : pair_product(left, right);
+}
+
+static unsigned power(unsigned field, unsigned element, unsigned exponent) {
+    unsigned result = 1;
+    for (unsigned bit = 1u << 16; bit != 0; bit >>= 1) {
+        result = product(field, result, result);
+        if (exponent & bit) result = product(field, result, element);
+    }
+    return result;
+}
+
+static unsigned inverse(unsigned field, unsigned element) {
+    return power(field, element, (1u << field) - 2);
+}
+
+static struct link *add_link(struct code *code, unsigned tail, unsigned head) {
+    struct link *link = &code->links[code->count++];
+    link->tail = tail;
+    link->head = head;
+    link->count = 0;
+    return link;
+}
+
+static void add_operand(struct link *link, unsigned from, unsigned times) {
+    link->operands[link->count++] = (struct operand){from, times};
+}
+
+// Nodes 1 and 2 get a row each, 3 adds the two up, 4 passes the sum on, and 5 and 6 are the sinks.
+static void fill_butterfly(struct code *code) {
+    static const struct link links[] = {
+        {0, 1, 1, {{0, 1}}},
+        {0, 2, 1, {{1, 1}}},
+        {1, 5, 1, {{0, 1}}},
+        {1, 3, 1, {{0, 1}}},
+        {2, 3, 1, {{1, 1}}},
+        {2, 6, 1, {{1, 1}}},
+        {3, 4, 2, {{3, 1}, {4, 1}}},
+        {4, 5, 1, {{6, 1}}},
+        {4, 6, 1, {{6, 1}}},
+    };
+    code->field = 8;
+    code->rate = 2;
+    code->nodes = 7;
+    code->sinks = 2;
+    code->count = sizeof links / sizeof *links;
+    memcpy(code->links, links, sizeof links);
+}
+
+// The own elements of middle nodes are powers of one element. In the field of 65,536 no coefficient is below 256.
+static void fill_source_link(struct code *code, unsigned middle) {
+    struct link *link = add_link(code, 0, 1 + middle);
+    unsigned own = power(code->field, code->field == 8 ? 2 : 258, 1 + middle);
+    for (unsigned row = 0; row < code->rate; row++) add_operand(link, row, power(code->field, own, 1 + row));
+}
+
+static void fill_fan(struct code *code, unsigned middles, unsigned into) {
+    code->nodes = 1 + middles + code->sinks;
+    code->failing = middles;
+    for (unsigned middle = 0; middle < middles; middle++) fill_source_link(code, middle);
+    for (unsigned sink = 0; sink < code->sinks; sink++) {
+        for (unsigned step = 0; step < into; step++) {
+            unsigned middle = (sink + step) % middles;
+            add_operand(add_link(code, 1 + middle, 1 + middles + sink), middle, 1);
+        }
+    }
+}
+
+static void add_scaled(const struct code *code, unsigned *into, unsigned times, const unsigned *from) {
+    for (unsigned column = 0; column < code->rate; column++) {
+        into[column] ^= product(code->field, times, from[column]);
+    }
+}
+
+// What a link carries of each row, by what the links before it carry.
+static void fill_vector(struct code *code, unsigned number) {
+    const struct link *link = &code->links[number];
+    unsigned *vector = code->vectors[number];
+    for (unsigned place = 0; place < link->count; place++) {
+        struct operand operand = link->operands[place];
+        if (link->tail == 0) {
+            vector[operand.from] ^= operand.times;
+        } else {
+            add_scaled(code, vector, operand.times, code->vectors[operand.from]);
+        }
+    }
+}
+
+// The vectors of all links, where one fails, or none for a number past the last.
+static void fill_vectors(struct code *code, unsigned failed) {
+    memset(code->vectors, 0, sizeof code->vectors);
+    for (unsigned number = 0; number < code->count; number++) {
+        if (number != failed) fill_vector(code, number);
+    }
+}
+
+static int is_zero(const struct code *code, const unsigned *vector) {
+    for (unsigned column = 0; column < code->rate; column++) {
+        if (vector[column] != 0) return 0;
+    }
+    return 1;
+}
+
+// The first links into a sink that carry anything, as many as the rate. Whether there are so many.
+static int choose_links(const struct code *code, unsigned sink, unsigned *chosen) {
+    unsigned found = 0;
+    for (unsigned number = 0; number < code->count && found < code->rate; number++) {
+        if (code->links[number].head == sink && !is_zero(code, code->vectors[number])) chosen[found++] = number;
+    }
+    return found == code->rate;
+}
+
+static void scale(const struct code *code, unsigned *row, unsigned times) {
+    for (unsigned column = 0; column < code->rate; column++) row[column] = product(code->field, row[column], times);
+}
+
+// A square matrix, and what makes of it the identity, as far as it has been made that.
+struct elimination {
+    unsigned left[MOST_RATE][MOST_RATE];
+    unsigned right[MOST_RATE][MOST_RATE];
+};
+
+static void swap_rows(unsigned *one, unsigned *other) {
+    unsigned kept[MOST_RATE];
+    memcpy(kept, one, sizeof kept);
+    memcpy(one, other, sizeof kept);
+    memcpy(other, kept, sizeof kept);
+}
+
+// Brings a row whose entry in a column isn't zero to the diagonal, and makes that entry one.
+static int place_pivot(const struct code *code, struct elimination *work, unsigned column) {
+    unsigned pivot = column;
+    while (pivot < code->rate && work->left[pivot][column] == 0) pivot++;
+    if (pivot == code->rate) return 0;
+    swap_rows(work->left[pivot], work->left[column]);
+    swap_rows(work->right[pivot], work->right[column]);
+    unsigned times = inverse(code->field, work->left[column][column]);
+    scale(code, work->left[column], times);
+    scale(code, work->right[column], times);
+    return 1;
+}
+
+static void clear_column(const struct code *code, struct elimination *work, unsigned column) {
+    for (unsigned row = 0; row < code->rate; row++) {
+        unsigned times = work->left[row][column];
+        if (row == column) continue;
+        add_scaled(code, work->left[row], times, work->left[column]);
+        add_scaled(code, work->right[row], times, work->right[column]);
+    }
+}
+
+static int invert(const struct code *code, struct elimination *work) {
+    memset(work->right, 0, sizeof work->right);
+    for (unsigned row = 0; row < code->rate; row++) work->right[row][row] = 1;
+    for (unsigned column = 0; column < code->rate; column++) {
+        if (!place_pivot(code, work, column)) return 0;
+        clear_column(code, work, column);
+    }
+    return 1;
+}
+
+static void push_number(struct demand *demand, unsigned number) {
+    demand->bytes[demand->length++] = (uint8_t)(number >> 8);
+    demand->bytes[demand->length++] = (uint8_t)number;
+}
+
+static void push_element(struct demand *demand, unsigned field, unsigned element) {
+    if (field == 16) demand->bytes[demand->length++] = (uint8_t)(element >> 8);
+    demand->bytes[demand->length++] = (uint8_t)element;
+}
+
+static void push_demand(const struct code *code, struct demand *demand, const unsigned *chosen,
+                        const struct elimination *work) {
+    demand->length = 0;
+    for (unsigned place = 0; place < code->rate; place++) push_number(demand, chosen[place]);
+    for (unsigned row = 0; row < code->rate; row++) {
+        for (unsigned column = 0; column < code->rate; column++) {
+            push_element(demand, code->field, work->right[row][column]);
+        }
+    }
+}
+
+// Makes the demand of a sink, by the vectors as they are. Whether it can be met.
+static int make_demand(const struct code *code, unsigned sink, struct demand *demand) {
+    unsigned chosen[MOST_RATE];
+    struct elimination work;
+    if (!choose_links(code, sink, chosen)) return 0;
+    for (unsigned row = 0; row < code->rate; row++) {
+        memcpy(work.left[row], code->vectors[chosen[row]], sizeof work.left[row]);
+    }
+    if (!invert(code, &work)) return 0;
+    push_demand(code, demand, chosen, &work);
+    return 1;
+}
+
+static void put_number(unsigned number) {
+    putchar((int)(number >> 8 & 255));
+    putchar((int)(number & 255));
+}
+
+static void put_element(unsigned field, unsigned element) {
+    if (field == 16) putchar((int)(element >> 8));
+    putchar((int)(element & 255));
+}
+
+static void put_name(char letter, unsigned number) {
+    char name[32];
+    int length = snprintf(name, sizeof name, "%c%u", letter, number);
+    putchar(length);
+    fputs(name, stdout);
+}
+
+static void put_nodes(const struct code *code) {
+    unsigned first_sink = code->nodes - code->sinks;
+    put_number(code->nodes);
+    for (unsigned node = 0; node < first_sink; node++) put_name('n', node);
+    for (unsigned sink = 0; sink < code->sinks; sink++) put_name('t', sink);
+}
+
+static void put_links(const struct code *code) {
+    put_number(code->count);
+    for (unsigned number = 0; number < code->count; number++) {
+        put_name('l', number);
+        put_number(code->links[number].tail);
+        put_number(code->links[number].head);
+    }
+}
+
+static void put_sinks(const struct code *code) {
+    put_number(code->sinks);
+    for (unsigned sink = 0; sink < code->sinks; sink++) put_number(code->nodes - code->sinks + sink);
+}
+
+static void put_patterns(const struct code *code) {
+    put_number(code->patterns);
+    for (unsigned pattern = 0; pattern < code->patterns; pattern++) {
+        put_name('p', pattern);
+        put_number(1);
+        put_number(pattern % code->failing);
+    }
+}
+
+static void put_operands(const struct code *code) {
+    for (unsigned number = 0; number < code->count; number++) {
+        const struct link *link = &code->links[number];
+        put_number(link->count);
+        for (unsigned place = 0; place < link->count; place++) {
+            put_number(link->operands[place].from);
+            put_element(code->field, link->operands[place].times);
+        }
+    }
+}
+
+static void put_front(const struct code *code) {
+    fputs("LIFC", stdout);
+    putchar(1);
+    putchar((int)code->field);
+    putchar((int)code->rate);
+    put_nodes(code);
+    put_links(code);
+    put_number(0);
+    put_sinks(code);
+    put_patterns(code);
+    put_operands(code);
+}
+
+static void put_demand(const struct demand *demand) {
+    fwrite(demand->bytes, 1, demand->length, stdout);
+}
+
+// The demands of a sink, of those of all sinks: first without a failure, and then for each link that fails.
+static void put_demands(const struct code *code, unsigned sink, const struct demand *demands) {
+    put_demand(&demands[sink]);
+    for (unsigned pattern = 0; pattern < code->patterns; pattern++) {
+        put_demand(&demands[(1 + pattern % code->failing) * code->sinks + sink]);
+    }
+}
+
+// Makes the demand of each sink, where one link fails.
+static int make_demands(struct code *code, unsigned failed, struct demand *demands) {
+    fill_vectors(code, failed);
+    for (unsigned sink = 0; sink < code->sinks; sink++) {
+        if (!make_demand(code, code->nodes - code->sinks + sink, &demands[sink])) return 0;
+    }
+    return 1;
+}
+
+static int write_code(struct code *code) {
+    unsigned failing = code->patterns < code->failing ? code->patterns : code->failing;
+    struct demand *demands = malloc((failing + 1) * code->sinks * sizeof *demands);
+    if (!demands || !make_demands(code, code->count, demands)) return 1;
+    for (unsigned failed = 0; failed < failing; failed++) {
+        if (!make_demands(code, failed, demands + (failed + 1) * code->sinks)) return 1;
+    }
+    put_front(code);
+    for (unsigned sink = 0; sink < code->sinks; sink++) put_demands(code, sink, demands);
+    free(demands);
+    return fflush(stdout) != 0 || ferror(stdout);
+}
+
+static int say_usage(void) {
+    fprintf(stderr, "usage: codes butterfly | fan FIELD RATE MIDDLES SINKS INTO PATTERNS\n");
+    return 2;
+}
+
+static unsigned number(const char *word) {
+    return (unsigned)strtoul(word, NULL, 10);
+}
+
+// Whether a fan is within the limits of the format. How many patterns all sinks together may have isn't looked at.
+static int is_fan(const struct code *code, unsigned middles, unsigned into) {
+    return (code->field == 8 || code->field == 16) && code->rate >= 1 && code->rate <= MOST_RATE && into >= 1 &&
+           into <= middles && middles < MOST_NODES && code->sinks >= 1 && code->sinks < MOST_NODES - middles &&
+           middles + code->sinks * into <= MOST_LINKS && code->patterns <= MOST_PATTERNS;
+}
+
+static int run_fan(struct code *code, char **words) {
+    unsigned middles = number(words[2]);
+    unsigned into = number(words[4]);
+    code->field = number(words[0]);
+    code->rate = number(words[1]);
+    code->sinks = number(words[3]);
+    code->patterns = number(words[5]);
+    if (!is_fan(code, middles, into)) return say_usage();
+    fill_fan(code, middles, into);
+    return write_code(code);
+}
+
+int main(int count, char **words) {
+    static struct code code;
+    if (count == 8 && strcmp(words[1], "fan") == 0) return run_fan(&code, words + 2);
+    if (count != 2 || strcmp(words[1], "butterfly") != 0) return say_usage();
+    fill_butterfly(&code);
+    return write_code(&code);
+}
