@@ -1,17 +1,17 @@
 -- Laws of products of rows over a field.
-use Rattle.std.specs.Prelude.{◌≡◌, ◌≢◌, ℕ, zero, suc, ◌+◌, ◌<◌, ◌==◌, true, false, List, [], ◌∷◌, ◌++◌, All, length, map, get_or, replicate, if◌then◌else◌}
+use Rattle.std.specs.Prelude.{◌≡◌, ◌≢◌, ℕ, zero, suc, ◌+◌, ◌<◌, ◌==◌, true, false, List, [], ◌∷◌, ◌++◌, All, length, map, get_or, set, drop, replicate, if◌then◌else◌}
 use Rattle.std.proofs.Common.{arith, refl, sym, ap, ◌∙◌, inl, inr}
 use borrow.Author.Tests.{eq-eqb}
 use Rattle.std.proofs.Math.Path.{ap₂}
 use Rattle.std.specs.List.{range_with_len}
 use Rattle.std.proofs.lemmas.Bool.{ne_eqb}
 use Rattle.std.proofs.lemmas.Bool.Decides.{eqb_tells}
-use Rattle.std.proofs.lemmas.List.{ext_get_or}
-use Rattle.std.proofs.lemmas.List.Elements.{All-head, All-tail, All-map}
+use Rattle.std.proofs.lemmas.List.{ext_get_or, drop_more, length-map}
+use Rattle.std.proofs.lemmas.List.Elements.{All-head, All-tail, All-map, All-drop, All-set, All-get_or}
 use Rattle.std.proofs.lemmas.List.FromFn.{length-map-range_with_len, get_or-map-range_with_len}
 use Rattle.gf_tables.specs.Field.{IsField}
 use Rattle.field_vectors.specs.Difference.{identity_entry}
-use Rattle.field_vectors.specs.Elements.{dot_of, plus_multiple, multiple_of, unit_of}
+use Rattle.field_vectors.specs.Elements.{dot_of, plus_multiple, multiple_of, column_of, unit_of}
 
 -- the entries of the identity are the same in a row and a column
 pub identity_entry-comm : {A : Type 0} (nought one : A) (i j : ℕ) → identity_entry nought one i j ≡ identity_entry nought one j i
@@ -183,3 +183,85 @@ module _ {A : Type 0} {P : A → Type 0} {nought one : A} {add mul : A → A →
   -- and in the other order
   pub unit_of-dot_of : (xs : List A) (n j : ℕ) → All P xs → j < n → dot_of nought add mul (unit_of nought one n j) xs ≡ get_or xs j nought
   unit_of-dot_of xs n j h below = dot_of-comm (unit_of nought one n j) xs (unit_of-elements n j) h ∙ dot_of-unit_of xs n j h below
+
+  -- a sum of three, the first and the last exchanged
+  turn : (a b c : A) → P a → P b → P c → add (add a b) c ≡ add (add c b) a
+  turn a b c p q r = F.add_assoc a b c p q r ∙ ap (add a) (F.add_comm b c q r) ∙ F.add_comm a (add c b) p (F.add_element c b r q)
+
+  -- the product of rows with another element at a place of each: its summand there takes that of the elements before
+  pub dot_of-set : (xs ys : List A) (k : ℕ) (x y : A) → All P xs → All P ys → P x → P y → k < length xs → k < length ys
+      → add (dot_of nought add mul (set xs k x) (set ys k y)) (mul (get_or xs k nought) (get_or ys k nought)) ≡ add (dot_of nought add mul xs ys) (mul x y)
+  dot_of-set [] ys k x y h l p q below inside = absurd (omega arith)
+  dot_of-set (a ∷ xs) [] k x y h l p q below inside = absurd (omega arith)
+  dot_of-set (a ∷ xs) (b ∷ ys) zero x y h l p q below inside =
+      turn (mul x y) (dot_of nought add mul xs ys) (mul a b) (F.mul_element x y p q) (dot_of-element xs ys (All-tail P a xs h) (All-tail P b ys l))
+      (F.mul_element a b (All-head P a xs h) (All-head P b ys l))
+  dot_of-set (a ∷ xs) (b ∷ ys) (suc k) x y h l p q below inside =
+      let h' = All-tail P a xs h in
+      let l' = All-tail P b ys l in
+      let m = F.mul_element a b (All-head P a xs h) (All-head P b ys l) in
+      let within : k < length xs = omega arith in
+      let here : k < length ys = omega arith in
+      let D = dot_of nought add mul (set xs k x) (set ys k y) in
+      let d = dot_of-element (set xs k x) (set ys k y) (All-set P xs k x p h') (All-set P ys k y q l') in
+      let E = mul (get_or xs k nought) (get_or ys k nought) in
+      let e = F.mul_element (get_or xs k nought) (get_or ys k nought) (All-get_or P xs k nought within h') (All-get_or P ys k nought here l') in
+      F.add_assoc (mul a b) D E m d e ∙ ap (add (mul a b)) (dot_of-set xs ys k x y h' l' p q within here)
+      ∙ sym (F.add_assoc (mul a b) (dot_of nought add mul xs ys) (mul x y) m (dot_of-element xs ys h' l') (F.mul_element x y p q))
+
+  -- the products of a row and parts of rows, by the first place
+  row-split : (x : A) (row : List A) (a : ℕ) (rows : List (List A)) → P x → All P row → All (λ r. length r ≡ a + suc (length row)) rows → All (All P) rows
+      → map (λ r. dot_of nought add mul (x ∷ row) (drop a r)) rows ≡ plus_multiple add mul (map (λ r. dot_of nought add mul row (drop (a + 1) r)) rows) x (column_of nought a rows)
+  row-split x row a [] p h wide elements = refl
+  row-split x row a (r ∷ rows) p h wide elements =
+      let same : length r ≡ a + suc (length row) = All-head (λ (r : List A). length r ≡ a + suc (length row)) r rows wide in
+      let long : a < length r = omega arith in
+      let q = All-head (All P) r rows elements in
+      let y = get_or r a nought in
+      let rest = drop (a + 1) r in
+      ap₂ (λ (z l : _). z ∷ l)
+      (ap (dot_of nought add mul (x ∷ row)) (drop_more r a nought long)
+      ∙ F.add_comm (mul x y) (dot_of nought add mul row rest) (F.mul_element x y p (All-get_or P r a nought long q)) (dot_of-element row rest h (All-drop P (a + 1) r q)))
+      (row-split x row a rows p h (All-tail (λ (r : List A). length r ≡ a + suc (length row)) r rows wide) (All-tail (All P) r rows elements))
+
+  -- zeros times a row
+  dot-noughts : (rows : List (List A)) (ys : List A) → All P ys → dot_of nought add mul (map (λ (r : List A). nought) rows) ys ≡ nought
+  dot-noughts [] ys k = refl
+  dot-noughts (r ∷ rows) [] k = refl
+  dot-noughts (r ∷ rows) (y ∷ ys) k =
+      let p = All-head P y ys k in
+      ap₂ add (F.mul_comm nought y F.zero_element p ∙ mul-nought y p) (dot-noughts rows ys (All-tail P y ys k)) ∙ F.zero_add nought F.zero_element
+
+  -- the products of a row and parts of rows, times another row
+  dot-rows_from : (row : List A) (rows : List (List A)) (ys : List A) (a : ℕ) → All P row → All (λ r. length r ≡ a + length row) rows → All (All P) rows → All P ys
+      → dot_of nought add mul (map (λ r. dot_of nought add mul row (drop a r)) rows) ys
+      ≡ dot_of nought add mul row (map (λ i. dot_of nought add mul (column_of nought i rows) ys) (range_with_len a (length row)))
+  dot-rows_from [] rows ys a h wide elements k = dot-noughts rows ys k
+  dot-rows_from (x ∷ row) rows ys a h wide elements k =
+      let p = All-head P x row h in
+      let h' = All-tail P x row h in
+      let parts = map (λ r. dot_of nought add mul row (drop (a + 1) r)) rows in
+      let column = column_of nought a rows in
+      let made : All P parts =
+      All-map P (λ r. dot_of nought add mul row (drop (a + 1) r)) rows
+      (λ i d below. dot_of-element row (drop (a + 1) (get_or rows i d)) h' (All-drop P (a + 1) (get_or rows i d) (elements i d below)))
+      in
+      let col : All P column =
+      All-map P (λ (r : List A). get_or r a nought) rows
+      (λ i d below. let long : a < length (get_or rows i d) = omega (arith, wide i d below) in All-get_or P (get_or rows i d) a nought long (elements i d below))
+      in
+      let rest : All (λ r. length r ≡ a + 1 + length row) rows = λ i d below. omega (arith, wide i d below) in
+      let first = dot_of nought add mul column ys in
+      let more = dot_of nought add mul row (map (λ i. dot_of nought add mul (column_of nought i rows) ys) (range_with_len (a + 1) (length row))) in
+      let behind = dot-rows_from row rows ys (a + 1) h' rest elements k in
+      let f = dot_of-element column ys col k in
+      let e : P (dot_of nought add mul parts ys) = dot_of-element parts ys made k in
+      ap (λ l. dot_of nought add mul l ys) (row-split x row a rows p h' wide elements)
+      ∙ dot_of-plus_multiple parts x column ys made p col k (length-map rows (λ r. dot_of nought add mul row (drop (a + 1) r)) ∙ sym (length-map rows (λ (r : List A). get_or r a nought)))
+      ∙ F.add_comm (dot_of nought add mul parts ys) (mul x first) e (F.mul_element x first p f) ∙ ap (add (mul x first)) behind
+
+  -- the products of a row and rows, times another row: that row times each column comes first
+  pub dot_of-rows : (row : List A) (rows : List (List A)) (ys : List A) → All P row → All (λ r. length r ≡ length row) rows → All (All P) rows → All P ys
+      → dot_of nought add mul (map (dot_of nought add mul row) rows) ys
+      ≡ dot_of nought add mul row (map (λ i. dot_of nought add mul (column_of nought i rows) ys) (range_with_len 0 (length row)))
+  dot_of-rows row rows ys h wide elements k = dot-rows_from row rows ys 0 h (λ i d below. omega (arith, wide i d below)) elements k

@@ -1,7 +1,7 @@
 //! A list type for values that contracts name: a vector, seen as the list of its items.
 #![tactic(auto)]
 
-ghost use Rattle.std.specs.Prelude.{◌≡◌, ◌<◌, ℕ, List, length, slice_get, Some, ◌==◌};
+ghost use Rattle.std.specs.Prelude.{◌≡◌, ◌<◌, ℕ, List, length, slice_get, Some, slice_set, ◌==◌};
 
 use std::marker::Model;
 
@@ -9,7 +9,7 @@ use std::marker::Model;
 mod tests;
 
 /// Items in order, which a contract sees as their list.
-#[derive(Drop)]
+#[derive(Drop, Debug)]
 pub struct ItemList<T> {
     items: Vec<T>,
 }
@@ -57,5 +57,33 @@ impl<T> ItemList<T> {
         ensures { result.now ≡ self.now }
     {
         self.items.as_slice()
+    }
+}
+
+impl<T: PartialEq> PartialEq for ItemList<T> {
+    ghost use Rattle.std.specs.Cmp.Lexicographic.{lists_per, pointwise};
+
+    ghost eq = { pointwise T.eq };
+
+    ghost laws = { lists_per T.laws };
+
+    fn eq(&self, other: &ItemList<T>) -> bool {
+        self.as_slice() == other.as_slice()
+    }
+}
+
+impl<T: Eq> Eq for ItemList<T> {
+    ghost use Rattle.std.specs.Cmp.Lexicographic.{lists_equiv};
+
+    ghost laws = { lists_equiv T.Eq.laws };
+}
+
+impl<T: Drop> ItemList<T> {
+    /// Makes `item` the item at a place, counted from 0. All others stay.
+    pub fn set(&mut self, place: usize, item: T)
+        requires { place < length self.old }
+        ensures { self.new ≡ slice_set self.old place item }
+    {
+        self.items[place] = item;
     }
 }

@@ -3,11 +3,11 @@ use Rattle.std.specs.Prelude.{◌≡◌, ℕ, List, map, string_bytes}
 use Rattle.lif_outside.specs.declared.sink.Sink.{Ghosts as SinkGhosts}
 use Rattle.lif_outside.specs.declared.store.Store.{Ghosts as StoreGhosts}
 use Rattle.lif_outside.specs.Calls.{Does}
-use Rattle.lif_top.specs.Lines.{out_of_memory_line, usage_line}
-use Rattle.lif_top.specs.Outcome.{Concludes, EndsAtOnce}
+use Rattle.top_base.specs.Lines.{out_of_memory_line, usage_line}
+use Rattle.top_base.specs.Outcome.{Concludes, EndsAtOnce}
 use Rattle.lif_top.specs.Promises.{Promises}
-use Rattle.lif_top.specs.declared.status.Status.{Status}
-use Rattle.lif_top.specs.declared.status.Status.TheVariants.{Usage, OutOfMemory}
+use Rattle.top_base.specs.declared.status.Status.{Status}
+use Rattle.top_base.specs.declared.status.Status.TheVariants.{Usage, OutOfMemory}
 use Rattle.lif_cli.specs.declared.run.Words.{Words}
 use Rattle.lif_cli.specs.declared.run.Words.TheVariants.{Given, NotText, NoMemory}
 

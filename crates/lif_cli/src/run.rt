@@ -2,8 +2,8 @@
 ghost use Rattle.std.specs.Prelude.{◌≡◌, ◌≤◌};
 ghost use Rattle.std.specs.Process.{exit_status};
 ghost use Rattle.lif_outside.specs.Calls.{KeepsStore};
-ghost use Rattle.lif_top.specs.Codes.{code_of};
-ghost use Rattle.lif_top.specs.declared.status.Status.{Status};
+ghost use Rattle.top_base.specs.Codes.{code_of};
+ghost use Rattle.top_base.specs.declared.status.Status.{Status};
 ghost use Rattle.lif_cli.specs.Run.{RunsWords};
 
 #[cfg(test)]

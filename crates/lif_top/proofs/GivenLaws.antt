@@ -3,10 +3,10 @@ use Rattle.std.proofs.Common.{◌≡◌, ℕ, List, Option, sym, ap, ◌∙◌}
 use Rattle.std.specs.Prelude.{position}
 use Rattle.std.specs.Str.{bytes_eq}
 use Rattle.node_program.specs.declared.code.Code.{Code}
-use Rattle.lif_top.specs.Given.{given_in}
+use Rattle.top_base.specs.Given.{given_in}
 use Rattle.lif_top.specs.Paths.{output_paths}
 use Rattle.lif_top.specs.Send.Given.{outputs_of, pattern_of}
-use Rattle.lif_top.specs.declared.words.SendWords.{SendWords}
+use Rattle.top_base.specs.declared.words.SendWords.{SendWords}
 
 module _ (words : SendWords) (code at_hand : Code) where
   -- the pattern of a name, by that of the code at hand

@@ -15,9 +15,9 @@ use Rattle.std.proofs.lemmas.Slice.Eq.{bytes_eq-Decides}
 use Rattle.net_model.specs.ListLaws.{IsDistinct-from_are_distinct}
 use Rattle.lif_outside.specs.Files.{AreDistinct}
 use Rattle.net_model.specs.declared.net.Net.{Net}
-use Rattle.lif_top.specs.Lines.{node_name}
+use Rattle.name_texts.specs.Names.{node_name}
 use Rattle.lif_top.specs.Paths.{output_path, output_paths, is_shared, shared_path}
-use Rattle.lif_top.proofs.NameLaws.{sink_in_range}
+use Rattle.name_texts.specs.NameLaws.{sink_in_range}
 
 -- paths of which no two are equal
 distinct_in_pairs : (paths : List (List ℕ)) → AllPairs (λ a b. a ≢ b) paths → AreDistinct paths

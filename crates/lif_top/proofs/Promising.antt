@@ -8,19 +8,20 @@ use Rattle.lif_outside.specs.Calls.{Deeds, Does, MakesCalls, MakesPuts, outside_
 use Rattle.lif_outside.specs.DeedLaws.{Accounted, accounted}
 use Rattle.lif_outside.specs.Events.{Event}
 use Rattle.lif_outside.specs.Puts.{Put}
-use Rattle.lif_top.specs.Check.{Checks, Runs as CheckRuns}
-use Rattle.lif_top.specs.Lines.{usage_line}
-use Rattle.lif_top.specs.Outcome.{status_unsaid, SaysOutcome, Concludes, EndsAtOnce}
+use Rattle.top_tools.specs.Check.{Checks, RunsCheck}
+use Rattle.top_tools.specs.Cuts.{Cuts, RunsCuts}
+use Rattle.top_tools.specs.Order.{Orders, RunsOrder}
+use Rattle.top_base.specs.Lines.{usage_line}
+use Rattle.top_base.specs.Outcome.{status_unsaid, SaysOutcome, Concludes, EndsAtOnce}
 use Rattle.lif_top.specs.Promises.{Promises}
 use Rattle.lif_top.specs.Send.Promise.{Sends}
 use Rattle.lif_top.specs.Send.Runs.{Runs as SendRuns}
-use Rattle.lif_top.specs.Words.{Send, check, send, command_of}
-use Rattle.lif_top.specs.declared.outcome.Outcome.{Outcome}
-use Rattle.lif_top.specs.declared.status.Status.{Status}
-use Rattle.lif_top.specs.declared.status.Status.TheVariants.{Done, Usage}
-use Rattle.lif_top.proofs.CheckPerforms.{check_known, check_used}
-use Rattle.lif_top.proofs.CodeHolding.{same_outcome}
-use Rattle.lif_top.proofs.Performing.{performs}
+use Rattle.top_base.specs.Words.{Send, check, cuts, order, send, command_of}
+use Rattle.top_base.specs.declared.outcome.Outcome.{Outcome}
+use Rattle.top_base.specs.declared.status.Status.{Status}
+use Rattle.top_base.specs.declared.status.Status.TheVariants.{Done, Usage}
+use Rattle.top_tools.specs.ToolLaws.{check_known, check_used, cuts_known, cuts_used, order_known, order_used}
+use Rattle.top_base.specs.PerformingLaws.{performs}
 use Rattle.lif_top.proofs.SendPerforms.{send_known, send_used}
 
 -- a status is that of words that are no form where the outcome's is, and nowhere else
@@ -39,6 +40,12 @@ said_usage outcome status puts is says = ⊎_elim
     (λ all. all.0 ∙ is)
     (λ part. part.0 ∙ ap status_unsaid is)
     says
+
+-- an outcome is its status and its line
+same_outcome : (one other : Outcome) → (one.status ≡ other.status) × (one.line ≡ other.line) → one ≡ other
+same_outcome one other same =
+    subst (λ (line : List ℕ). one ≡ record { status = other.status; line = line }) same.1
+    (ap (λ (status : Status). record { status = status; line = one.line }) same.0)
 
 module _ {S C : Type 0} (g : StoreGhosts S) (h : SinkGhosts C) (words : List (List ℕ)) (store_old store_new : S) (say_old say_new : C) (status : Status) where
   -- the calls of an outcome, and then the puts of its line
@@ -59,6 +66,8 @@ module _ {S C : Type 0} (g : StoreGhosts S) (h : SinkGhosts C) (words : List (Li
       record {
         usage = ((λ _. none), (λ _. said_usage outcome status puts.made is puts.holds));
         misused = λ _. concludes (EndsAtOnce usage) outcome (record { made = []; lead = no_calls; holds = (same_outcome outcome usage (is, line_is), refl) }) puts;
+        orders = λ net some. absurd (cc);
+        cuts = λ net some. absurd (cc);
         checks = λ code some. absurd (cc);
         sends = λ given some. absurd (cc);
       }
@@ -68,15 +77,53 @@ module _ {S C : Type 0} (g : StoreGhosts S) (h : SinkGhosts C) (words : List (Li
     deeds_accounted : {P : Deeds → Type 0} (does : Does g h store_old store_new say_old say_new P) → Accounted does.deeds (outside_at g h store_old say_old) (outside_at g h store_new say_new)
     deeds_accounted does = accounted g h does.deeds store_old store_new say_old say_new (store_accounts does.deeds.calls does.on_store) (say_accounts does.deeds.puts does.on_say)
 
+    -- the words are a command `order`
+    pub order_promises : (path : List ℕ) → command_of words ≡ Some (order path) → (outcome : Outcome) → MakesCalls g store_old store_new (RunsOrder path outcome) → MakesPuts h say_old say_new (SaysOutcome outcome status)
+        → Promises g h words store_old store_new say_old say_new status
+    order_promises path some outcome calls puts =
+        let does = concludes (RunsOrder path) outcome calls puts in
+        let used = said_used outcome status puts.made (order_used path outcome calls.made calls.holds) puts.holds in
+        record {
+          usage = ((λ is. absurd (used is)), (λ none. absurd (cc)));
+          misused = λ none. absurd (cc);
+          orders = λ net other.
+              let same : path ≡ net = cc in
+              subst (λ net. Orders g h net store_old store_new say_old say_new status) same
+              (performs _ _ _ _ (order_known path) g h store_old store_new say_old say_new status does (deeds_accounted does));
+          cuts = λ net other. absurd (cc);
+          checks = λ code other. absurd (cc);
+          sends = λ given other. absurd (cc);
+        }
+
+    -- the words are a command `cuts`
+    pub cuts_promises : (path : List ℕ) → command_of words ≡ Some (cuts path) → (outcome : Outcome) → MakesCalls g store_old store_new (RunsCuts path outcome) → MakesPuts h say_old say_new (SaysOutcome outcome status)
+        → Promises g h words store_old store_new say_old say_new status
+    cuts_promises path some outcome calls puts =
+        let does = concludes (RunsCuts path) outcome calls puts in
+        let used = said_used outcome status puts.made (cuts_used path outcome calls.made calls.holds) puts.holds in
+        record {
+          usage = ((λ is. absurd (used is)), (λ none. absurd (cc)));
+          misused = λ none. absurd (cc);
+          orders = λ net other. absurd (cc);
+          cuts = λ net other.
+              let same : path ≡ net = cc in
+              subst (λ net. Cuts g h net store_old store_new say_old say_new status) same
+              (performs _ _ _ _ (cuts_known path) g h store_old store_new say_old say_new status does (deeds_accounted does));
+          checks = λ code other. absurd (cc);
+          sends = λ given other. absurd (cc);
+        }
+
     -- the words are a command `check`
-    pub check_promises : (path : List ℕ) → command_of words ≡ Some (check path) → (outcome : Outcome) → MakesCalls g store_old store_new (CheckRuns path outcome) → MakesPuts h say_old say_new (SaysOutcome outcome status)
+    pub check_promises : (path : List ℕ) → command_of words ≡ Some (check path) → (outcome : Outcome) → MakesCalls g store_old store_new (RunsCheck path outcome) → MakesPuts h say_old say_new (SaysOutcome outcome status)
         → Promises g h words store_old store_new say_old say_new status
     check_promises path some outcome calls puts =
-        let does = concludes (CheckRuns path) outcome calls puts in
+        let does = concludes (RunsCheck path) outcome calls puts in
         let used = said_used outcome status puts.made (check_used path outcome calls.made calls.holds) puts.holds in
         record {
           usage = ((λ is. absurd (used is)), (λ none. absurd (cc)));
           misused = λ none. absurd (cc);
+          orders = λ net other. absurd (cc);
+          cuts = λ net other. absurd (cc);
           checks = λ code other.
               let same : path ≡ code = cc in
               subst (λ code. Checks g h code store_old store_new say_old say_new status) same
@@ -93,6 +140,8 @@ module _ {S C : Type 0} (g : StoreGhosts S) (h : SinkGhosts C) (words : List (Li
         record {
           usage = ((λ is. absurd (used is)), (λ none. absurd (cc)));
           misused = λ none. absurd (cc);
+          orders = λ net other. absurd (cc);
+          cuts = λ net other. absurd (cc);
           checks = λ code other. absurd (cc);
           sends = λ other_given other.
               let same : given ≡ other_given = cc in

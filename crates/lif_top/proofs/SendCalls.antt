@@ -5,17 +5,17 @@ use Rattle.lif_outside.specs.Events.{Event}
 use Rattle.lif_outside.specs.Runs.{Are, StopsWithin, appends_of, creates_of}
 use Rattle.lif_outside.specs.TurnLaws.{then_join}
 use Rattle.node_program.specs.declared.code.Code.{Code}
-use Rattle.lif_top.specs.FileReading.{StopsReading, outcome_of}
-use Rattle.lif_top.specs.Lines.{sent_line, write_fault_line}
+use Rattle.top_base.specs.FileReading.{StopsReading, outcome_of}
+use Rattle.top_base.specs.Lines.{sent_line, write_fault_line}
 use Rattle.lif_top.specs.Send.Given.{IsClear, outputs_of, source_limit}
 use Rattle.lif_top.specs.Send.Ready.{AreCounts}
 use Rattle.lif_top.specs.Send.Runs.{AfterSource, RunsCode, deliveries}
-use Rattle.lif_top.specs.Words.{Send}
+use Rattle.top_base.specs.Words.{Send}
 use Rattle.lif_top.specs.declared.delivery.SentCounts.{SentCounts}
-use Rattle.lif_top.specs.declared.reading.ReadRefusal.{ReadRefusal}
-use Rattle.lif_top.specs.declared.reading.ReadRefusal.TheVariants as refused
-use Rattle.lif_top.specs.declared.status.Status.{Status}
-use Rattle.lif_top.specs.declared.status.Status.TheVariants.{Done, WriteFault}
+use Rattle.top_base.specs.declared.reading.FileRefusal.{FileRefusal}
+use Rattle.top_base.specs.declared.reading.FileRefusal.TheVariants as refused
+use Rattle.top_base.specs.declared.status.Status.{Status}
+use Rattle.top_base.specs.declared.status.Status.TheVariants.{Done, WriteFault}
 
 -- the deliveries, by the paths and the code that are at hand
 pub same_deliveries : (send : Send) (code : Code) (paths : List (List ℕ)) (other : Code) (bytes source : List ℕ) → paths ≡ outputs_of send code → other ≡ code → bytes ≡ source
@@ -36,7 +36,7 @@ module _ (send : Send) (code : Code) (clear : IsClear send code) where
 
   module _ (first later : List Event) (created : Are (creates_of (outputs_of send code)) first) where
     -- the source couldn't be had, where there was room for it
-    pub no_source : (refusal : ReadRefusal) → (refusal ≡ refused.OutOfMemory → ⊥) → StopsReading send.source source_limit refusal later
+    pub no_source : (refusal : FileRefusal) → (refusal ≡ refused.OutOfMemory → ⊥) → StopsReading send.source source_limit refusal later
         → RunsCode send code (outcome_of refusal).status (outcome_of refusal).line (first ++ later)
     no_source refused.Fault room stop = ((clear, then_join _ _ first later created stop), refl)
     no_source refused.TooLong room stop = ((clear, then_join _ _ first later created stop), refl)

@@ -18,15 +18,16 @@ use Rattle.lif_outside.specs.Told.{Told, Becomes}
 use Rattle.lif_outside.specs.ToldLaws.{becomes_weaker}
 use Rattle.lif_outside.specs.TurnLaws.{creates_of-empty, creates_of-keep, creates_of-stopped, creates_of-fault, appends_of-held, appends_of-keep, appends_of-stopped, appends_of-fault, stops_keep, then_keeps}
 use Rattle.node_program.specs.declared.code.Code.{Code}
-use Rattle.lif_top.specs.Accepting.{HoldsCode, HoldsLong, HoldsShort}
+use Rattle.top_base.specs.Accepting.{HoldsCode}
+use Rattle.top_base.specs.Inputs.{HoldsLong, HoldsShort}
 use Rattle.lif_top.specs.Send.Changes.{LeavesAll, HasCode, HasSource, LeavesUnwritten, LeavesEmpty, ChangesTo}
 use Rattle.lif_top.specs.Send.Given.{IsClear, outputs_of, source_limit}
 use Rattle.lif_top.specs.Send.Runs.{deliveries, AfterCreates, AfterSource, Delivers, StopsAtCreate, StopsAtAppend, RunsCode}
-use Rattle.lif_top.specs.Words.{Send}
-use Rattle.lif_top.specs.declared.status.Status.{Status}
-use Rattle.lif_top.specs.declared.status.Status.TheVariants.{Done, UnknownPattern, ReadFault, WriteFault, TooLong, OutOfMemory, SamePath}
+use Rattle.top_base.specs.Words.{Send}
+use Rattle.top_base.specs.declared.status.Status.{Status}
+use Rattle.top_base.specs.declared.status.Status.TheVariants.{Done, UnknownPattern, ReadFault, WriteFault, TooLong, OutOfMemory, SamePath}
 use Rattle.lif_top.proofs.ClearPaths.{clear_distinct, clear_apart}
-use Rattle.lif_top.proofs.Leaving.{KeepAll, none_keep, keep_files, told_at, later_among, happen_parts, happen_later}
+use Rattle.top_base.specs.LeavingLaws.{KeepAll, none_keep, keep_files, told_at, later_among, happen_parts, happen_later}
 
 module _ (send : Send) where
   -- the reads of the source keep every path

@@ -8,27 +8,28 @@ use Rattle.lif_outside.specs.Calls.{Deeds, Outside}
 use Rattle.lif_outside.specs.DeedLaws.{Accounted}
 use Rattle.lif_outside.specs.Events.{Event, HappenAt, Follow}
 use Rattle.lif_outside.specs.FaultLaws.{HaveFailed, failed-append, reads_unfailed, whole_unfailed, fault_failed}
-use Rattle.lif_outside.specs.Files.{Files}
+use Rattle.lif_outside.specs.Files.{Files, Holds}
 use Rattle.lif_outside.specs.Runs.{Then, Are, StopsWithin, ReadsWhole, ReadsToFault, ReadsPastLimit, creates_of}
 use Rattle.lif_outside.specs.RunLaws.{long_held}
 use Rattle.lif_outside.specs.Told.{Told}
 use Rattle.lif_outside.specs.ToldLaws.{told_before}
 use Rattle.lif_outside.specs.TurnLaws.{creates_of-unfailed, creates_of-failed, appends_of-unfailed, appends_of-failed}
 use Rattle.node_program.specs.declared.code.Code.{Code}
-use Rattle.lif_top.specs.Accepting.{code_limit, LosesCode, ReadsCode, HoldsCode, HoldsLong}
-use Rattle.lif_top.specs.Lines.{same_path_line}
-use Rattle.lif_top.specs.Outcome.{fault_line, is_of_inputs}
+use Rattle.top_base.specs.Accepting.{HoldsCode, IsCodeOf, ReadsCode, RefusesCode, code_limit}
+use Rattle.top_base.specs.AcceptingLaws.{code_input}
+use Rattle.top_base.specs.Inputs.{HoldsLong, Loses}
+use Rattle.top_base.specs.InputLaws.{AreAlikeResults, IsOfInputs, alike_results, loses-failed, loses-line, loses-no_link, loses-rose, loses-used, not_long, reads-held, reads-keep, reads-unfailed}
+use Rattle.top_base.specs.Outcome.{AreAlike, any_cycle, fault_line, is_of_inputs}
 use Rattle.lif_top.specs.Send.Changes.{LeavesAll, ChangesTo, Changes}
 use Rattle.lif_top.specs.Send.Due.{DueOf, DueAfter, Due, NoFault}
-use Rattle.lif_top.specs.Send.Given.{line_of_sent, outputs_of, source_limit}
+use Rattle.lif_top.specs.Send.Given.{outputs_of, source_limit}
 use Rattle.lif_top.specs.Send.Runs.{deliveries, AfterCreates, AfterSource, RunsCode, RunsAfter, Runs}
-use Rattle.lif_top.specs.Words.{Send}
-use Rattle.lif_top.specs.declared.outcome.Outcome.{Outcome}
-use Rattle.lif_top.specs.declared.status.Status.{Status}
-use Rattle.lif_top.specs.declared.status.Status.TheVariants.{Done, Usage, UnknownPattern, ReadFault, WriteFault, TooLong, OutOfMemory, SamePath}
-use Rattle.lif_top.proofs.CodeHolding.{IsOfInputs, reads_code-keeps, reads_code-unfailed, reads_code-held, loses-failed, loses-line, loses-used, loses-rose, not_long, same_held, same_outcome, same_result}
-use Rattle.lif_top.proofs.Leaving.{KeepAll, keep_files, told_at, later_among, happen_parts, happen_later, follow_later}
-use Rattle.lif_top.proofs.Performing.{is_read_fault, is_write_fault, known, IsKnown}
+use Rattle.top_base.specs.Words.{Send}
+use Rattle.top_base.specs.declared.outcome.Outcome.{Outcome}
+use Rattle.top_base.specs.declared.status.Status.{Status}
+use Rattle.top_base.specs.declared.status.Status.TheVariants.{Done, Usage, UnknownPattern, ReadFault, WriteFault, TooLong, OutOfMemory, SamePath, LinkFault}
+use Rattle.top_base.specs.LeavingLaws.{KeepAll, keep_files, told_at, later_among, happen_parts, happen_later, follow_later}
+use Rattle.top_base.specs.PerformingLaws.{is_read_fault, is_write_fault, known, IsKnown}
 use Rattle.lif_top.proofs.SendLeaving.{at_source, source_held, changes_with}
 
 -- what failed of some calls and of those after them
@@ -82,28 +83,27 @@ module _ (send : Send) where
     line_with ReadFault line calls runs not = runs.1
     line_with WriteFault line calls runs not = runs.1
     line_with OutOfMemory line calls runs not = runs.1
+    line_with LinkFault line calls runs not = absurd runs
     line_with status line calls runs not = absurd (false≢true (sym not))
 
-    -- one outcome is due
-    same_due : (file : Option (List ℕ)) (status : Status) (line : List ℕ) (status' : Status) (line' : List ℕ) → DueOf send code file status line → DueOf send code file status' line' → (status ≡ status') × (line ≡ line')
-    same_due file UnknownPattern line UnknownPattern line' (unknown, is) (unknown', is') = (refl, is ∙ sym is')
+    -- one status is due
+    same_due : (file : Option (List ℕ)) (status : Status) (line : List ℕ) (status' : Status) (line' : List ℕ) → DueOf send code file status line → DueOf send code file status' line' → status ≡ status'
+    same_due file UnknownPattern line UnknownPattern line' (unknown, is) (unknown', is') = refl
     same_due file UnknownPattern line SamePath line' (unknown, is) (path, pattern, shared, is') = absurd (false≢true (sym unknown ∙ pattern))
     same_due file UnknownPattern line TooLong line' (unknown, is) (clear, long, is') = absurd (false≢true (sym unknown ∙ clear.known))
     same_due file UnknownPattern line Done line' (unknown, is) (clear, sent) = absurd (false≢true (sym unknown ∙ clear.known))
     same_due file SamePath line UnknownPattern line' (path, pattern, shared, is) (unknown, is') = absurd (false≢true (sym unknown ∙ pattern))
-    same_due file SamePath line SamePath line' (path, pattern, shared, is) (path', pattern', shared', is') =
-        let same : path ≡ path' = cc in (refl, is ∙ ap same_path_line same ∙ sym is')
+    same_due file SamePath line SamePath line' (path, pattern, shared, is) (path', pattern', shared', is') = refl
     same_due file SamePath line TooLong line' (path, pattern, shared, is) (clear, long, is') = let apart = clear.apart in absurd (cc)
     same_due file SamePath line Done line' (path, pattern, shared, is) (clear, sent) = let apart = clear.apart in absurd (cc)
     same_due file TooLong line UnknownPattern line' (clear, long, is) (unknown, is') = absurd (false≢true (sym unknown ∙ clear.known))
     same_due file TooLong line SamePath line' (clear, long, is) (path, pattern, shared, is') = let apart = clear.apart in absurd (cc)
-    same_due file TooLong line TooLong line' (clear, long, is) (clear', long', is') = (refl, is ∙ sym is')
+    same_due file TooLong line TooLong line' (clear, long, is) (clear', long', is') = refl
     same_due file TooLong line Done line' (clear, long, is) (clear', sent) = absurd (not_long source_limit file sent.0 sent.1 long)
     same_due file Done line UnknownPattern line' (clear, sent) (unknown, is') = absurd (false≢true (sym unknown ∙ clear.known))
     same_due file Done line SamePath line' (clear, sent) (path, pattern, shared, is') = let apart = clear.apart in absurd (cc)
     same_due file Done line TooLong line' (clear, sent) (clear', long, is') = absurd (not_long source_limit file sent.0 sent.1 long)
-    same_due file Done line Done line' (clear, sent) (clear', sent') =
-        (refl, sent.2 ∙ ap (line_of_sent code) (same_held file sent.0 sent'.0 sent.1.held sent'.1.held) ∙ sym sent'.2)
+    same_due file Done line Done line' (clear, sent) (clear', sent') = refl
     same_due file Done line status' line' due due' = absurd due'
     same_due file UnknownPattern line status' line' due due' = absurd due'
     same_due file SamePath line status' line' due due' = absurd due'
@@ -113,13 +113,13 @@ module _ (send : Send) where
   -- ---- where it wasn't
 
   -- no further call was made
-  lost_calls : (refused outcome : Outcome) (calls : List Event) → (parts : Then (ReadsCode send.code (Err refused)) (RunsAfter send (Err refused) outcome) calls) → LosesCode send.code refused.status refused.line calls
+  lost_calls : (refused outcome : Outcome) (calls : List Event) → (parts : Then (ReadsCode send.code (Err refused)) (RunsAfter send (Err refused) outcome) calls) → Loses code_limit IsCodeOf RefusesCode send.code refused.status refused.line calls
   lost_calls refused outcome calls parts =
-      subst (LosesCode send.code refused.status refused.line) (sym (parts.events_are ∙ ap (λ later. parts.first ++ later) parts.holds_later.1 ∙ append-nil parts.first)) parts.holds_first
+      subst (Loses code_limit IsCodeOf RefusesCode send.code refused.status refused.line) (sym (parts.events_are ∙ ap (λ later. parts.first ++ later) parts.holds_later.1 ∙ append-nil parts.first)) parts.holds_first
 
-  lost_changes : (deeds : Deeds) (before after : Outside) → Accounted deeds before after → LeavesAll before after → (status : Status) (line : List ℕ) → LosesCode send.code status line deeds.calls
+  lost_changes : (deeds : Deeds) (before after : Outside) → Accounted deeds before after → LeavesAll before after → (status : Status) (line : List ℕ) → Loses code_limit IsCodeOf RefusesCode send.code status line deeds.calls
       → ChangesTo send status line before after
-  lost_changes deeds before after accounted all ReadFault line lost = inl (all, loses-rose send.code line deeds.calls deeds before after accounted (λ event there. there) lost)
+  lost_changes deeds before after accounted all ReadFault line lost = inl (all, loses-rose code_limit IsCodeOf RefusesCode send.code line deeds.calls deeds before after accounted (λ event there. there) lost)
   lost_changes deeds before after accounted all TooLong line lost =
       inl (all, told_at before.files after.files deeds.calls send.code (HoldsLong code_limit) (λ a b happen. long_held send.code code_limit deeds.calls a b lost.0 happen) accounted.files)
   lost_changes deeds before after accounted all Done line lost = absurd lost.2
@@ -136,13 +136,13 @@ module _ (send : Send) where
     ByRest = RunsAfter send result outcome
 
     keeps : KeepAll parts.first
-    keeps place = reads_code-keeps send.code place result parts.first parts.holds_first
+    keeps place = reads-keep code_limit IsCodeOf RefusesCode send.code place result parts.first parts.holds_first
 
     -- the code's path holds what was read
-    held_before : IsOfInputs result → (a b : Option (List ℕ)) → HappenAt send.code calls a b → HoldsCode a result
+    held_before : IsOfInputs code_limit IsCodeOf RefusesCode result → (a b : Option (List ℕ)) → HappenAt send.code calls a b → HoldsCode a result
     held_before inputs a b happen =
         let halves = happen_parts ByReads ByRest calls parts send.code a b happen in
-        reads_code-held send.code result parts.first a halves.0 inputs parts.holds_first halves.1
+        reads-held code_limit IsCodeOf RefusesCode send.code result parts.first a halves.0 inputs parts.holds_first halves.1
 
   changes : (outcome : Outcome) (deeds : Deeds) (before after : Outside) → Accounted deeds before after → Runs send outcome deeds.calls → Changes send outcome before after
   changes outcome deeds before after accounted (Ok code, parts) =
@@ -154,7 +154,7 @@ module _ (send : Send) where
       outcome.status outcome.line parts.holds_later
   changes outcome deeds before after accounted (Err refused, parts) =
       let lost = lost_calls refused outcome deeds.calls parts in
-      let all = keep_files before.files after.files deeds.calls (λ place. reads_code-keeps send.code place (Err refused) deeds.calls lost) accounted.files in
+      let all = keep_files before.files after.files deeds.calls (λ place. reads-keep code_limit IsCodeOf RefusesCode send.code place (Err refused) deeds.calls lost) accounted.files in
       subst (λ (o : Outcome). ChangesTo send o.status o.line before after) (sym parts.holds_later.0) (lost_changes deeds before after accounted all refused.status refused.line lost)
 
   due_from : (outcome : Outcome) (calls : List Event) → Runs send outcome calls → IsTrue (is_of_inputs outcome.status) → (old new : Files) → Follow calls old new → Due send old outcome
@@ -179,24 +179,34 @@ module _ (send : Send) where
   lines outcome calls (Ok code, parts) = line_with code outcome.status outcome.line parts.later parts.holds_later
   lines outcome calls (Err refused, parts) =
       subst (λ (o : Outcome). IsFalse (is_of_inputs o.status) → o.line ≡ fault_line o.status) (sym parts.holds_later.0)
-      (loses-line send.code refused.status refused.line parts.first parts.holds_first)
+      (loses-line code_limit IsCodeOf RefusesCode code_input send.code refused.status refused.line parts.first parts.holds_first)
 
   causes : (outcome : Outcome) (calls : List Event) → Runs send outcome calls → HaveFailed (is_read_fault outcome.status) (is_write_fault outcome.status) calls
   causes outcome calls (Ok code, parts) =
       then_failed (ReadsCode send.code (Ok code)) (RunsAfter send (Ok code) outcome) false false (is_read_fault outcome.status) (is_write_fault outcome.status) calls parts
-      (reads_code-unfailed send.code code parts.first parts.holds_first) (failed_with code outcome.status outcome.line parts.later parts.holds_later)
+      (reads-unfailed code_limit IsCodeOf RefusesCode send.code code parts.first parts.holds_first) (failed_with code outcome.status outcome.line parts.later parts.holds_later)
   causes outcome calls (Err refused, parts) =
       subst (λ (o : Outcome). HaveFailed (is_read_fault o.status) (is_write_fault o.status) calls) (sym parts.holds_later.0)
-      (loses-failed send.code refused.status refused.line calls (lost_calls refused outcome calls parts))
+      (loses-failed code_limit IsCodeOf RefusesCode code_input send.code refused.status refused.line calls (lost_calls refused outcome calls parts))
 
-  same_after : (files : Files) (result : Result Code Outcome) (one other : Outcome) → DueAfter send files result one → DueAfter send files result other → one ≡ other
-  same_after files (Ok code) one other due due' = same_outcome one other (same_due code (files send.source) one.status one.line other.status other.line due due')
-  same_after files (Err refused) one other due due' = due ∙ sym due'
+  alike_after : (files : Files) (result result' : Result Code Outcome) (one other : Outcome) → AreAlikeResults code_limit IsCodeOf RefusesCode result result' → DueAfter send files result one → DueAfter send files result' other
+      → AreAlike one.status other.status
+  alike_after files (Ok code) (Ok code') one other same due due' =
+      let there = subst (λ (code : Code). DueAfter send files (Ok code) one) same due in
+      ap any_cycle (same_due code' (files send.source) one.status one.line other.status other.line there due')
+  alike_after files (Ok code) (Err refused) one other same due due' = absurd same
+  alike_after files (Err refused) (Ok code) one other same due due' = absurd same
+  alike_after files (Err refused) (Err refused') one other same due due' =
+      ap (λ (o : Outcome). any_cycle o.status) due ∙ same ∙ ap (λ (o : Outcome). any_cycle o.status) (sym due')
 
-  unique : (files : Files) (one other : Outcome) → Due send files one → Due send files other → one ≡ other
-  unique files one other due due' =
-      let same = same_result (files send.code) due.0 due'.0 due.1 due'.1 in
-      same_after files due'.0 one other (subst (λ (result : Result Code Outcome). DueAfter send files result one) same due.2) due'.2
+  alike : (files : Files) (one other : Outcome) → Due send files one → Due send files other → AreAlike one.status other.status
+  alike files one other due due' =
+      alike_after files due.0 due'.0 one other (alike_results code_limit IsCodeOf RefusesCode code_input (files send.code) due.0 due'.0 due.1 due'.1) due.2 due'.2
+
+  no_link : (outcome : Outcome) (calls : List Event) → Runs send outcome calls → outcome.status ≢ LinkFault
+  no_link outcome calls (Ok code, parts) is = subst (λ status. RunsCode send code status outcome.line parts.later) is parts.holds_later
+  no_link outcome calls (Err refused, parts) is =
+      loses-no_link code_limit IsCodeOf RefusesCode code_input send.code refused.status refused.line parts.first parts.holds_first (sym (ap (λ (o : Outcome). o.status) parts.holds_later.0) ∙ is)
 
   module _ (files : Files) (outcome : Outcome) (before after : Outside) (told : before.files ≡ Some files) (change : Changes send outcome before after) (no_fault : NoFault send files before after) where
     no_read : outcome.status ≢ ReadFault
@@ -209,7 +219,7 @@ module _ (send : Send) where
     no_write is =
         let stop : ChangesTo send WriteFault outcome.line before after = subst (λ status. ChangesTo send status outcome.line before after) is change in
         let held = known before.files files (λ files. HoldsCode (files send.code) (Ok stop.0)) told stop.1.has_code.held in
-        no_fault.outputs_written stop.0 stop.1.output held.0.held stop.1.is_output stop.1.rose
+        no_fault.outputs_written stop.0 stop.1.output (subst (λ bytes. Holds bytes (files send.code)) held.2.spelled held.1.held) stop.1.is_output stop.1.rose
 
   -- what has to be known of `send`
   pub send_known : IsKnown (Runs send) (Changes send) (Due send) (NoFault send)
@@ -218,12 +228,16 @@ module _ (send : Send) where
     due = due;
     lines = lines;
     causes = causes;
-    unique = unique;
-    faultless = λ files outcome calls before after told runs change no_fault. (no_read files outcome before after told change no_fault, no_write files outcome before after told change no_fault);
+    alike = alike;
+    faultless = λ files outcome calls before after told runs change no_fault. (
+      no_read files outcome before after told change no_fault,
+      no_write files outcome before after told change no_fault,
+      no_link outcome calls runs,
+    );
   }
 
   -- the words were a form
   pub send_used : (outcome : Outcome) (calls : List Event) → Runs send outcome calls → outcome.status ≢ Usage
   send_used outcome calls (Ok code, parts) is = subst (λ status. RunsCode send code status outcome.line parts.later) is parts.holds_later
   send_used outcome calls (Err refused, parts) is =
-      loses-used send.code refused.status refused.line parts.first parts.holds_first (sym (ap (λ (o : Outcome). o.status) parts.holds_later.0) ∙ is)
+      loses-used code_limit IsCodeOf RefusesCode code_input send.code refused.status refused.line parts.first parts.holds_first (sym (ap (λ (o : Outcome). o.status) parts.holds_later.0) ∙ is)

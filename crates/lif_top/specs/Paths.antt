@@ -2,8 +2,8 @@
 use Rattle.std.specs.Prelude.{ℕ, Bool, ◌||◌, nat_lt, List, ◌∷◌, ◌++◌, map, Option, find, count_by}
 use Rattle.std.specs.List.{list_any}
 use Rattle.std.specs.Str.{bytes_eq}
+use Rattle.name_texts.specs.Names.{node_name}
 use Rattle.net_model.specs.declared.net.Net.{Net}
-use Rattle.lif_top.specs.Lines.{node_name}
 
 -- the path of a sink's file: the prefix, a dot and the sink's name
 abbrev pub output_path : List ℕ → List ℕ → List ℕ

@@ -5,7 +5,7 @@ ghost use Rattle.lif_outside.specs.Files.{AreDistinct};
 ghost use Rattle.net_model.specs.Name.{IsName};
 ghost use Rattle.lif_top.specs.Paths.{output_path, output_paths, shared_path};
 
-use crate::names::sink_name;
+use name_texts::sink_name;
 use net_model::Net;
 use std::alloc::{AllocError, Global};
 

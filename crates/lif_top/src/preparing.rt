@@ -1,22 +1,19 @@
 //! What `send` has before it makes anything.
 ghost use Rattle.std.specs.Prelude.{◌≡◌, ◌<◌, ◌≤◌, ◌+◌, [], IfOk, IfErr, length, position, vec_len, vec_capacity};
 ghost use Rattle.std.specs.Str.{bytes_eq};
-ghost use Rattle.lif_top.specs.Given.{given_in};
+ghost use Rattle.top_base.specs.Given.{given_in};
 ghost use Rattle.lif_top.specs.Send.Given.{source_limit};
 ghost use Rattle.lif_top.specs.Send.Ready.{IsReady};
 ghost use Rattle.lif_top.specs.Send.Runs.{RunsCode};
 
-use crate::Status;
 use crate::delivery::Delivery;
-use crate::lines::Line;
-use crate::outcome::Outcome;
 use crate::paths::{output_paths, shared_path};
-use crate::words::SendWords;
 use block_carrier::Carrier;
 use code_checker::Checked;
 use generation_frame::ROW;
 use net_model::Net;
 use std::alloc::{AllocError, Global};
+use top_base::{Line, Outcome, SendWords, Status};
 
 /// The greatest length of a source, in bytes.
 pub const SOURCE_LIMIT: usize = 67_108_864;

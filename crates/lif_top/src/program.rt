@@ -3,18 +3,19 @@ ghost use Rattle.std.specs.Prelude.{◌≤◌, map, string_bytes};
 ghost use Rattle.lif_outside.specs.Calls.{KeepsStore};
 ghost use Rattle.lif_top.specs.Promises.{Promises};
 
-use crate::Status;
-use crate::checking::check;
-use crate::outcome::{Outcome, conclude};
 use crate::sending::send;
-use crate::words::{Command, command_of};
 use lif_outside::{Gate, Sink, Store};
 use std::alloc::Global;
 use std::thread::Threads;
+use top_base::{Command, Outcome, Status, command_of, conclude};
+use top_tools::{check, cuts, order};
 
 /// Does what the words say, over a store of files and a sink for what is said, and tells how it ended. The words
 /// are those after the program's name:
 ///
+/// - `order NET` reads a network text and says the links in order.
+/// - `cuts NET` reads a network text and says for each sink and pattern the least cut, with paths and a side that show
+///   it.
 /// - `check CODE` reads a code file and says whether its code is accepted.
 /// - `send CODE PATTERN SEED SRC PREFIX` makes `PREFIX.<sink>` for each sink of an accepted code and writes to it what
 ///   the sink decodes of the file at SRC, where the links of the pattern fail.
@@ -35,8 +36,25 @@ pub fn lif<S: Store, C: Sink, G: Gate + Sync, R: Threads + Sync>(
     ensures say_count { C.faults say.old ≤ C.faults say.new }
 {
     match command_of(words) {
-        Some(Command::Check(path)) => conclude(&check(rt, alloc, path, store, gate), say),
-        Some(Command::Send(given)) => conclude(&send(rt, alloc, &given, store, gate), say),
-        None => conclude(&Outcome::usage(), say),
+        Some(Command::Order(path)) => {
+            let Outcome { status, line } = order(alloc, path, store);
+            conclude(status, &line, say)
+        }
+        Some(Command::Cuts(path)) => {
+            let Outcome { status, line } = cuts(rt, alloc, path, store, gate);
+            conclude(status, &line, say)
+        }
+        Some(Command::Check(path)) => {
+            let Outcome { status, line } = check(rt, alloc, path, store, gate);
+            conclude(status, &line, say)
+        }
+        Some(Command::Send(given)) => {
+            let Outcome { status, line } = send(rt, alloc, &given, store, gate);
+            conclude(status, &line, say)
+        }
+        None => {
+            let Outcome { status, line } = Outcome::usage();
+            conclude(status, &line, say)
+        }
     }
 }

@@ -1,21 +1,16 @@
 //! The command `send`.
 ghost use Rattle.std.specs.Prelude.{◌≡◌};
 ghost use Rattle.lif_outside.specs.Calls.{MakesCalls};
-ghost use Rattle.lif_top.specs.Given.{given_in};
+ghost use Rattle.top_base.specs.Given.{given_in};
 ghost use Rattle.lif_top.specs.Send.Ready.{IsReady};
 ghost use Rattle.lif_top.specs.Send.Runs.{Runs, RunsCode};
 
-use crate::Status;
-use crate::accepting::read_accepted;
-use crate::lines::Line;
-use crate::outcome::Outcome;
 use crate::preparing::{Prepared, SOURCE_LIMIT, prepare};
-use crate::reading::read_whole;
-use crate::words::SendWords;
 use code_checker::Checked;
 use lif_outside::{Gate, Store};
 use std::alloc::Global;
 use std::thread::Threads;
+use top_base::{Line, Outcome, SendWords, Status, read_accepted, read_whole};
 
 // Creates the sinks' files and carries the source to them.
 fn deliver<'a, S: Store>(

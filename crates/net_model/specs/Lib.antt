@@ -6,3 +6,10 @@ pub mod NetworkLaws
 pub mod Demands
 pub mod Failed
 pub mod Walks
+pub mod WalkLaws
+pub mod Flows
+pub mod FlowLaws
+pub mod Renumbering
+pub mod RenumberingLaws
+pub mod RenumberedParts
+pub mod SmallNetwork

@@ -4,6 +4,7 @@
 mod lists;
 mod name;
 mod net;
+mod renumbering;
 
 pub use lists::{LinkList, LinkTable, NameList, NodeList, Paths, PatternList, Side};
 pub use name::{Name, NameFault, is_name};

@@ -1,7 +1,9 @@
 //! Networks.
 ghost use Rattle.net_model.specs.Network.{IsNetwork};
 
+use crate::renumbering::renumbered;
 use crate::{LinkTable, NameList, NodeList, PatternList};
+use std::alloc::{AllocError, Global};
 
 /// Which field a network's codes are to be over.
 #[derive(Clone, Copy, Debug, PartialEq, Eq)]
@@ -30,8 +32,9 @@ pub struct Net {
 }
 
 impl Net {
-    ghost use Rattle.std.specs.Prelude.{◌≡◌, ◌<◌, length};
+    ghost use Rattle.std.specs.Prelude.{◌≡◌, ◌<◌, IfOk, length, map};
     ghost use Rattle.net_model.specs.Failed.{is_failed_in};
+    ghost use Rattle.net_model.specs.Renumbering.{HasEachOnce, renumbered_links, renumbered_pattern};
 
     /// The network of these parts. It takes no memory.
     pub fn of(
@@ -68,5 +71,24 @@ impl Net {
     {
         let failed = &self.patterns.at(pattern as usize).links;
         failed.as_slice().iter().any(|one| *one == link)
+    }
+
+    /// The network whose link `i` is the link `order[i]` of this one. The patterns have the new numbers of
+    /// their links, in rising order, and all else but the field choice stays.
+    pub fn renumbered(
+        &self,
+        alloc: Global,
+        order: &[u32],
+        field: FieldChoice,
+    ) -> Result<Net, AllocError>
+        requires { HasEachOnce (length self.now.links) order.now }
+        ensures nodes { IfOk result (λ net. net.nodes ≡ self.now.nodes) }
+        ensures links { IfOk result (λ net. net.links ≡ renumbered_links self.now.links order.now) }
+        ensures source { IfOk result (λ net. net.source ≡ self.now.source) }
+        ensures sinks { IfOk result (λ net. net.sinks ≡ self.now.sinks) }
+        ensures patterns { IfOk result (λ net. net.patterns ≡ map (renumbered_pattern order.now) self.now.patterns) }
+        ensures field { IfOk result (λ net. net.field ≡ field) }
+    {
+        renumbered(alloc, self, order, field)
     }
 }

@@ -3,6 +3,7 @@ pub mod GoodLaws
 pub mod Lines
 pub mod Marks
 pub mod NameLaws
+pub mod NodeNameLaws
 pub mod Parts
 pub mod Said
 pub mod State

@@ -82,3 +82,12 @@ whole_in (Ok statements) = whole_of statements (source_names statements) (sink_n
 -- the network that a text stands for, by its parts, or why there is none
 abbrev pub network_of : List ℕ → Result Parts ReadRefusal
 network_of text = whole_in (read_lines [] 1 (lines_of text))
+
+-- the nodes of what was read, none where a line isn't good
+abbrev pub names_read : Result (List Statement) ReadRefusal → List (List ℕ)
+names_read (Err refusal) = []
+names_read (Ok statements) = nodes_of statements
+
+-- the names of the nodes of a text, where each of its lines is good, in order
+abbrev pub node_names_of : List ℕ → List (List ℕ)
+node_names_of text = names_read (read_lines [] 1 (lines_of text))

@@ -79,6 +79,13 @@ module _ (nodes : List (List ℕ)) where
   has_sources (field_is bits ∷ statements) all = has_sources statements all
   has_sources (pattern_is name links ∷ statements) all = has_sources statements all
 
+-- the first source is a node
+pub source_among : (statements : List Statement) (source : List ℕ) (more : List (List ℕ)) → source_names statements ≡ source ∷ more → has (nodes_of statements) source ≡ true
+source_among statements source more is_sources =
+    let nodes = nodes_of statements in
+    let sources : list_all (has nodes) (source_names statements) ≡ true = has_sources nodes statements (distinct_from-has [] (flat_map nodes_in statements)) in
+    (and_parts (has nodes source) (list_all (has nodes) more) (subst (λ (others : List (List ℕ)). list_all (has nodes) others ≡ true) is_sources sources)).0
+
 -- ---- the links of patterns
 
 module _ (names : List (List ℕ)) where
@@ -146,9 +153,7 @@ whole_stands statements (source ∷ more) (sink ∷ sinks) good is_sources is_si
     either : (b : Bool) → has (sink ∷ sinks) source ≡ b → IfOk (if b then Err (SinkIsSource (number_in (nodes_of statements) source)) else Ok (parts_in statements source)) Stands
     either true is = tt
     either false is =
-        let nodes = nodes_of statements in
-        let sources : list_all (has nodes) (source_names statements) ≡ true = has_sources nodes statements (distinct_from-has [] (flat_map nodes_in statements)) in
-        let here : has nodes source ≡ true = (and_parts (has nodes source) (list_all (has nodes) more) (subst (λ (others : List (List ℕ)). list_all (has nodes) others ≡ true) is_sources sources)).0 in
+        let here : has (nodes_of statements) source ≡ true = source_among statements source more is_sources in
         let some : 0 < length (sink_names statements) = subst (λ (others : List (List ℕ)). 0 < length others) (sym is_sinks) (omega arith) in
         parts_stand statements source good here some (subst (λ (others : List (List ℕ)). has others source ≡ false) (sym is_sinks) is)
 

@@ -3,6 +3,7 @@
 
 mod lines;
 mod names;
+mod node_names;
 mod parts;
 mod reading;
 mod refusal;
@@ -10,6 +11,7 @@ mod state;
 mod statements;
 mod whole;
 
+pub use node_names::node_name;
 pub use refusal::{ReadRefusal, What};
 pub use whole::read_net;
 

@@ -1,5 +1,5 @@
 //! Names, each of which stands only once in its kind.
-ghost use Rattle.std.specs.Prelude.{◌≡◌, ◌++◌, ◌∷◌, ◌<◌, [], true, not, length, map, option_copied, if◌then◌else◌, position, Some, IfOk, IfSome, IsTrue, ◌↔◌};
+ghost use Rattle.std.specs.Prelude.{◌≡◌, ◌++◌, ◌∷◌, ◌<◌, [], true, not, length, map, option_copied, option_map, slice_get, if◌then◌else◌, position, Some, IfOk, IfSome, IsTrue, ◌↔◌};
 ghost use Rattle.std.specs.List.{list_all, IsDistinct};
 ghost use Rattle.std.specs.Str.{bytes_eq};
 ghost use Rattle.net_model.specs.Name.{is_name};
@@ -64,6 +64,13 @@ impl<'a> Names<'a> {
         ensures { map (λ name. name.now) result.now ≡ self.now }
     {
         self.seen.as_slice()
+    }
+
+    /// The name of a number.
+    pub fn get(&self, number: usize) -> Option<&'a [u8]>
+        ensures { option_map (λ name. name.now) result ≡ slice_get self.now number }
+    {
+        self.seen.as_slice().get(number).copied()
     }
 
     /// Whether there is no name.

@@ -3,7 +3,7 @@ use crate::ReadRefusal::{
     OutOfMemory, RepeatedLink, SecondField, SecondSource, SelfLoop, SinkIsSource, TooMany,
     UnknownLink,
 };
-use crate::{ReadRefusal, What, read_net};
+use crate::{ReadRefusal, What, node_name, read_net};
 use net_model::{FieldChoice, Net};
 use std::alloc::{AllocError, Global};
 use std::process::Abort;
@@ -394,6 +394,18 @@ fn every_beginning_is_read(rt: HostRuntime) {
         let why = refusal(rt.alloc(), &LONGER[..len]);
         assert_ne!(rt; why, Some(OutOfMemory), "{len} bytes");
     }
+}
+
+#[test]
+fn nodes_have_names(rt: HostRuntime) -> Result<(), test::Fail> {
+    let alloc = rt.alloc();
+    let text = b"source s\nsink t\nlink l s t\nsink s\n";
+    assert_eq!(rt; refusal(alloc, text), Some(SinkIsSource { sink: 0 }));
+    assert_eq!(rt; node_name(alloc, text, 0)?, Some(&b"s"[..]));
+    assert_eq!(rt; node_name(alloc, text, 1)?, Some(&b"t"[..]));
+    assert_eq!(rt; node_name(alloc, text, 2)?, None);
+    assert_eq!(rt; node_name(alloc, b"source s\nsink\n", 0)?, None);
+    Ok(())
 }
 
 // Threads can take values of the type, and share them.

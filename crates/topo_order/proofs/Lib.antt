@@ -1,8 +1,6 @@
-pub mod NodeEnds
 pub mod PlacingSteps
-pub mod ChainSteps
+pub mod Passing
 pub mod QueueSteps
 pub mod LeavingSteps
 pub mod BackSteps
 pub mod ShownCycle
-pub mod TestNames

@@ -2,7 +2,5 @@ pub mod Order
 pub mod OrderLaws
 pub mod Refusal
 pub mod Placing
-pub mod Chains
 pub mod Queue
 pub mod GoingBack
-pub mod TestNames

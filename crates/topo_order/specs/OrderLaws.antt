@@ -1,5 +1,5 @@
 -- What holds of the order of links.
-use Rattle.std.specs.Prelude.{◌≡◌, ◌≢◌, ◌<◌, ◌≤◌, ◌+◌, ◌-◌, ℕ, zero, suc, Bool, true, false, not, ◌||◌, ◌==◌, cond, nat_eq, List, [], ◌∷◌, ◌++◌, length, take, drop, slice_index, find, Option, Some, None}
+use Rattle.std.specs.Prelude.{◌≡◌, ◌≢◌, ◌<◌, ◌≤◌, ◌+◌, ◌-◌, ℕ, zero, suc, Bool, true, false, not, ◌||◌, ◌==◌, nat_eq, List, [], ◌∷◌, ◌++◌, All, length, take, drop, slice_index, Option, Some, None}
 use Rattle.std.specs.List.{list_all, list_any, range_with_len, IsDistinct}
 use Rattle.std.specs.Option.{option_map_or}
 use Rattle.std.proofs.Common.{refl, sym, ◌∙◌, ap, subst, get_or, arith, inl, inr, ◌⊎◌}
@@ -11,11 +11,13 @@ use Rattle.std.proofs.Math.Bool.{or-false}
 use Rattle.std.proofs.Math.Nat.{zero-add}
 use Rattle.std.proofs.Math.ListN.{get_or-append}
 use Rattle.std.proofs.Math.Seq.{take-suc, take-length, take-append_seam, get_or-append_seam}
-use Rattle.std.proofs.lemmas.List.Folds.{list_any-append}
+use Rattle.std.proofs.lemmas.List.Folds.{list_any-append, list_any_at}
 use Rattle.std.proofs.lemmas.List.Sums.{AllPass-from_list_all, list_all-from_AllPass}
 use Rattle.std.proofs.lemmas.List.FromFn.{length-range_with_len, get_or-range_with_len}
 use Rattle.std.proofs.lemmas.Map.Steps.{length-le_from_distinct_below, le-length_from_below}
+use Rattle.net_model.specs.ListLaws.{find_fails, find_first, find_nothing, find_passes, is_among-from_list_any, list_any-from_is_among}
 use Rattle.net_model.specs.Lists.{is_among}
+use Rattle.net_model.specs.WalkLaws.{IsWalk-below}
 use Rattle.net_model.specs.Walks.{IsAcyclic, IsCycle, IsWalk, head_of, tail_of}
 use Rattle.net_model.specs.declared.Link.{Link}
 use Rattle.topo_order.specs.Order.{is_reached, is_ready, next_link, order_from, order_of}
@@ -35,27 +37,6 @@ is_among-append placed x l = list_any-append (λ one. one == l) placed (x ∷ []
 pub is_among-append_other : (placed : List ℕ) (x l : ℕ) → l ≢ x → is_among (placed ++ x ∷ []) l ≡ is_among placed l
 is_among-append_other placed x l other =
     is_among-append placed x l ∙ ap (λ b. is_among placed l || b) (ne_eqb x l (λ same. other (sym same))) ∙ or-false (is_among placed l)
-
--- the test of equality is the same from either side
-eqb_turned : (a b : ℕ) → nat_eq a b ≡ nat_eq b a
-eqb_turned a b = elim (cases_eq a b) [
-  | inl same ↦ eq-eqb a b same ∙ sym (eq-eqb b a (sym same))
-  | inr other ↦ ne_eqb a b other ∙ sym (ne_eqb b a (λ same. other (sym same)))
-]
-
-turned : (xs : List ℕ) (q : ℕ) → list_any (nat_eq q) xs ≡ true → is_among xs q ≡ true
-turned [] q found = cc
-turned (x ∷ xs) q found = elim (or_cases _ _ found) [
-  | inl here ↦ or_left _ _ (eqb_turned x q ∙ here)
-  | inr later ↦ or_right _ _ (turned xs q later)
-]
-
-turned_back : (xs : List ℕ) (q : ℕ) → is_among xs q ≡ true → list_any (nat_eq q) xs ≡ true
-turned_back [] q found = cc
-turned_back (x ∷ xs) q found = elim (or_cases _ _ found) [
-  | inl here ↦ or_left _ _ (eqb_turned q x ∙ here)
-  | inr later ↦ or_right _ _ (turned_back xs q later)
-]
 
 -- a node whose links were all placed is reached
 pub reached_from : (links : List Link) (placed : List ℕ) (node : ℕ) → ((l : ℕ) → l < length links → head_of links l ≡ node → is_among placed l ≡ true) → is_reached links placed node ≡ true
@@ -80,44 +61,6 @@ reached_at links placed node all l within leads =
     let inside : l < length (range_with_len 0 (length links)) = rw length-range_with_len within in
     let here : test l ≡ true = subst At number (AllPass-from_list_all test (range_with_len 0 (length links)) all l 0 inside) in
     elim (or_cases _ _ here) [ inl other ↦ absurd (eqb-false _ _ (not-true _ other) leads) | inr placed ↦ placed ]
-
--- the first number of a range that passes a test
-find_first : (test : ℕ → Bool) (a n x : ℕ) → a ≤ x → x < a + n → test x ≡ true → ((l : ℕ) → a ≤ l → l < x → test l ≡ false) → find test (range_with_len a n) ≡ Some x
-find_first test a zero x from within passes before = absurd (omega arith)
-find_first test a (suc n) x from within passes before =
-    elim (cases_eq a x) [
-      | inl same ↦ rw (ap test same ∙ passes) (ap Some same)
-      | inr other ↦ rw (before a (omega arith) (omega arith)) (find_first test (a + 1) n x (omega arith) (omega arith) passes (λ l above below. before l (omega arith) below))
-    ]
-
--- where no number passes, there is none
-find_nothing : (test : ℕ → Bool) (a n : ℕ) → ((l : ℕ) → a ≤ l → l < a + n → test l ≡ false) → find test (range_with_len a n) ≡ None
-find_nothing test a zero none = refl
-find_nothing test a (suc n) none =
-    rw (none a (omega arith) (omega arith)) (find_nothing test (a + 1) n (λ l above below. none l (omega arith) (omega arith)))
-
--- what was found is in the range and passes
-find_passes : (test : ℕ → Bool) (a n x : ℕ) → find test (range_with_len a n) ≡ Some x → (a ≤ x) × (x < a + n) × (test x ≡ true)
-find_passes test a zero x found = cc
-find_passes test a (suc n) x found = at (test a) refl found (λ later. find_passes test (a + 1) n x later)
-  where
-    at : (passes : Bool) → test a ≡ passes → cond passes (Some a) (find test (range_with_len (a + 1) n)) ≡ Some x
-        → (find test (range_with_len (a + 1) n) ≡ Some x → (a + 1 ≤ x) × (x < a + 1 + n) × (test x ≡ true)) → (a ≤ x) × (x < a + suc n) × (test x ≡ true)
-    at true passes found rest = let same : a ≡ x = cc in (omega arith, omega arith, ap test (sym same) ∙ passes)
-    at false fails found rest = let later = rest found in (omega (arith, later.0), omega (arith, later.1), later.2)
-
--- where nothing was found, no number passes
-find_fails : (test : ℕ → Bool) (a n : ℕ) → find test (range_with_len a n) ≡ None → (l : ℕ) → a ≤ l → l < a + n → test l ≡ false
-find_fails test a zero none l above below = absurd (omega arith)
-find_fails test a (suc n) none l above below = at (test a) refl none (λ later more. find_fails test (a + 1) n later l more (omega arith))
-  where
-    at : (passes : Bool) → test a ≡ passes → cond passes (Some a) (find test (range_with_len (a + 1) n)) ≡ None
-        → (find test (range_with_len (a + 1) n) ≡ None → a + 1 ≤ l → test l ≡ false) → test l ≡ false
-    at true passes none rest = cc
-    at false fails none rest = elim (cases_eq a l) [
-      | inl same ↦ ap test (sym same) ∙ fails
-      | inr other ↦ rest none (omega arith)
-    ]
 
 -- the next link, from what is ready
 pub next_link-first : (links : List Link) (placed : List ℕ) (x : ℕ) → x < length links → is_ready links placed x ≡ true → ((l : ℕ) → l < x → is_ready links placed l ≡ false) → next_link links placed ≡ Some x
@@ -148,7 +91,7 @@ IsPlaced-none links = record { below = λ l among. cc; distinct = tt; after = λ
 
 -- distinct numbers, and one that isn't among them
 distinct_more : (placed : List ℕ) (x : ℕ) → IsDistinct nat_eq placed → is_among placed x ≡ false → IsDistinct nat_eq (placed ++ x ∷ [])
-distinct_more placed x distinct fresh = IsDistinct-push nat_eq_equiv placed x distinct (false_from_ne_true _ (λ found. both_ways _ fresh (turned placed x found)))
+distinct_more placed x distinct fresh = IsDistinct-push nat_eq_equiv placed x distinct (false_from_ne_true _ (λ found. both_ways _ fresh (is_among-from_list_any placed x found)))
 
 -- the last link is after all links into its tail
 after_last : (links : List Link) (placed : List ℕ) (x place : ℕ) → place ≡ length placed → is_reached links placed (tail_of links x) ≡ true
@@ -226,7 +169,7 @@ is_among-whole links placed sound whole l within =
     true_from_ne_false (is_among placed l) (λ fresh.
     let distinct : IsDistinct nat_eq (placed ++ l ∷ []) = distinct_more placed l sound.distinct fresh in
     let few : length (placed ++ l ∷ []) ≤ length links =
-    length-le_from_distinct_below (placed ++ l ∷ []) (length links) distinct (λ q found. below q (turned (placed ++ l ∷ []) q found)) in
+    length-le_from_distinct_below (placed ++ l ∷ []) (length links) distinct (λ q found. below q (is_among-from_list_any (placed ++ l ∷ []) q found)) in
     absurd (omega (arith, length-append placed (l ∷ []))))
   where
     below : (q : ℕ) → is_among (placed ++ l ∷ []) q ≡ true → q < length links
@@ -237,17 +180,9 @@ is_among-whole links placed sound whole l within =
 
 -- where each link was placed, as many were as there are
 pub length-whole : (links : List Link) (placed : List ℕ) → ((l : ℕ) → l < length links → is_among placed l ≡ true) → length links ≤ length placed
-length-whole links placed all = le-length_from_below placed (length links) (λ q within. turned_back placed q (all q within))
+length-whole links placed all = le-length_from_below placed (length links) (λ q within. list_any-from_is_among placed q (all q within))
 
--- each link of a walk is one of the network's
-pub walk_within : (links : List Link) (walk : List ℕ) → IsWalk links walk → (k : ℕ) → k < length walk → slice_index walk k < length links
-walk_within links [] is k within = absurd (omega arith)
-walk_within links (link ∷ []) is zero within = is
-walk_within links (link ∷ []) is (suc k) within = absurd (omega arith)
-walk_within links (link ∷ next ∷ walk) is zero within = is.0
-walk_within links (link ∷ next ∷ walk) is (suc k) within = walk_within links (next ∷ walk) is.2 k (omega arith)
-
--- and starts at the head of the one before
+-- a link of a walk starts at the head of the one before
 pub walk_next : (links : List Link) (walk : List ℕ) → IsWalk links walk → (k : ℕ) → suc k < length walk → tail_of links (slice_index walk (suc k)) ≡ head_of links (slice_index walk k)
 walk_next links [] is k within = absurd (omega arith)
 walk_next links (link ∷ []) is k within = absurd (omega arith)
@@ -281,13 +216,13 @@ none_on_cycle links placed cycle sound is (suc place) most k within =
     ∙ or_from _ _ (before k within) (ne_eqb one (slice_index cycle k) (λ same.
     let last = cycle_before links cycle is k within in
     both_ways _ (before last.0 last.1)
-    (reached_at links (take place placed) (tail_of links one) (sound.after place inside) (slice_index cycle last.0) (walk_within links cycle is.walk last.0 last.1) (last.2 ∙ ap (tail_of links) (sym same)))))
+    (reached_at links (take place placed) (tail_of links one) (sound.after place inside) (slice_index cycle last.0) (IsWalk-below links cycle is.walk last.0 0 last.1) (last.2 ∙ ap (tail_of links) (sym same)))))
 
 -- where all links were placed, each after all links into its tail, there is no cycle
 pub IsAcyclic-from_whole : (links : List Link) (placed : List ℕ) → IsPlaced links placed → length placed ≡ length links → IsAcyclic links
 IsAcyclic-from_whole links placed sound whole cycle is =
     let first = slice_index cycle 0 in
-    let all : is_among placed first ≡ true = is_among-whole links placed sound whole first (walk_within links cycle is.walk 0 is.some) in
+    let all : is_among placed first ≡ true = is_among-whole links placed sound whole first (IsWalk-below links cycle is.walk 0 0 is.some) in
     both_ways (is_among placed first)
     (ap (λ some. is_among some first) (sym (take-length placed)) ∙ none_on_cycle links placed cycle sound is (length placed) (omega arith) 0 is.some) all
 
@@ -351,7 +286,7 @@ module _ (links : List Link) (walk : List ℕ) (is : IsWalk links walk) (i j : �
         some = omega (arith, count);
         walk = walk_from links (take (j - i) (drop i walk))
             (λ k inside. let old : i + k < length walk = omega (arith, count) in
-            let at = part_at k (omega (arith, count)) in rw at (walk_within links walk is (i + k) old))
+            let at = part_at k (omega (arith, count)) in rw at (IsWalk-below links walk is (i + k) 0 old))
             (λ k inside. let old : suc (i + k) < length walk = omega (arith, count) in
             let place : i + suc k ≡ suc (i + k) = omega arith in
             ap (tail_of links) (part_at (suc k) (omega (arith, count)) ∙ ap (λ n. slice_index walk n) place) ∙ walk_next links walk is (i + k) old
@@ -367,7 +302,7 @@ module _ (links : List Link) (walk : List ℕ) (is : IsWalk links walk) (i j : �
 
 -- links that were placed are at most as many as there are
 pub length-placed : (links : List Link) (placed : List ℕ) → IsPlaced links placed → length placed ≤ length links
-length-placed links placed sound = length-le_from_distinct_below placed (length links) sound.distinct (λ q found. sound.below q (turned placed q found))
+length-placed links placed sound = length-le_from_distinct_below placed (length links) sound.distinct (λ q found. sound.below q (is_among-from_list_any placed q found))
 
 -- where no link may be placed next, and there is no cycle, all are placed
 pub whole_from_stuck : (links : List Link) (placed : List ℕ) → IsPlaced links placed → IsAcyclic links → next_link links placed ≡ None → length placed ≡ length links
@@ -414,3 +349,9 @@ order_of-after links place l inside within leads =
 -- a network has an order of all its links exactly where it has no cycle
 pub IsAcyclic-order_of : (links : List Link) → length (order_of links) ≡ length links → IsAcyclic links
 IsAcyclic-order_of links whole = IsAcyclic-from_whole links (order_of links) (IsPlaced-order_of links) whole
+
+-- the order has numbers of links alone
+pub order_below : (links : List Link) → All (λ link. link < length links) (order_of links)
+order_below links k d within =
+    let link = get_or (order_of links) k d in
+    (IsPlaced-order_of links).below link (list_any_at (λ one. one == link) (order_of links) k d within (eq-eqb link link refl))

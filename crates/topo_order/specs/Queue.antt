@@ -4,7 +4,7 @@ use Rattle.std.specs.Ordering.{nat_cmp}
 use Rattle.std.specs.BTreeSet.{contains}
 use Rattle.net_model.specs.Walks.{head_of, tail_of}
 use Rattle.net_model.specs.declared.Link.{Link}
-use Rattle.topo_order.specs.Chains.{AreFirsts, AreNexts}
+use Rattle.link_chains.specs.Chains.{AreFirsts, AreNexts}
 use Rattle.topo_order.specs.Order.{is_ready}
 use Rattle.topo_order.specs.declared.queue.Queue.{Queue}
 

@@ -5,9 +5,9 @@ ghost use Rattle.topo_order.specs.GoingBack.{IsTurn, IsWalkedFrom};
 ghost use Rattle.topo_order.specs.Order.{IsShownCycle, next_link};
 ghost use Rattle.topo_order.specs.Placing.{IsPlacing};
 
-use crate::ends::tail;
 use crate::placing::Placing;
 use item_list::ItemList;
+use link_chains::tail;
 use net_model::{LinkList, Net};
 use std::alloc::{AllocError, Global};
 

@@ -1,8 +1,6 @@
 //! The order of a network's links, or a cycle.
 #![tactic(auto)]
 
-mod chains;
-mod ends;
 mod going_back;
 mod ordering;
 mod placing;

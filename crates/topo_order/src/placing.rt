@@ -1,11 +1,11 @@
 //! Links placed one after another.
 ghost use Rattle.std.specs.Prelude.{◌≡◌, ◌<◌, ◌++◌, ◌∷◌, [], Some, IfOk, OnOk, length, slice_index_or, true, false};
 ghost use Rattle.net_model.specs.Walks.{head_of};
-ghost use Rattle.topo_order.specs.Chains.{AreFirsts, AreNexts};
+ghost use Rattle.link_chains.specs.Chains.{AreFirsts, AreNexts};
 ghost use Rattle.topo_order.specs.Order.{next_link};
 ghost use Rattle.topo_order.specs.Placing.{IsNextInto, IsPlacing};
 
-use crate::ends::head;
+use link_chains::head;
 use net_model::Net;
 use std::alloc::{AllocError, Global};
 

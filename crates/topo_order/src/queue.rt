@@ -3,14 +3,13 @@ ghost use Rattle.std.specs.Prelude.{◌≡◌, ◌<◌, ◌+◌, [], true, false
 ghost use Rattle.std.specs.Ordering.{nat_cmp};
 ghost use Rattle.std.specs.BTreeSet.{contains};
 ghost use Rattle.net_model.specs.Walks.{tail_of};
-ghost use Rattle.topo_order.specs.Chains.{AreFirsts, AreNexts};
+ghost use Rattle.link_chains.specs.Chains.{AreFirsts, AreNexts};
 ghost use Rattle.topo_order.specs.Order.{next_link};
 ghost use Rattle.topo_order.specs.Placing.{IsPlacing};
 ghost use Rattle.topo_order.specs.Queue.{AreReady, HasLeaving, IsQueue};
 
-use crate::chains::{Chains, chains_of};
-use crate::ends::{head, tail};
 use crate::placing::{Placing, nothing_placed, place};
+use link_chains::{Chains, chains_of, head, tail};
 use net_model::Net;
 use std::alloc::{AllocError, Global};
 use std::collections::BTreeSet;

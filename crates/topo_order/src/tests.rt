@@ -1,12 +1,6 @@
-ghost use Rattle.std.specs.Prelude.{◌≡◌, ◌<◌, ◌≤◌, ◌+◌, IfOk, IsTrue, length, map, take};
-ghost use Rattle.std.specs.List.{list_all};
-ghost use Rattle.net_model.specs.Name.{is_name};
-ghost use Rattle.net_model.specs.Network.{is_link_among};
-ghost use Rattle.topo_order.specs.TestNames.{name_of_number, names_of_numbers};
-
 use crate::{OrderRefusal, order};
-use item_list::ItemList;
-use net_model::{FieldChoice, Link, LinkTable, Name, NameList, Net, Pattern};
+use net_model::Net;
+use numbered_networks::net_of;
 use std::alloc::Global;
 use std::test;
 
@@ -18,68 +12,12 @@ fn threads_may_share_every_type() {
     shared::<OrderRefusal>();
 }
 
-// The name of a number.
-fn name(alloc: Global, number: u32) -> Result<Name, test::Fail>
-    requires { number < 17576 }
-    ensures value { IfOk result (λ name. name ≡ name_of_number number) }
-    ensures valid { IfOk result (λ name. IsTrue (is_name name)) }
-{
-    let bytes = [
-        97 + (number / 26 / 26) as u8,
-        97 + (number / 26 % 26) as u8,
-        97 + (number % 26) as u8,
-    ];
-    Ok(Name::of(alloc, &bytes)?)
-}
-
-// So many nodes.
-fn nodes(alloc: Global, count: u32) -> Result<NameList, test::Fail>
-    requires { count < 17576 }
-    ensures names { IfOk result (λ nodes. nodes ≡ names_of_numbers count) }
-    ensures valid { IfOk result (λ nodes. IsTrue (list_all is_name nodes)) }
-{
-    let mut nodes = Vec::new(alloc);
-    for number in 0..count {
-        let name = name(alloc, number)?;
-        nodes.push(name)?;
+// A network of so many nodes with these links, from node 0 to node 1.
+fn net(alloc: Global, nodes: u32, ends: &[(u32, u32)]) -> Result<Net, test::Fail> {
+    match net_of(alloc, nodes, ends, &[1], &[])? {
+        Some(net) => Ok(net),
+        None => Err(test::Fail::new("no network")),
     }
-    Ok(ItemList::of(nodes))
-}
-
-// Links with these tails and heads.
-fn links(alloc: Global, nodes: u32, ends: &[(u32, u32)]) -> Result<LinkTable, test::Fail>
-    requires { length ends.now < 17576 }
-    ensures names { IfOk result (λ links. map (λ link. link.name) links ≡ names_of_numbers (length ends.now)) }
-    ensures valid { IfOk result (λ links. IsTrue (list_all is_name (map (λ link. link.name) links))) }
-    ensures ends { IfOk result (λ links. IsTrue (list_all (is_link_among nodes) links)) }
-    ensures count { IfOk result (λ links. length links ≡ length ends.now) }
-{
-    let mut links = Vec::new(alloc);
-    for (number, ends) in ends.iter().enumerate() {
-        let (tail, head) = *ends;
-        if tail >= nodes || head >= nodes || tail == head {
-            return Err(test::Fail::new("not the ends of a link"));
-        }
-        let name = name(alloc, number as u32)?;
-        links.push(Link { name, tail, head })?;
-    }
-    Ok(ItemList::of(links))
-}
-
-// A network of so many nodes, with these links.
-fn net(alloc: Global, nodes_wanted: u32, ends: &[(u32, u32)]) -> Result<Net, test::Fail> {
-    if nodes_wanted < 2 || nodes_wanted > 4096 || ends.len() > 8192 {
-        return Err(test::Fail::new("not the size of a network"));
-    }
-    let names = nodes(alloc, nodes_wanted)?;
-    let table = links(alloc, nodes_wanted, ends)?;
-    let sinks = ItemList::of(vec![in alloc; 1]?);
-    let none = Pattern {
-        name: Name::of(alloc, b"none")?,
-        links: ItemList::of(Vec::new(alloc)),
-    };
-    let patterns = ItemList::of(vec![in alloc; none]?);
-    Ok(Net::of(names, table, 0, sinks, patterns, FieldChoice::Any))
 }
 
 // The order of the links.

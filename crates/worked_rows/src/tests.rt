@@ -1,4 +1,5 @@
 //! Worked examples that are run.
+mod beginnings;
 mod checks;
 
 use net_model::{Name, NameFault};

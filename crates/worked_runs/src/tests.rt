@@ -14,12 +14,57 @@ mod wide_field;
 mod words;
 
 use lif_outside::{Fail, MemSink, MemStore, NoGate};
-use lif_top::{Status, lif};
+use lif_top::{CodeRefusal, Status, lif};
 use std::alloc::{AllocError, Global};
 use std::process::Abort;
 use std::test;
 use std::thread::Threads;
 use worked_rows::files::ONE_LINK;
+
+// How a run ends, as tables may hold it.
+#[derive(Clone, Copy)]
+enum Ending {
+    Done,
+    Usage,
+    CodeRefused(CodeRefusal),
+    CheckFailed {
+        demand: u32,
+        row: u32,
+        column: u32,
+        found: u32,
+    },
+    UnknownPattern,
+    ReadFault,
+    WriteFault,
+    TooLong,
+    SamePath,
+}
+
+impl Ending {
+    fn status(self) -> Status {
+        match self {
+            Ending::Done => Status::Done,
+            Ending::Usage => Status::Usage,
+            Ending::CodeRefused(why) => Status::CodeRefused(why),
+            Ending::CheckFailed {
+                demand,
+                row,
+                column,
+                found,
+            } => Status::CheckFailed {
+                demand,
+                row,
+                column,
+                found,
+            },
+            Ending::UnknownPattern => Status::UnknownPattern,
+            Ending::ReadFault => Status::ReadFault,
+            Ending::WriteFault => Status::WriteFault,
+            Ending::TooLong => Status::TooLong,
+            Ending::SamePath => Status::SamePath,
+        }
+    }
+}
 
 // A run, and what comes of it.
 #[derive(Clone, Copy)]
@@ -34,7 +79,7 @@ struct Run<'a> {
     most: usize,
     fails: &'a [Fail],
     say_fails: &'a [u64],
-    status: Status,
+    status: Ending,
     line: &'a str,
     // At which paths the source stands then, and what stands at others, or that nothing does. Each other file stands
     // as before.
@@ -61,7 +106,7 @@ const ONE_BYTE: Run<'static> = Run {
     most: 65536,
     fails: &[],
     say_fails: &[],
-    status: Status::Done,
+    status: Ending::Done,
     line: "sent 1 bytes in 1 generations to 1 sinks\n",
     received: ONE_SINK,
     made: &[],
@@ -143,7 +188,7 @@ fn check<R: Abort + Threads + Sync>(
     }
     let words = words_of(alloc, run.words)?;
     let status = call(rt, alloc, words.as_slice(), &mut store, &mut say);
-    assert_eq!(rt; status, run.status, "{name}");
+    assert_eq!(rt; status, run.status.status(), "{name}");
     assert_eq!(rt; say.bytes(), run.line.as_bytes(), "{name}");
     assert!(rt; store.file("code") == run.code, "{name}: code");
     assert!(rt; store.file("src") == run.source, "{name}: src");

@@ -5,12 +5,13 @@ use Rattle.lif_outside.specs.Counts.{Rose}
 use Rattle.lif_outside.specs.Files.{ChangesOnly, Holds, HoldsPrefix, IsSameOrEmpty, SameFiles}
 use Rattle.lif_outside.specs.Told.{Told, Becomes}
 use Rattle.node_program.specs.declared.code.Code.{Code}
-use Rattle.lif_top.specs.Accepting.{HoldsCode, HoldsLong, HoldsShort, code_limit}
-use Rattle.lif_top.specs.declared.outcome.Outcome.{Outcome}
+use Rattle.top_base.specs.Accepting.{HoldsCode, code_limit}
+use Rattle.top_base.specs.Inputs.{HoldsLong, HoldsShort}
+use Rattle.top_base.specs.declared.outcome.Outcome.{Outcome}
 use Rattle.lif_top.specs.Send.Given.{IsClear, line_of_sent, outputs_of, source_limit}
-use Rattle.lif_top.specs.Words.{Send}
-use Rattle.lif_top.specs.declared.status.Status.{Status}
-use Rattle.lif_top.specs.declared.status.Status.TheVariants.{Done, ReadFault, WriteFault, TooLong}
+use Rattle.top_base.specs.Words.{Send}
+use Rattle.top_base.specs.declared.status.Status.{Status}
+use Rattle.top_base.specs.declared.status.Status.TheVariants.{Done, ReadFault, WriteFault, TooLong}
 
 -- no file is changed
 abbrev pub LeavesAll : Outside → Outside → Type 0

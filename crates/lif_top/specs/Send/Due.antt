@@ -5,13 +5,14 @@ use Rattle.lif_outside.specs.Counts.{Rose}
 use Rattle.lif_outside.specs.Files.{Files, Holds}
 use Rattle.code_file.specs.Items.{bytes_of}
 use Rattle.node_program.specs.declared.code.Code.{Code}
-use Rattle.lif_top.specs.Accepting.{HoldsCode, HoldsLong, HoldsShort}
-use Rattle.lif_top.specs.Lines.{same_path_line, too_long_line, unknown_pattern_line}
-use Rattle.lif_top.specs.declared.outcome.Outcome.{Outcome}
+use Rattle.top_base.specs.Accepting.{HoldsCode}
+use Rattle.top_base.specs.Inputs.{HoldsLong, HoldsShort}
+use Rattle.top_base.specs.Lines.{same_path_line, too_long_line, unknown_pattern_line}
+use Rattle.top_base.specs.declared.outcome.Outcome.{Outcome}
 use Rattle.lif_top.specs.Send.Given.{IsClear, line_of_sent, outputs_of, pattern_of, shared_of, source_limit}
-use Rattle.lif_top.specs.Words.{Send}
-use Rattle.lif_top.specs.declared.status.Status.{Status}
-use Rattle.lif_top.specs.declared.status.Status.TheVariants.{Done, UnknownPattern, SamePath, TooLong}
+use Rattle.top_base.specs.Words.{Send}
+use Rattle.top_base.specs.declared.status.Status.{Status}
+use Rattle.top_base.specs.declared.status.Status.TheVariants.{Done, UnknownPattern, SamePath, TooLong}
 
 -- where the code is accepted, by what the path of the source holds
 abbrev pub DueOf : Send → Code → Option (List ℕ) → Status → List ℕ → Type 0

@@ -3,9 +3,9 @@ use Rattle.std.specs.Prelude.{◌≡◌, ℕ, List, [], ◌∷◌, length, Optio
 use Rattle.std.specs.Str.{bytes_eq}
 use Rattle.generation_frame.specs.Blocks.{block_count}
 use Rattle.node_program.specs.declared.code.Code.{Code}
-use Rattle.lif_top.specs.Lines.{sent_line}
+use Rattle.top_base.specs.Lines.{sent_line}
 use Rattle.lif_top.specs.Paths.{output_paths, shared_path}
-use Rattle.lif_top.specs.Words.{Send}
+use Rattle.top_base.specs.Words.{Send}
 
 -- the greatest length of a source
 abbrev pub source_limit : ℕ

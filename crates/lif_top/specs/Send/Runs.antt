@@ -4,13 +4,13 @@ use Rattle.generation_frame.specs.Blocks.{pieces_of}
 use Rattle.lif_outside.specs.Events.{Event}
 use Rattle.lif_outside.specs.Runs.{Then, Are, StopsWithin, ReadsWhole, ReadsToFault, ReadsPastLimit, creates_of, appends_of}
 use Rattle.node_program.specs.declared.code.Code.{Code}
-use Rattle.lif_top.specs.Accepting.{ReadsCode}
-use Rattle.lif_top.specs.Lines.{out_of_memory_line, read_fault_line, same_path_line, too_long_line, unknown_pattern_line, write_fault_line}
-use Rattle.lif_top.specs.declared.outcome.Outcome.{Outcome}
+use Rattle.top_base.specs.Accepting.{ReadsCode}
+use Rattle.top_base.specs.Lines.{out_of_memory_line, read_fault_line, same_path_line, too_long_line, unknown_pattern_line, write_fault_line}
+use Rattle.top_base.specs.declared.outcome.Outcome.{Outcome}
 use Rattle.lif_top.specs.Send.Given.{IsClear, line_of_sent, outputs_of, pattern_of, shared_of, source_limit}
-use Rattle.lif_top.specs.Words.{Send}
-use Rattle.lif_top.specs.declared.status.Status.{Status}
-use Rattle.lif_top.specs.declared.status.Status.TheVariants.{Done, UnknownPattern, SamePath, ReadFault, WriteFault, TooLong, OutOfMemory}
+use Rattle.top_base.specs.Words.{Send}
+use Rattle.top_base.specs.declared.status.Status.{Status}
+use Rattle.top_base.specs.declared.status.Status.TheVariants.{Done, UnknownPattern, SamePath, ReadFault, WriteFault, TooLong, OutOfMemory}
 
 -- what each sink's file gets of a source, piece by piece, and in each piece sink by sink
 abbrev pub deliveries : Send → Code → List ℕ → List Event

@@ -1,9 +1,8 @@
 //! Each call on the outside fails in turn, and the program ends as it promises.
 ghost use Rattle.std.specs.Prelude.{◌≤◌};
 
-use super::{CHECK, NO_OUTPUT, ONE_BYTE, Run, check, letters};
+use super::{CHECK, Ending, NO_OUTPUT, ONE_BYTE, Run, check, letters};
 use lif_outside::{Call, Fail};
-use lif_top::Status;
 use std::alloc::Global;
 use std::process::Abort;
 use std::test;
@@ -19,12 +18,12 @@ const CAPACITY: usize = 2044;
 // How `send` ends: its status, and how many bytes of the source stand in the file of each sink, where it was made.
 #[derive(Clone, Copy)]
 struct End {
-    status: Status,
+    status: Ending,
     kept: [Option<usize>; 2],
 }
 
-// How many reads it takes to the end of a file, where each gives at most `most` bytes.
-fn reads_of(length: usize, most: usize) -> u64
+/// How many reads it takes to the end of a file, where each gives at most `most` bytes.
+pub(super) fn reads_of(length: usize, most: usize) -> u64
     requires { 1 ≤ most }
 {
     (length.div_ceil(most) as u64).saturating_add(1)
@@ -49,23 +48,23 @@ fn end_of(fail: &Fail, most: usize) -> End
     let code = reads_of(BUTTERFLY.len(), most);
     let reads = code.saturating_add(reads_of(LENGTH, most));
     let (status, kept) = match (fail.call, fail.nth) {
-        (Call::Read, nth) if nth <= code => (Status::ReadFault, [None, None]),
-        (Call::Create, 1) => (Status::WriteFault, [None, None]),
-        (Call::Create, 2) => (Status::WriteFault, [Some(0), None]),
-        (Call::Read, nth) if nth <= reads => (Status::ReadFault, [Some(0), Some(0)]),
+        (Call::Read, nth) if nth <= code => (Ending::ReadFault, [None, None]),
+        (Call::Create, 1) => (Ending::WriteFault, [None, None]),
+        (Call::Create, 2) => (Ending::WriteFault, [Some(0), None]),
+        (Call::Read, nth) if nth <= reads => (Ending::ReadFault, [Some(0), Some(0)]),
         (Call::Append, nth) if nth <= 10 => {
             let place = (nth as usize).saturating_sub(1);
-            (Status::WriteFault, kept_at_append(place, fail.keep))
+            (Ending::WriteFault, kept_at_append(place, fail.keep))
         }
-        _ => (Status::Done, [Some(LENGTH), Some(LENGTH)]),
+        _ => (Ending::Done, [Some(LENGTH), Some(LENGTH)]),
     };
     End { status, kept }
 }
 
-fn line_of(status: Status) -> &'static str {
+fn line_of(status: Ending) -> &'static str {
     match status {
-        Status::Done => "sent 10000 bytes in 5 generations to 2 sinks\n",
-        Status::ReadFault => "read fault\n",
+        Ending::Done => "sent 10000 bytes in 5 generations to 2 sinks\n",
+        Ending::ReadFault => "read fault\n",
         _ => "write fault\n",
     }
 }
@@ -105,7 +104,7 @@ fn check_fail<R: Abort + Threads + Sync>(
     let unsaid = Run {
         say_fails: &[1],
         status: match status {
-            Status::Done => Status::WriteFault,
+            Ending::Done => Ending::WriteFault,
             refusal => refusal,
         },
         line: "",
@@ -150,7 +149,7 @@ fn check_unread<'a, R: Abort + Threads + Sync>(
     alloc: Global,
     most: usize,
     fails: &'a [Fail],
-    status: Status,
+    status: Ending,
     line: &'a str,
 ) -> Result<(), test::Fail> {
     let run = Run {
@@ -178,7 +177,7 @@ fn each_read_of_check_fails_in_turn(rt: HostRuntime) -> Result<(), test::Fail> {
                 nth,
                 keep: 0,
             };
-            check_unread(&rt, alloc, most, &[fail], Status::ReadFault, "read fault\n")?;
+            check_unread(&rt, alloc, most, &[fail], Ending::ReadFault, "read fault\n")?;
         }
         let line = "accepted rate 2 field 8 demands 2\n";
         let fail = Fail {
@@ -186,7 +185,7 @@ fn each_read_of_check_fails_in_turn(rt: HostRuntime) -> Result<(), test::Fail> {
             nth: reads.saturating_add(1),
             keep: 0,
         };
-        check_unread(&rt, alloc, most, &[fail], Status::Done, line)?;
+        check_unread(&rt, alloc, most, &[fail], Ending::Done, line)?;
     }
     Ok(())
 }
@@ -205,7 +204,7 @@ fn a_failed_append_may_keep_a_part(rt: HostRuntime) -> Result<(), test::Fail> {
             nth: 2,
             keep: 7,
         }],
-        status: Status::WriteFault,
+        status: Ending::WriteFault,
         line: "write fault\n",
         received: &[],
         made: &[

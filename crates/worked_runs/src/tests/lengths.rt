@@ -1,6 +1,5 @@
 //! Sources of many lengths, over one link and over the butterfly.
-use super::{ONE_BYTE, ONE_SINK, Run, TWO_SINKS, check, letters, send_to};
-use lif_top::Status;
+use super::{Ending, ONE_BYTE, ONE_SINK, Run, TWO_SINKS, check, letters, send_to};
 use std::test;
 use worked_rows::files::{BUTTERFLY, ONE_LINK};
 
@@ -78,7 +77,7 @@ fn a_source_has_a_limit(rt: HostRuntime) -> Result<(), test::Fail> {
     let too_long = Run {
         name: "a byte too many",
         source: Some(source.as_slice()),
-        status: Status::TooLong,
+        status: Ending::TooLong,
         line: "too long\n",
         received: &[],
         made: &[("out.t", Some(b""))],

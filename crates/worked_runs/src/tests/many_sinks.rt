@@ -3,7 +3,7 @@ use super::making::{
     inverse_of_rows, product, put_decoder, put_link, put_name, put_number, put_operand,
 };
 use super::refusals::refuse;
-use super::{SEND, accept, call, words_of};
+use super::{Ending, SEND, accept, call, words_of};
 use gf_tables::Gf8;
 use lif_outside::{MemSink, MemStore};
 use lif_top::{CodeRefusal, Status};
@@ -139,7 +139,7 @@ fn many_sinks_are_checked(rt: HostRuntime) -> Result<(), test::Fail> {
     let line = "accepted rate 2 field 8 demands 253\n";
     accept(&rt, alloc, code.as_slice(), line)?;
     let listed = code_file(alloc, 258)?;
-    let unnamed = Status::CodeRefused(CodeRefusal::BadName { at: 7598 });
+    let unnamed = Ending::CodeRefused(CodeRefusal::BadName { at: 7598 });
     refuse(
         &rt,
         alloc,
@@ -148,7 +148,7 @@ fn many_sinks_are_checked(rt: HostRuntime) -> Result<(), test::Fail> {
         "code refused: BadName 7598\n",
     )?;
     // With one listed pattern more, there are more than 65,536 demands.
-    let too_many = Status::CodeRefused(CodeRefusal::TooMany { at: 7596 });
+    let too_many = Ending::CodeRefused(CodeRefusal::TooMany { at: 7596 });
     let listed = code_file(alloc, 259)?;
     refuse(
         &rt,

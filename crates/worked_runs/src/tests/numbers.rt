@@ -1,34 +1,54 @@
 //! The numbers that the program ends with.
-use lif_top::{CodeRefusal, Status};
+use lif_top::{CodeRefusal, NetWhy, Status};
+use net_model::{LinkList, Side};
+use net_reader::ReadRefusal;
+use std::alloc::Global;
 
-const NUMBERS: &[(Status, u8)] = &[
-    (Status::Done, 0),
-    (Status::Usage, 2),
-    (Status::CodeRefused(CodeRefusal::BadMagic), 7),
-    (
-        Status::CodeRefused(CodeRefusal::TrailingBytes { at: 37 }),
-        7,
-    ),
-    (
-        Status::CheckFailed {
-            demand: 1,
-            row: 0,
-            column: 1,
-            found: 3,
-        },
-        8,
-    ),
-    (Status::UnknownPattern, 9),
-    (Status::ReadFault, 10),
-    (Status::WriteFault, 11),
-    (Status::TooLong, 12),
-    (Status::OutOfMemory, 13),
-    (Status::SamePath, 14),
-];
+// Each status with its number.
+fn numbers(alloc: Global) -> [(Status, u8); 17] {
+    let cycle = LinkList::of(Vec::new(alloc));
+    let side = Side::of(Vec::new(alloc));
+    [
+        (Status::Done, 0),
+        (Status::Usage, 2),
+        (Status::NetRefused(NetWhy::Text(ReadRefusal::NoSource)), 3),
+        (Status::NetRefused(NetWhy::Cycle(cycle)), 3),
+        (Status::ZeroRate { demand: 0, side }, 4),
+        (Status::TooManyDemands { count: 65537 }, 5),
+        (
+            Status::RateOver {
+                demand: 0,
+                least: 33,
+            },
+            6,
+        ),
+        (Status::CodeRefused(CodeRefusal::BadMagic), 7),
+        (
+            Status::CodeRefused(CodeRefusal::TrailingBytes { at: 37 }),
+            7,
+        ),
+        (
+            Status::CheckFailed {
+                demand: 1,
+                row: 0,
+                column: 1,
+                found: 3,
+            },
+            8,
+        ),
+        (Status::UnknownPattern, 9),
+        (Status::ReadFault, 10),
+        (Status::WriteFault, 11),
+        (Status::TooLong, 12),
+        (Status::OutOfMemory, 13),
+        (Status::SamePath, 14),
+        (Status::LinkFault, 15),
+    ]
+}
 
 #[test]
 fn each_status_has_its_number(rt: HostRuntime) {
-    for &(status, number) in NUMBERS {
+    for (status, number) in numbers(rt.alloc()) {
         assert_eq!(rt; status.code(), number, "{status:?}");
     }
 }

@@ -1,7 +1,6 @@
 //! Paths that may be one, and files that stood at the outputs' paths before.
-use super::{ONE_BYTE, Run, TWO_SINKS, check};
+use super::{Ending, ONE_BYTE, Run, TWO_SINKS, check};
 use lif_outside::{Call, Fail};
-use lif_top::Status;
 use std::test;
 use worked_rows::files::{BUTTERFLY, ONE_LINK};
 
@@ -10,7 +9,7 @@ const SHARED: Run<'static> = Run {
     words: &["send", "code", "none", "1", "out.t", "out"],
     source: None,
     files: &[("out.t", b"ABC")],
-    status: Status::SamePath,
+    status: Ending::SamePath,
     line: "same path: out.t\n",
     received: &[],
     ..ONE_BYTE
@@ -20,7 +19,7 @@ const SENT: Run<'static> = Run {
     name: "the source is what the outputs' paths begin with",
     words: &["send", "code", "none", "1", "out", "out"],
     files: &[("out", b"ABC")],
-    status: Status::Done,
+    status: Ending::Done,
     line: "sent 3 bytes in 1 generations to 1 sinks\n",
     made: &[("out.t", Some(b"ABC"))],
     ..SHARED
@@ -133,7 +132,7 @@ const OLDER_FILES: &[Run<'static>] = &[
             nth: 2,
             keep: 0,
         }],
-        status: Status::WriteFault,
+        status: Ending::WriteFault,
         line: "write fault\n",
         received: &[],
         made: &[("out.t1", Some(b""))],
@@ -142,7 +141,7 @@ const OLDER_FILES: &[Run<'static>] = &[
     Run {
         name: "the pattern isn't known",
         words: &["send", "code", "f9", "1", "src", "out"],
-        status: Status::UnknownPattern,
+        status: Ending::UnknownPattern,
         line: "unknown pattern: f9\n",
         received: &[],
         ..OLDER

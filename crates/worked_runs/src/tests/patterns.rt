@@ -1,6 +1,5 @@
 //! Codes with listed patterns, sent under each.
-use super::{CHECK, NO_OUTPUT, ONE_BYTE, Run, check};
-use lif_top::Status;
+use super::{CHECK, Ending, NO_OUTPUT, ONE_BYTE, Run, check};
 use std::test;
 use worked_rows::files::BUTTERFLY;
 
@@ -33,7 +32,7 @@ const TWO_WAYS_BYTE: Run<'static> = Run {
 const UNKNOWN: Run<'static> = Run {
     name: "a pattern that one link doesn't have",
     words: &["send", "code", "f9", "1", "src", "out"],
-    status: Status::UnknownPattern,
+    status: Ending::UnknownPattern,
     line: "unknown pattern: f9\n",
     ..NO_OUTPUT
 };
@@ -56,7 +55,7 @@ const PATTERNS: &[Run<'static>] = &[
         name: "a path is shared where one of two ways fails",
         words: &["send", "code", "f", "1", "out.t", "out"],
         code: Some(TWO_WAYS),
-        status: Status::SamePath,
+        status: Ending::SamePath,
         line: "same path: out.t\n",
         ..NO_OUTPUT
     },

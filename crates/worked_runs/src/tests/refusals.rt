@@ -1,10 +1,10 @@
 //! Code files that are refused or not accepted, and the lines of those that are accepted.
-use super::{CHECK, NO_OUTPUT, ONE_BYTE, Run, SEND, accept, changed, check};
+use super::{CHECK, Ending, NO_OUTPUT, ONE_BYTE, Run, SEND, accept, changed, check};
+use lif_top::CodeRefusal;
 use lif_top::CodeRefusal::{
     BadField, BadIndex, BadMagic, BadName, BadOperand, BadRate, BadVersion, NotRising, OutOfOrder,
     TooMany, TrailingBytes, Truncated, ZeroCoefficient,
 };
-use lif_top::{CodeRefusal, Status};
 use std::alloc::Global;
 use std::process::Abort;
 use std::test;
@@ -146,7 +146,7 @@ pub(super) fn refuse<'a, R: Abort + Threads + Sync>(
     rt: &R,
     alloc: Global,
     code: &'a [u8],
-    status: Status,
+    status: Ending,
     line: &'a str,
 ) -> Result<(), test::Fail> {
     let checked = Run {
@@ -174,7 +174,7 @@ fn refuse_file<R: Abort + Threads + Sync>(
     said: &str,
 ) -> Result<(), test::Fail> {
     let line = format!(in alloc; "code refused: {said}\n")?;
-    refuse(rt, alloc, code, Status::CodeRefused(why), line.as_str())
+    refuse(rt, alloc, code, Ending::CodeRefused(why), line.as_str())
 }
 
 // The first bytes of a file are refused, which end within the item at a place.
@@ -305,7 +305,7 @@ fn codes_that_give_no_block_back_fail(rt: HostRuntime) -> Result<(), test::Fail>
     let alloc = rt.alloc();
     for &(file, at, put, [demand, row, column, found], line) in FAILED {
         let code = changed(alloc, file, at, put)?;
-        let status = Status::CheckFailed {
+        let status = Ending::CheckFailed {
             demand,
             row,
             column,

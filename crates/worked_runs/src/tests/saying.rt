@@ -1,6 +1,6 @@
 //! Each put of what is said fails in turn.
-use super::{CHECK, NO_OUTPUT, ONE_BYTE, Run, TWO_SINKS, check};
-use lif_top::{CodeRefusal, Status};
+use super::{CHECK, Ending, NO_OUTPUT, ONE_BYTE, Run, TWO_SINKS, check};
+use lif_top::CodeRefusal;
 use std::test;
 use worked_rows::files::{BUTTERFLY, CUT_BUTTERFLY};
 
@@ -40,7 +40,7 @@ const SAID: &[Said] = &[
         run: Run {
             name: "no words",
             words: &[],
-            status: Status::Usage,
+            status: Ending::Usage,
             ..NO_OUTPUT
         },
         lines: &[
@@ -52,7 +52,7 @@ const SAID: &[Said] = &[
         run: Run {
             name: "no code",
             code: None,
-            status: Status::ReadFault,
+            status: Ending::ReadFault,
             ..NO_OUTPUT
         },
         lines: &["", "read fault\n"],
@@ -61,7 +61,7 @@ const SAID: &[Said] = &[
         run: Run {
             name: "a code that is refused",
             code: Some(b"LIF"),
-            status: Status::CodeRefused(CodeRefusal::Truncated { at: 0 }),
+            status: Ending::CodeRefused(CodeRefusal::Truncated { at: 0 }),
             ..NO_OUTPUT
         },
         lines: &["", "code refused: Truncated 0\n"],
@@ -70,7 +70,7 @@ const SAID: &[Said] = &[
         run: Run {
             name: "a code whose check fails",
             code: Some(CUT_BUTTERFLY),
-            status: Status::CheckFailed {
+            status: Ending::CheckFailed {
                 demand: 1,
                 row: 0,
                 column: 0,
@@ -84,7 +84,7 @@ const SAID: &[Said] = &[
         run: Run {
             name: "a pattern that isn't known",
             words: &["send", "code", "f9", "1", "src", "out"],
-            status: Status::UnknownPattern,
+            status: Ending::UnknownPattern,
             ..NO_OUTPUT
         },
         lines: &[
@@ -101,7 +101,7 @@ const SAID: &[Said] = &[
             source: None,
             files: &[("out.t", b"A")],
             received: &[],
-            status: Status::SamePath,
+            status: Ending::SamePath,
             made: &[],
             ..ONE_BYTE
         },
@@ -110,9 +110,9 @@ const SAID: &[Said] = &[
 ];
 
 // The status where the line isn't said to its end: a fault only where all else was done.
-fn status_unsaid(status: Status) -> Status {
+fn status_unsaid(status: Ending) -> Ending {
     match status {
-        Status::Done => Status::WriteFault,
+        Ending::Done => Ending::WriteFault,
         refusal => refusal,
     }
 }

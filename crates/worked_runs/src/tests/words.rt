@@ -1,13 +1,13 @@
 //! Words: which are a form, and what comes first where more than one thing is wrong.
-use super::{CHECK, NO_OUTPUT, ONE_BYTE, Run, SEND, check};
-use lif_top::{CodeRefusal, Status};
+use super::{CHECK, Ending, NO_OUTPUT, ONE_BYTE, Run, SEND, check};
+use lif_top::CodeRefusal;
 use std::test;
 use worked_rows::files::{CUT_BUTTERFLY, ONE_LINK};
 
 const NO_FORM: Run<'static> = Run {
     name: "no words",
     words: &[],
-    status: Status::Usage,
+    status: Ending::Usage,
     line: "usage: lif order NET | cuts NET | compile NET CODE REPORT | check CODE | send CODE PATTERN SEED SRC PREFIX | demo N K BYTES\n",
     ..NO_OUTPUT
 };
@@ -47,6 +47,16 @@ const WORDS: &[Run<'static>] = &[
     Run {
         name: "a word too many to check",
         words: &["check", "code", "none"],
+        ..NO_FORM
+    },
+    Run {
+        name: "a word too few to order",
+        words: &["order"],
+        ..NO_FORM
+    },
+    Run {
+        name: "a word too many to order",
+        words: &["order", "net", "net"],
         ..NO_FORM
     },
     Run {
@@ -101,7 +111,7 @@ const NO_CODE: Run<'static> = Run {
     words: &["send", "code", "f9", "1", "out.t", "out"],
     code: None,
     source: None,
-    status: Status::ReadFault,
+    status: Ending::ReadFault,
     line: "read fault\n",
     ..NO_OUTPUT
 };
@@ -117,14 +127,14 @@ const FIRST_FAULTS: &[Run<'static>] = &[
     Run {
         name: "a code that is refused",
         code: Some(b"LIFC\x01\x08"),
-        status: Status::CodeRefused(CodeRefusal::Truncated { at: 6 }),
+        status: Ending::CodeRefused(CodeRefusal::Truncated { at: 6 }),
         line: "code refused: Truncated 6\n",
         ..NO_CODE
     },
     Run {
         name: "a code whose check fails",
         code: Some(CUT_BUTTERFLY),
-        status: Status::CheckFailed {
+        status: Ending::CheckFailed {
             demand: 1,
             row: 0,
             column: 0,
@@ -136,7 +146,7 @@ const FIRST_FAULTS: &[Run<'static>] = &[
     Run {
         name: "a pattern that the code doesn't have",
         code: Some(ONE_LINK),
-        status: Status::UnknownPattern,
+        status: Ending::UnknownPattern,
         line: "unknown pattern: f9\n",
         ..NO_CODE
     },
@@ -144,7 +154,7 @@ const FIRST_FAULTS: &[Run<'static>] = &[
         name: "the path of the source is an output's",
         words: &["send", "code", "none", "1", "out.t", "out"],
         code: Some(ONE_LINK),
-        status: Status::SamePath,
+        status: Ending::SamePath,
         line: "same path: out.t\n",
         ..NO_CODE
     },

@@ -3,9 +3,9 @@ use Rattle.std.specs.Prelude.{Result, Ok, Err}
 use Rattle.lif_outside.specs.declared.Failed.{Failed}
 use Rattle.lif_outside.specs.Puts.{put_event}
 use Rattle.lif_outside.specs.PutLaws.{says_all-once, says_part-once}
-use Rattle.lif_top.specs.Lines.{out_of_memory_line}
-use Rattle.lif_top.specs.Outcome.{SaysOutcome}
-use Rattle.lif_top.specs.declared.status.Status.TheVariants.{OutOfMemory}
+use Rattle.top_base.specs.Lines.{out_of_memory_line}
+use Rattle.top_base.specs.Outcome.{SaysOutcome}
+use Rattle.top_base.specs.declared.status.Status.TheVariants.{OutOfMemory}
 use Rattle.lif_cli.specs.Run.{RunsWords}
 use Rattle.lif_cli.proofs.run.end_of.Goals as goal
 

@@ -1,7 +1,7 @@
 use Rattle.std.proofs.Common.{◌≡◌, ◌≤◌, length, map, string_bytes, sym, ap, subst, ◌∙◌, arith}
 use Rattle.std.proofs.lemmas.List.{take_all}
 use Rattle.lif_outside.specs.Files.{AreDistinct}
-use Rattle.lif_top.specs.Lines.{node_name}
+use Rattle.name_texts.specs.Names.{node_name}
 use Rattle.lif_top.specs.Paths.{output_path, output_paths}
 use Rattle.lif_top.proofs.PathLaws.{distinct_outputs}
 use Rattle.lif_top.proofs.paths.output_paths.Goals as goal

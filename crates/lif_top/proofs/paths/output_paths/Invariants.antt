@@ -1,5 +1,5 @@
 use Rattle.std.proofs.Common.{◌≡◌, map, take, string_bytes}
-use Rattle.lif_top.specs.Lines.{node_name}
+use Rattle.name_texts.specs.Names.{node_name}
 use Rattle.lif_top.specs.Paths.{output_path}
 use Rattle.lif_top.proofs.paths.output_paths.Given as goal
 

@@ -8,10 +8,10 @@ use Rattle.lif_outside.specs.Runs.{Are, StopsWithin, appends_of, creates_of}
 use Rattle.lif_outside.specs.TurnLaws.{then_join}
 use Rattle.lif_top.proofs.SendCalls.{delivered, no_source, same_deliveries, unwritten, write_fault}
 use Rattle.lif_top.proofs.Turning.{created_there}
-use Rattle.lif_top.specs.Given.{given_in}
+use Rattle.top_base.specs.Given.{given_in}
 use Rattle.lif_top.specs.Send.Ready.{AreCounts, paths_of}
 use Rattle.lif_top.specs.Send.Runs.{AfterSource, RunsCode, deliveries}
-use Rattle.lif_top.specs.declared.status.Status.TheVariants.{Done}
+use Rattle.top_base.specs.declared.status.Status.TheVariants.{Done}
 use Rattle.lif_top.proofs.sending.deliver.Goals as goal
 
 pub returns-in-Err : goal.returns-in-Err

@@ -1,6 +1,6 @@
 use Rattle.std.proofs.Common.{◌-◌, length}
 use Rattle.topo_order.proofs.placing.next_unplaced.Given as goal
-use Rattle.topo_order.proofs.ChainSteps.{IsPassed}
+use Rattle.topo_order.proofs.Passing.{IsPassed}
 
 -- the links into the node before this one are placed
 abbrev pub invariant-loop-next : goal.invariant-loop-next

@@ -4,7 +4,7 @@ use Rattle.generation_frame.specs.Blocks.{block_of, counted_bytes}
 use Rattle.generation_frame.specs.BlockLaws.{counted-block, length-block}
 use Rattle.lif_outside.specs.CallLaws.{calls_of, calls_then, calls_weaker}
 use Rattle.lif_outside.specs.Runs.{StopsWithin, appends_of}
-use Rattle.lif_top.proofs.Exits.{on_err}
+use Rattle.top_base.specs.Exits.{on_err}
 use Rattle.lif_top.proofs.Turning.{append_stops, appended_more, appended_none}
 use Rattle.lif_top.specs.Send.Ready.{paths_of, some_piece}
 use Rattle.lif_top.proofs.delivery.Delivery.carry_piece.Goals as goal

@@ -1,0 +1,3 @@
+pub mod CrossingSteps
+pub mod LeastSteps
+pub mod RunSteps

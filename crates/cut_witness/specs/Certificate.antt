@@ -1,0 +1,34 @@
+-- Certificates: for each demand a flow and a cut of equal size, which is left by the least side.
+use Rattle.std.specs.Prelude.{◌≡◌, ◌<◌, ◌≤◌, ℕ, List, IsTrue, Some, length, map, slice_get, slice_index}
+use Rattle.net_model.specs.Demands.{demand_count}
+use Rattle.net_model.specs.Flows.{IsFlow, IsLeastSide, crossing, flow_network}
+use Rattle.net_model.specs.Lists.{is_rising}
+use Rattle.net_model.specs.declared.Demand.{Demand}
+use Rattle.net_model.specs.declared.net.Net.{Net}
+use Rattle.failure_patterns.specs.Demands.{demand_of}
+use Rattle.cut_witness.specs.declared.cert.Cert.{Cert}
+
+-- the demand is one of the network's
+pub record IsDemand (net : Net) (demand : Demand) : Type 0 where
+  pub sink : demand.sink < length net.sinks
+  pub pattern : demand.pattern < length net.patterns
+
+-- paths that are a flow of the demand, its least side, and the links that leave it, as many as the paths
+pub record IsCertificate (net : Net) (cert : Cert) : Type 0 where
+  pub demand : IsDemand net cert.demand
+  pub flow : IsFlow (flow_network net cert.demand) cert.paths
+  pub least_side : IsLeastSide (flow_network net cert.demand) cert.side
+  pub crosses : cert.cut ≡ crossing (flow_network net cert.demand) cert.side
+  pub paths_value : length cert.paths ≡ cert.value
+  pub cut_value : length cert.cut ≡ cert.value
+  pub rising : IsTrue (is_rising (map (λ path. slice_index path 0) cert.paths))
+
+-- one for each demand, in order
+pub record AreCertificates (net : Net) (certs : List Cert) : Type 0 where
+  pub each_demand : length certs ≡ demand_count net
+  pub at : (number : ℕ) (cert : Cert) → slice_get certs number ≡ Some cert → IsCertificate net cert × (cert.demand ≡ demand_of net number)
+
+-- some certificate has that value, and none has a smaller one
+pub record IsLeastValue (certs : List Cert) (value : ℕ) : Type 0 where
+  pub attained : (number : ℕ) × (cert : Cert) × (slice_get certs number ≡ Some cert) × (cert.value ≡ value)
+  pub least : (number : ℕ) (cert : Cert) → slice_get certs number ≡ Some cert → value ≤ cert.value

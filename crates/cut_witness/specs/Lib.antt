@@ -1,0 +1,4 @@
+pub mod Certificate
+pub mod CertificateLaws
+pub mod Runs
+pub mod TestNetworks

@@ -1,0 +1,66 @@
+//! Certificates of a network's demands.
+ghost use Rattle.std.specs.Prelude.{◌≡◌, ◌≤◌, ◌<◌, ℕ, List, IfOk, length};
+ghost use Rattle.counted_steps.specs.Steps.{RoseByAtMost};
+ghost use Rattle.cut_witness.specs.Certificate.{AreCertificates, IsCertificate, IsDemand, IsLeastValue};
+ghost use Rattle.net_model.specs.Demands.{demand_count};
+ghost use Rattle.net_model.specs.Flows.{IsCut, flow_network};
+ghost use Rattle.unit_flow.specs.Visits.{visit_bound};
+
+use crate::Cert;
+use crate::runs::{certify_along, certify_runs};
+use counted_steps::Steps;
+use failure_patterns::demands;
+use lif_outside::Gate;
+use link_chains::wiring_of;
+use net_model::{Demand, Net};
+use std::alloc::{AllocError, Global};
+use std::sync::ledger::Ledger;
+use std::thread::Threads;
+
+/// The certificate of a demand: a greatest flow, its least side, and the links that leave it, as many as the flow
+/// has paths.
+pub fn certify<L: Ledger>(
+    alloc: Global,
+    net: &Net,
+    demand: Demand,
+    steps: &mut Steps<L>,
+) -> Result<Cert, AllocError>
+    requires { IsDemand net.now demand }
+    ensures certificate { IfOk result (IsCertificate net.now) }
+    ensures demand { IfOk result (λ cert. cert.demand ≡ demand) }
+    ensures ticks { (cut : List ℕ) → IsCut (flow_network net.now demand) cut → RoseByAtMost (visit_bound (length net.now.links) (length cut)) steps.old steps.new }
+{
+    let wiring = wiring_of(alloc, net)?;
+    certify_along(alloc, net, &wiring, demand, steps)
+}
+
+/// The certificates of all demands of a network, in their order. The demands are cut into as many runs as there are
+/// workers, or demands where those are fewer. Each run enters the gate with its number before it begins; the runs
+/// are done one after another.
+pub fn certify_all<G: Gate + Sync, R: Threads + Sync>(
+    rt: &R,
+    alloc: Global,
+    net: &Net,
+    workers: u32,
+    gate: &G,
+) -> Result<Vec<Cert>, AllocError>
+    requires workers { 1 ≤ workers }
+    requires few { demand_count net.now ≤ 65536 }
+    ensures { IfOk result (λ certs. AreCertificates net.now certs.items) }
+{
+    let wiring = wiring_of(alloc, net)?;
+    let runs = demands(net).min(workers as u64) as u32;
+    certify_runs(alloc, net, &wiring, runs, gate)
+}
+
+/// The least value of certificates: where they are those of all demands, the rate of their network.
+pub fn rate(certs: &[Cert]) -> u32
+    requires { 0 < length certs.now }
+    ensures { IsLeastValue certs.now result }
+{
+    let mut least = certs[0].value;
+    for cert in certs {
+        least = least.min(cert.value);
+    }
+    least
+}

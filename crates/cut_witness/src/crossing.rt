@@ -1,0 +1,35 @@
+//! The links that leave a side and haven't failed.
+ghost use Rattle.std.specs.Prelude.{◌≡◌, ◌<◌, IfOk, length};
+ghost use Rattle.net_model.specs.Flows.{crossing, flow_network, leaves};
+
+use item_list::ItemList;
+use link_chains::{head, tail};
+use net_model::{Demand, LinkList, Net, Side};
+use std::alloc::{AllocError, Global};
+
+/// The links that leave a side of a demand and haven't failed, in rising order.
+pub fn cut_of(alloc: Global, net: &Net, demand: Demand, side: &Side) -> Result<LinkList, AllocError>
+    requires pattern { demand.pattern < length net.now.patterns }
+    requires side { length side.now ≡ length net.now.nodes }
+    ensures { IfOk result (λ cut. cut ≡ crossing (flow_network net.now demand) side.now) }
+{
+    let mut cut = Vec::new(alloc);
+    for link in 0..net.links.len() as u32 {
+        if leaves(net, demand, side, link) {
+            cut.push(link)?;
+        }
+    }
+    Ok(ItemList::of(cut))
+}
+
+// Whether a link leaves a side and hasn't failed.
+fn leaves(net: &Net, demand: Demand, side: &Side, link: u32) -> bool
+    requires pattern { demand.pattern < length net.now.patterns }
+    requires side { length side.now ≡ length net.now.nodes }
+    requires link { link < length net.now.links }
+    ensures { result ≡ leaves (flow_network net.now demand) side.now link }
+{
+    *side.at(tail(net, link) as usize)
+        && !*side.at(head(net, link) as usize)
+        && !net.is_failed(demand.pattern, link)
+}

@@ -1,0 +1,13 @@
+//! Certificates of the least cuts of a network's demands: a flow and a cut of equal size (Ford and Fulkerson).
+#![tactic(auto)]
+
+mod cert;
+mod certifying;
+mod crossing;
+mod runs;
+
+pub use cert::Cert;
+pub use certifying::{certify, certify_all, rate};
+
+#[cfg(test)]
+mod tests;

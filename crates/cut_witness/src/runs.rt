@@ -1,0 +1,107 @@
+//! The demands of a network, cut into runs.
+ghost use Rattle.std.specs.Prelude.{◌≡◌, ◌<◌, ◌≤◌, ◌*◌, ◌/◌, ℕ, IfOk, OnOk, List, length};
+ghost use Rattle.counted_steps.specs.Steps.{RoseByAtMost};
+ghost use Rattle.cut_witness.specs.Certificate.{AreCertificates, IsCertificate, IsDemand};
+ghost use Rattle.cut_witness.specs.Runs.{AreFirstCertificates};
+ghost use Rattle.link_chains.specs.Wiring.{IsWiring};
+ghost use Rattle.net_model.specs.Demands.{demand_count};
+ghost use Rattle.net_model.specs.Flows.{IsCut, flow_network};
+ghost use Rattle.unit_flow.specs.Visits.{visit_bound};
+
+use crate::Cert;
+use crate::crossing::cut_of;
+use counted_steps::Steps;
+use failure_patterns::{demand_at, demands};
+use lif_outside::Gate;
+use link_chains::Wiring;
+use net_model::{Demand, Net};
+use std::alloc::{AllocError, Global};
+use std::marker::Brand;
+use std::sync::ledger::{Blank, Ledger};
+use unit_flow::{Flow, max_flow_along};
+
+/// The certificate of a demand, where the chains of the network's links are given.
+pub fn certify_along<L: Ledger>(
+    alloc: Global,
+    net: &Net,
+    wiring: &Wiring,
+    demand: Demand,
+    steps: &mut Steps<L>,
+) -> Result<Cert, AllocError>
+    requires wiring { IsWiring net.now.links (length net.now.nodes) wiring.now }
+    requires demand { IsDemand net.now demand }
+    ensures certificate { IfOk result (IsCertificate net.now) }
+    ensures demand { IfOk result (λ cert. cert.demand ≡ demand) }
+    ensures ticks { (cut : List ℕ) → IsCut (flow_network net.now demand) cut → RoseByAtMost (visit_bound (length net.now.links) (length cut)) steps.old steps.new }
+{
+    let Flow { paths, side } = max_flow_along(alloc, net, wiring, demand, steps)?;
+    let cut = cut_of(alloc, net, demand, &side)?;
+    let value = cut.len() as u32;
+    Ok(Cert {
+        demand,
+        value,
+        paths,
+        side,
+        cut,
+    })
+}
+
+/// The certificates of all demands, in so many runs.
+pub fn certify_runs<G: Gate>(
+    alloc: Global,
+    net: &Net,
+    wiring: &Wiring,
+    runs: u32,
+    gate: &G,
+) -> Result<Vec<Cert>, AllocError>
+    requires wiring { IsWiring net.now.links (length net.now.nodes) wiring.now }
+    requires some { 0 < runs }
+    requires few { demand_count net.now ≤ 65536 }
+    ensures { IfOk result (λ certs. AreCertificates net.now certs.items) }
+{
+    let count = demands(net);
+    let mut certs = Vec::with_capacity(alloc, count as usize)?;
+    for run in 0..runs {
+        gate.enter(run);
+        let from = run_start(run, runs, count);
+        let to = run_start(run + 1, runs, count);
+        certify_run::<Brand>(alloc, net, wiring, from, to, &mut certs, Blank::new(1))?;
+    }
+    Ok(certs)
+}
+
+// The number of the first demand of a run, among so many demands.
+fn run_start(run: u32, runs: u32, count: u64) -> u64
+    requires some { 0 < runs }
+    requires few { count ≤ 65536 }
+    ensures { result ≡ run * count / runs }
+{
+    run as u64 * count / runs as u64
+}
+
+// Appends the certificates of the demands of one run to those of the demands before it.
+fn certify_run<L: Ledger>(
+    alloc: Global,
+    net: &Net,
+    wiring: &Wiring,
+    from: u64,
+    to: u64,
+    certs: &mut Vec<Cert>,
+    blank: Blank,
+) -> Result<(), AllocError>
+    requires wiring { IsWiring net.now.links (length net.now.nodes) wiring.now }
+    requires before { AreFirstCertificates net.now from certs.old.items }
+    requires ordered { from ≤ to }
+    requires within { to ≤ demand_count net.now }
+    requires name { blank.name ≡ L.name }
+    requires parts { blank.parts ≡ L.parts }
+    requires some_part { 0 < blank.parts }
+    ensures { OnOk result (AreFirstCertificates net.now to certs.new.items) }
+{
+    let mut steps = Steps::<L>::start(blank);
+    for number in from..to {
+        let cert = certify_along(alloc, net, wiring, demand_at(net, number), &mut steps)?;
+        certs.push(cert)?;
+    }
+    Ok(())
+}

@@ -1,0 +1,15 @@
+-- The rate of a network: the least size of a least cut, over its demands.
+use Rattle.std.specs.Prelude.{◌≡◌, ◌<◌, ◌≤◌, ℕ, List, length}
+use Rattle.net_model.specs.Demands.{demand_count}
+use Rattle.net_model.specs.Flows.{IsLeastCut, flow_network}
+use Rattle.net_model.specs.declared.net.Net.{Net}
+use Rattle.failure_patterns.specs.Demands.{demand_of}
+
+-- a demand of the network has a least cut of so many links
+abbrev pub HasLeastCut : Net → ℕ → ℕ → Type 0
+HasLeastCut net number size = (cut : List ℕ) × IsLeastCut (flow_network net (demand_of net number)) cut × (length cut ≡ size)
+
+-- some demand has a least cut of that size, and none has a smaller one
+pub record IsRate (net : Net) (rate : ℕ) : Type 0 where
+  pub demand : (number : ℕ) × (number < demand_count net) × HasLeastCut net number rate
+  pub least : (number size : ℕ) → number < demand_count net → HasLeastCut net number size → rate ≤ size

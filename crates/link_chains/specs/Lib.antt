@@ -1,0 +1,4 @@
+pub mod Chains
+pub mod EndLaws
+pub mod Wiring
+pub mod WiringLaws

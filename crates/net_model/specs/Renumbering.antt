@@ -1,0 +1,43 @@
+-- Networks whose links have new numbers: the new link at a place is the old one whose number stands there.
+use Rattle.std.specs.Prelude.{◌≡◌, ℕ, nat_eq, nat_lt, IsTrue, List, [], length, map, filter, slice_get, slice_index, unwrap_or}
+use Rattle.std.specs.List.{list_all, position_or_len, range_with_len}
+use Rattle.net_model.specs.Flows.{FlowNetwork}
+use Rattle.net_model.specs.Lists.{are_distinct, is_among}
+use Rattle.net_model.specs.declared.Link.{Link}
+use Rattle.net_model.specs.declared.Pattern.{Pattern}
+
+-- each number below a bound stands in the list once
+pub record HasEachOnce (bound : ℕ) (order : List ℕ) : Type 0 where
+  pub whole : length order ≡ bound
+  pub below : IsTrue (list_all (λ number. nat_lt number bound) order)
+  pub distinct : IsTrue (are_distinct nat_eq order)
+
+-- the old number of a new link, and the new number of an old one
+abbrev pub old_number : List ℕ → ℕ → ℕ
+old_number order link = slice_index order link
+
+abbrev pub new_number : List ℕ → ℕ → ℕ
+new_number order link = position_or_len (nat_eq link) order
+
+-- the links in a new order
+abbrev pub renumbered_links : List Link → List ℕ → List Link
+renumbered_links links order = map (λ old. unwrap_or (slice_get links old) (record { name = []; tail = 0; head = 0 })) order
+
+-- the new numbers of links, in rising order
+abbrev pub renumbered_set : List ℕ → List ℕ → List ℕ
+renumbered_set order links = filter (λ new. is_among links (old_number order new)) (range_with_len 0 (length order))
+
+-- a pattern with the new numbers of its links
+abbrev pub renumbered_pattern : List ℕ → Pattern → Pattern
+renumbered_pattern order pattern = record { name = pattern.name; links = renumbered_set order pattern.links }
+
+-- what carries the flow of a demand, with its links in a new order
+abbrev pub renumbered_network : FlowNetwork → List ℕ → FlowNetwork
+renumbered_network network order =
+    record {
+      nodes = network.nodes;
+      links = renumbered_links network.links order;
+      source = network.source;
+      sink = network.sink;
+      failed = renumbered_set order network.failed;
+    }

@@ -1,0 +1,3 @@
+pub mod Butterfly
+pub mod Report
+pub mod PrintableLaws

@@ -1,0 +1,10 @@
+//! The report of certificates, as text.
+#![tactic(auto)]
+
+mod report;
+mod room;
+
+pub use report::{entry, head};
+
+#[cfg(test)]
+mod tests;

@@ -1,0 +1,22 @@
+-- The inverse vectors of a basis after one of its vectors was replaced (Jaggi et al. 2005).
+use Rattle.std.specs.Prelude.{◌≡◌, ◌≢◌, ◌≤◌, ◌<◌, ℕ, List, length}
+use Rattle.field_vectors.specs.Elements.{dot_of, plus_multiple, multiple_of}
+use Rattle.field_vectors.specs.Grid.{Grid, IsMatrix, row_of}
+
+-- Each row below the limit, other than the path's, has in addition its product with the vector times the path's row.
+-- All others are as they were.
+pub record IsClearedBelow {A : Type 0} (zero : A) (add mul : A → A → A) (path : ℕ) (vector : List A) (old new : Grid A) (limit : ℕ) : Type 0 where
+  pub columns : new.columns ≡ old.columns
+  pub height : length new.rows ≡ length old.rows
+  pub own : row_of new path ≡ row_of old path
+  pub before : (k : ℕ) → k < limit → k ≢ path → row_of new k ≡ plus_multiple add mul (row_of old k) (dot_of zero add mul vector (row_of old k)) (row_of old path)
+  pub behind : (k : ℕ) → limit ≤ k → row_of new k ≡ row_of old k
+
+-- The inverse of the path is divided by its product with the vector. Each other has in addition its product with the
+-- vector times the new inverse of the path.
+pub record IsRenewed {A : Type 0} (is_element : A → Type 0) (zero : A) (add mul : A → A → A) (inv : A → A) (path : ℕ) (vector : List A) (old new : Grid A) : Type 0 where
+  pub columns : new.columns ≡ old.columns
+  pub height : length new.rows ≡ length old.rows
+  pub kept : IsMatrix is_element new
+  pub own : row_of new path ≡ multiple_of mul (inv (dot_of zero add mul vector (row_of old path))) (row_of old path)
+  pub other : (k : ℕ) → k < length old.rows → k ≢ path → row_of new k ≡ plus_multiple add mul (row_of old k) (dot_of zero add mul vector (row_of old k)) (row_of new path)

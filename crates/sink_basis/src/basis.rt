@@ -1,0 +1,102 @@
+//! Bases on the frontier of a sink's paths.
+ghost use Rattle.std.specs.Prelude.{◌≡◌, ◌≢◌, ◌*◌, ◌<◌, ◌≤◌, length, None, Some, replicate, slice_set, IfOk, OnOk, OnErr};
+ghost use Rattle.counted_steps.specs.Steps.{RoseByAtMost};
+ghost use Rattle.field_vectors.specs.Elements.{dot_of, identity_of};
+ghost use Rattle.field_vectors.specs.Grid.{row_of, with_row};
+ghost use Rattle.sink_basis.specs.Basis.{IsBasis};
+
+use crate::renewal::{identity, no_links, renew_inverses};
+use counted_steps::Steps;
+use field_vectors::Matrix;
+use gf_tables::Field;
+use item_list::ItemList;
+use std::alloc::{AllocError, Global};
+use std::marker::Brand;
+use std::sync::ledger::{Blank, Ledger};
+
+/// For each path the last link that was visited on it, or none.
+pub type Frontier = ItemList<Option<u32>>;
+
+/// For each of 1 to 32 paths its frontier link, and that link's vector. The vectors are a basis of all vectors of
+/// that length: the product of vector `j` and inverse `k` is one for `j = k` and zero otherwise.
+#[derive(Drop)]
+pub struct Basis<F: Field> {
+    pub frontier: Frontier,
+    pub vectors: Matrix<F>,
+    pub inverses: Matrix<F>,
+    ghost basis: { IsBasis F.zero F.one F.add F.mul (length frontier) vectors inverses },
+    ghost few: { length frontier ≤ 32 },
+}
+
+impl<F: Field> Basis<F> {
+    /// The basis of the unit vectors of length `h`, with no link on any path.
+    pub fn start(alloc: Global, h: u32) -> Result<Self, AllocError>
+        requires some { 1 ≤ h }
+        requires few { h ≤ 32 }
+        ensures frontier { IfOk result (λ basis. basis.frontier ≡ replicate h None) }
+        ensures vectors { IfOk result (λ basis. basis.vectors.rows ≡ identity_of F.zero F.one h) }
+        ensures inverses { IfOk result (λ basis. basis.inverses.rows ≡ identity_of F.zero F.one h) }
+    {
+        let frontier = no_links(alloc, h)?;
+        let vectors = identity(alloc, h)?;
+        let inverses = identity(alloc, h)?;
+        Ok(Basis {
+            frontier,
+            vectors,
+            inverses,
+        })
+    }
+
+    /// Makes `link` the frontier link of the path, and `vector` its vector. All other links and vectors stay. The
+    /// product of the vector and the path's inverse must not be zero.
+    pub fn renew(
+        &mut self,
+        alloc: Global,
+        path: u32,
+        link: u32,
+        vector: &[F],
+    ) -> Result<(), AllocError>
+        requires path { path < length self.old.frontier }
+        requires width { length vector.now ≡ length self.old.frontier }
+        requires nonzero { dot_of F.zero F.add F.mul vector.now (row_of self.old.inverses path) ≢ F.zero }
+        ensures frontier { OnOk result (self.new.frontier ≡ slice_set self.old.frontier path (Some link)) }
+        ensures vectors { OnOk result (self.new.vectors ≡ with_row self.old.vectors path vector.now) }
+        ensures refused_frontier { OnErr result (self.new.frontier ≡ self.old.frontier) }
+        ensures refused_vectors { OnErr result (self.new.vectors ≡ self.old.vectors) }
+        ensures refused_inverses { OnErr result (self.new.inverses ≡ self.old.inverses) }
+    {
+        self.renew_from::<Brand>(path, link, vector, Blank::new(1));
+        Ok(())
+    }
+
+    // The renewal, with a counter of its own.
+    fn renew_from<L: Ledger>(&mut self, path: u32, link: u32, vector: &[F], blank: Blank)
+        requires name { blank.name ≡ L.name }
+        requires parts { blank.parts ≡ L.parts }
+        requires some_part { 0 < blank.parts }
+        requires path { path < length self.old.frontier }
+        requires width { length vector.now ≡ length self.old.frontier }
+        requires nonzero { dot_of F.zero F.add F.mul vector.now (row_of self.old.inverses path) ≢ F.zero }
+        ensures frontier { self.new.frontier ≡ slice_set self.old.frontier path (Some link) }
+        ensures vectors { self.new.vectors ≡ with_row self.old.vectors path vector.now }
+    {
+        self.replace(path, link, vector, &mut Steps::<L>::start(blank));
+    }
+
+    // The renewal. It counts at most three steps for each entry of a matrix.
+    fn replace<L: Ledger>(&mut self, path: u32, link: u32, vector: &[F], steps: &mut Steps<L>)
+        requires path { path < length self.old.frontier }
+        requires width { length vector.now ≡ length self.old.frontier }
+        requires nonzero { dot_of F.zero F.add F.mul vector.now (row_of self.old.inverses path) ≢ F.zero }
+        ensures frontier { self.new.frontier ≡ slice_set self.old.frontier path (Some link) }
+        ensures vectors { self.new.vectors ≡ with_row self.old.vectors path vector.now }
+        ensures ticks { let h = length self.old.frontier in RoseByAtMost (3 * h * h) steps.old steps.new }
+    {
+        let _rows = self.vectors.rows();
+        let _inverses = self.inverses.rows();
+        renew_inverses(&mut self.inverses, path, vector, steps);
+        self.vectors.put_row(path, vector);
+        let _columns = self.vectors.columns();
+        self.frontier.set(path as usize, Some(link));
+    }
+}

@@ -1,0 +1,10 @@
+//! The vectors on the frontier of a sink's paths, a basis, with their inverse vectors.
+#![tactic(auto)]
+
+mod basis;
+mod renewal;
+
+pub use basis::{Basis, Frontier};
+
+#[cfg(test)]
+mod tests;

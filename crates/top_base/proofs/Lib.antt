@@ -1,0 +1,4 @@
+pub mod Digits
+pub mod FileReadingLaws
+pub mod SayingLaws
+pub mod RefusedNames

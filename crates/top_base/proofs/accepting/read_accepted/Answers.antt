@@ -1,0 +1,22 @@
+use Rattle.std.proofs.Common.{sym, subst, ap, ◌∙◌}
+use Rattle.lif_outside.specs.CallLaws.{calls_weaker}
+use Rattle.code_file.specs.Items.{bytes_of}
+use Rattle.top_base.specs.Accepting.{IsCodeOf, RefusesCode, RefusesCodeOrLosesIt, code_limit}
+use Rattle.top_base.specs.AcceptingLaws.{code_input}
+use Rattle.top_base.specs.Exits.{if_err}
+use Rattle.top_base.specs.InputLaws.{lost_bytes}
+use Rattle.top_base.proofs.accepting.read_accepted.Goals as goal
+
+pub returns-in_err-code-clause-lost : goal.returns-in_err-code-clause-lost
+returns-in_err-code-clause-lost g c =
+    let outcome = c.in_err-code.field-0.0 in
+    let refused = subst (λ bytes. RefusesCodeOrLosesIt bytes outcome) c.deref.ensures.value c.in_err-code.ensures.refused in
+    if_err _ c.from_residual-in_err-code.result outcome c.from_residual-in_err-code.ensures.1
+    (calls_weaker _ _ c.in_ok-bytes.ensures.whole (λ made whole. lost_bytes code_limit IsCodeOf RefusesCode code_input c.args.path.now c.in_ok-bytes.bytes.items made whole outcome refused))
+
+pub returns-clause-lost : goal.returns-clause-lost
+returns-clause-lost g c =
+    let outcome = c.unaccepted.result in
+    let is = ap bytes_of c.in-Err.ensures.returned ∙ sym c.in_ok-code.ensures.code ∙ c.deref.ensures.value in
+    let refused = subst (λ bytes. RefusesCodeOrLosesIt bytes outcome) is c.unaccepted.ensures in
+    calls_weaker _ _ c.in_ok-bytes.ensures.whole (λ made whole. lost_bytes code_limit IsCodeOf RefusesCode code_input c.args.path.now c.in_ok-bytes.bytes.items made whole outcome refused)

@@ -1,0 +1,41 @@
+-- A code that is read and checked, as every command does that is given one.
+use Rattle.std.specs.Prelude.{◌≡◌, ◌⊎◌, ℕ, List, Option, Result, Err}
+use Rattle.lif_outside.specs.Events.{Event}
+use Rattle.code_checker.specs.Checking.{FailsFirst}
+use Rattle.code_file.specs.Items.{bytes_of}
+use Rattle.code_file.specs.Reading.{contents_of}
+use Rattle.node_program.specs.Decoding.{IsAccepted}
+use Rattle.node_program.specs.declared.code.Code.{Code}
+use Rattle.top_base.specs.Inputs.{HoldsInput, IsNoMemory, Reads}
+use Rattle.top_base.specs.Lines.{check_failed_line, code_refused_line}
+use Rattle.top_base.specs.declared.outcome.Outcome.{Outcome}
+use Rattle.top_base.specs.declared.status.Status.{Status}
+use Rattle.top_base.specs.declared.status.Status.TheVariants.{CodeRefused, CheckFailed}
+
+-- the greatest length of a code file
+abbrev pub code_limit : ℕ
+code_limit = 268435456
+
+-- the bytes are those of this code, which is accepted
+pub record IsCodeOf (bytes : List ℕ) (code : Code) : Type 0 where
+  pub spelled : bytes ≡ bytes_of code
+  pub accepted : IsAccepted code
+
+-- the bytes are refused, with this status and line: they are no code file, or that of a code that isn't accepted
+abbrev pub RefusesCode : List ℕ → Status → List ℕ → Type 0
+RefusesCode bytes (CodeRefused why) line = (contents_of bytes ≡ Err why) × (line ≡ code_refused_line why)
+RefusesCode bytes (CheckFailed demand row column found) line =
+    (code : Code) × (bytes ≡ bytes_of code) × FailsFirst code demand row column found × (line ≡ check_failed_line code.net demand row column found)
+RefusesCode bytes status line = ⊥
+
+-- the bytes are refused, and this is the outcome, or there was no memory
+abbrev pub RefusesCodeOrLosesIt : List ℕ → Outcome → Type 0
+RefusesCodeOrLosesIt bytes outcome = RefusesCode bytes outcome.status outcome.line ⊎ IsNoMemory outcome
+
+-- the calls by which an accepted code was had from a path, or couldn't be
+abbrev pub ReadsCode : List ℕ → Result Code Outcome → List Event → Type 0
+ReadsCode path result calls = Reads code_limit IsCodeOf RefusesCode path result calls
+
+-- what a path holds: an accepted code, or what makes this the outcome
+abbrev pub HoldsCode : Option (List ℕ) → Result Code Outcome → Type 0
+HoldsCode file result = HoldsInput code_limit IsCodeOf RefusesCode file result

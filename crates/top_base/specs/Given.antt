@@ -1,0 +1,15 @@
+-- The commands that words were read as.
+use Rattle.top_base.specs.Words.{Send, Command as Form, check, cuts, order, send}
+use Rattle.top_base.specs.declared.words.SendWords.{SendWords}
+use Rattle.top_base.specs.declared.words.Command.{Command}
+use Rattle.top_base.specs.declared.words.Command.TheVariants as read
+
+-- what a command `send` is given, by its words
+abbrev pub given_in : SendWords → Send
+given_in words = record { code = words.code.now; pattern = words.pattern.now; seed = words.seed; source = words.source.now; prefix = words.prefix.now }
+
+abbrev pub command_in : Command → Form
+command_in (read.Order path) = order path.now
+command_in (read.Cuts path) = cuts path.now
+command_in (read.Check path) = check path.now
+command_in (read.Send words) = send (given_in words)

@@ -1,0 +1,136 @@
+-- The lines said.
+use Rattle.std.specs.Prelude.{ℕ, Bool, List, [], ◌++◌, codes, decimal, map, unwrap_or, slice_get}
+use Rattle.code_file.specs.declared.refusal.CodeRefusal.{CodeRefusal}
+use Rattle.code_file.specs.declared.refusal.CodeRefusal.TheVariants.{BadMagic, BadVersion, Truncated, BadField, BadRate, BadName, BadIndex, OutOfOrder, NotRising, ZeroCoefficient, BadOperand, TooMany, TrailingBytes, OutOfMemory}
+use Rattle.gf_tables.specs.Product.{mark_of}
+use Rattle.failure_patterns.specs.Demands.{demand_of}
+use Rattle.name_texts.specs.Names.{demand_text, link_name, links_text, on_lines, side_text}
+use Rattle.net_model.specs.Demands.{demand_count}
+use Rattle.net_model.specs.declared.net.Net.{Net}
+use Rattle.net_reader.specs.Text.{node_names_of}
+use Rattle.net_reader.specs.declared.refusal.ReadRefusal.{ReadRefusal}
+use Rattle.net_reader.specs.declared.refusal.ReadRefusal.TheVariants as net
+use Rattle.net_reader.specs.declared.refusal.ReadRefusal.TheVariants.{BadByte, BadLine, DuplicateLink, DuplicatePattern, DuplicateSink, SecondSource, SelfLoop, UnknownLink, RepeatedLink, SecondField, NoSource, NoSink, SinkIsSource}
+use Rattle.net_reader.specs.declared.refusal.What.{What}
+use Rattle.net_reader.specs.declared.refusal.What.TheVariants.{Nodes, Links, Patterns}
+use Rattle.node_program.specs.declared.code.Code.{Code}
+
+abbrev pub usage_line : List ℕ
+usage_line = codes "usage: lif order NET | cuts NET | compile NET CODE REPORT | check CODE | send CODE PATTERN SEED SRC PREFIX | demo N K BYTES\n"
+
+abbrev pub read_fault_line : List ℕ
+read_fault_line = codes "read fault\n"
+
+abbrev pub write_fault_line : List ℕ
+write_fault_line = codes "write fault\n"
+
+abbrev pub too_long_line : List ℕ
+too_long_line = codes "too long\n"
+
+abbrev pub out_of_memory_line : List ℕ
+out_of_memory_line = codes "out of memory\n"
+
+abbrev pub link_fault_line : List ℕ
+link_fault_line = codes "link fault\n"
+
+-- of what there are too many in a network text
+abbrev pub what_text : What → List ℕ
+what_text Nodes = codes "Nodes"
+what_text Links = codes "Links"
+what_text Patterns = codes "Patterns"
+
+-- a refusal of a network text: its line and its name, or its name where it is of the text as a whole
+abbrev pub of_line : ℕ → List ℕ → List ℕ
+of_line line name = codes "line " ++ decimal line ++ codes ": " ++ name
+
+-- with the name of the node, where it is of a sink that is the source
+abbrev pub net_refusal_text : List ℕ → ReadRefusal → List ℕ
+net_refusal_text name (BadByte line) = of_line line (codes "BadByte")
+net_refusal_text name (BadLine line) = of_line line (codes "BadLine")
+net_refusal_text name (net.BadName line) = of_line line (codes "BadName")
+net_refusal_text name (DuplicateLink line) = of_line line (codes "DuplicateLink")
+net_refusal_text name (DuplicatePattern line) = of_line line (codes "DuplicatePattern")
+net_refusal_text name (DuplicateSink line) = of_line line (codes "DuplicateSink")
+net_refusal_text name (SecondSource line) = of_line line (codes "SecondSource")
+net_refusal_text name (SelfLoop line) = of_line line (codes "SelfLoop")
+net_refusal_text name (UnknownLink line) = of_line line (codes "UnknownLink")
+net_refusal_text name (RepeatedLink line) = of_line line (codes "RepeatedLink")
+net_refusal_text name (SecondField line) = of_line line (codes "SecondField")
+net_refusal_text name (net.TooMany line what) = of_line line (codes "TooMany " ++ what_text what)
+net_refusal_text name NoSource = codes "NoSource"
+net_refusal_text name NoSink = codes "NoSink"
+net_refusal_text name (SinkIsSource sink) = codes "SinkIsSource " ++ name
+net_refusal_text name net.OutOfMemory = codes "OutOfMemory"
+
+-- the name of that node in a text
+abbrev pub refused_name : List ℕ → ReadRefusal → List ℕ
+refused_name text (SinkIsSource sink) = unwrap_or (slice_get (node_names_of text) sink) []
+refused_name text why = []
+
+abbrev pub net_refused_line : List ℕ → ReadRefusal → List ℕ
+net_refused_line name why = codes "net refused: " ++ net_refusal_text name why ++ codes "\n"
+
+abbrev pub cycle_line : Net → List ℕ → List ℕ
+cycle_line net cycle = codes "net refused: cycle" ++ links_text net cycle ++ codes "\n"
+
+-- the links in an order
+abbrev pub order_text : Net → List ℕ → List ℕ
+order_text net order = on_lines (map (link_name net) order)
+
+-- a refusal of a code file by its name, and where it has a number a space and the number
+abbrev pub refusal_text : CodeRefusal → List ℕ
+refusal_text BadMagic = codes "BadMagic"
+refusal_text BadVersion = codes "BadVersion"
+refusal_text (Truncated at) = codes "Truncated " ++ decimal at
+refusal_text BadField = codes "BadField"
+refusal_text BadRate = codes "BadRate"
+refusal_text (BadName at) = codes "BadName " ++ decimal at
+refusal_text (BadIndex at) = codes "BadIndex " ++ decimal at
+refusal_text (OutOfOrder link) = codes "OutOfOrder " ++ decimal link
+refusal_text (NotRising at) = codes "NotRising " ++ decimal at
+refusal_text (ZeroCoefficient at) = codes "ZeroCoefficient " ++ decimal at
+refusal_text (BadOperand at) = codes "BadOperand " ++ decimal at
+refusal_text (TooMany at) = codes "TooMany " ++ decimal at
+refusal_text (TrailingBytes at) = codes "TrailingBytes " ++ decimal at
+refusal_text OutOfMemory = codes "OutOfMemory"
+
+abbrev pub code_refused_line : CodeRefusal → List ℕ
+code_refused_line why = codes "code refused: " ++ refusal_text why ++ codes "\n"
+
+-- the line of a code whose check fails first at this entry of a demand's product
+abbrev pub check_failed_line : Net → ℕ → ℕ → ℕ → ℕ → List ℕ
+check_failed_line net demand row column found =
+    codes "check failed: demand " ++ demand_text net (demand_of net demand) ++ codes " row " ++ decimal row ++ codes " column " ++ decimal column
+    ++ codes " found " ++ decimal found ++ codes "\n"
+
+-- the line of a network whose rate is 0, by a demand without a path, and of one whose rate is above 32
+abbrev pub zero_rate_line : Net → ℕ → List Bool → List ℕ
+zero_rate_line net demand side = codes "rate 0: demand " ++ demand_text net (demand_of net demand) ++ codes " side" ++ side_text net side ++ codes "\n"
+
+abbrev pub rate_over_line : Net → ℕ → ℕ → List ℕ
+rate_over_line net demand least = codes "rate over 32: demand " ++ demand_text net (demand_of net demand) ++ codes " cut " ++ decimal least ++ codes "\n"
+
+abbrev pub too_many_demands_line : ℕ → List ℕ
+too_many_demands_line count = codes "too many demands: " ++ decimal count ++ codes "\n"
+
+abbrev pub unknown_pattern_line : List ℕ → List ℕ
+unknown_pattern_line word = codes "unknown pattern: " ++ word ++ codes "\n"
+
+abbrev pub same_path_line : List ℕ → List ℕ
+same_path_line path = codes "same path: " ++ path ++ codes "\n"
+
+-- the rate, the field and the demands of a code
+abbrev pub code_text : Code → List ℕ
+code_text code = codes "rate " ++ decimal code.rate ++ codes " field " ++ decimal (mark_of code.field) ++ codes " demands " ++ decimal (demand_count code.net) ++ codes "\n"
+
+-- the lines of a code that is accepted, and of one that was compiled
+abbrev pub accepted_line : Code → List ℕ
+accepted_line code = codes "accepted " ++ code_text code
+
+abbrev pub compiled_line : Code → List ℕ
+compiled_line code = codes "compiled " ++ code_text code
+
+-- the line of a source that was sent
+abbrev pub sent_line : ℕ → ℕ → ℕ → List ℕ
+sent_line bytes generations sinks =
+    codes "sent " ++ decimal bytes ++ codes " bytes in " ++ decimal generations ++ codes " generations to " ++ decimal sinks ++ codes " sinks\n"

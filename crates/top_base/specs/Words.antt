@@ -1,0 +1,62 @@
+-- The words that the program is called with.
+use Rattle.std.specs.Prelude.{ℕ, ◌+◌, ◌-◌, ◌*◌, ◌^◌, ◌&&◌, nat_lt, if◌then◌else◌, fold, List, [], ◌∷◌, length, Option, Some, None, codes}
+use Rattle.std.specs.Char.{is_ascii_digit}
+use Rattle.std.specs.List.{list_all}
+use Rattle.std.specs.Option.{option_map}
+use Rattle.std.specs.Str.{bytes_eq}
+
+-- the value of decimal digits
+abbrev pub value_of_digits : List ℕ → ℕ
+value_of_digits digits = fold (λ value digit. value * 10 + (digit - 48)) 0 digits
+
+-- one or more digits, with a value below 2^64
+abbrev pub number_of : List ℕ → Option ℕ
+number_of word =
+    if nat_lt 0 (length word) && list_all is_ascii_digit word && nat_lt (value_of_digits word) (2 ^ 64)
+    then Some (value_of_digits word) else None
+
+-- what a command `send` is given
+pub record Send : Type 0 where
+  pub code : List ℕ
+  pub pattern : List ℕ
+  pub seed : ℕ
+  pub source : List ℕ
+  pub prefix : List ℕ
+
+-- A command with what it is given.
+pub data Command : Type 0 where
+  order : (net : List ℕ) → Command
+  cuts : (net : List ℕ) → Command
+  check : (code : List ℕ) → Command
+  send : (given : Send) → Command
+
+-- `order NET`
+abbrev pub order_of : List (List ℕ) → Option Command
+order_of (net ∷ []) = Some (order net)
+order_of _ = None
+
+-- `cuts NET`
+abbrev pub cuts_of : List (List ℕ) → Option Command
+cuts_of (net ∷ []) = Some (cuts net)
+cuts_of _ = None
+
+-- `check CODE`
+abbrev pub check_of : List (List ℕ) → Option Command
+check_of (code ∷ []) = Some (check code)
+check_of _ = None
+
+-- `send CODE PATTERN SEED SRC PREFIX`
+abbrev pub send_of : List (List ℕ) → Option Command
+send_of (code ∷ pattern ∷ seed ∷ source ∷ prefix ∷ []) =
+    option_map (λ number. send (record { code = code; pattern = pattern; seed = number; source = source; prefix = prefix })) (number_of seed)
+send_of _ = None
+
+-- the command that words are
+abbrev pub command_of : List (List ℕ) → Option Command
+command_of [] = None
+command_of (name ∷ given) =
+    if bytes_eq name (codes "order") then order_of given
+    else if bytes_eq name (codes "cuts") then cuts_of given
+    else if bytes_eq name (codes "check") then check_of given
+    else if bytes_eq name (codes "send") then send_of given
+    else None

@@ -1,0 +1,22 @@
+//! What the commands share: words, statuses and the lines said with them, whole files, and the codes and networks
+//! that are read from them.
+#![tactic(auto)]
+
+mod accepting;
+mod lines;
+mod long_texts;
+mod networks;
+mod outcome;
+mod reading;
+mod status;
+mod text;
+mod words;
+
+pub use accepting::read_accepted;
+pub use lines::Line;
+pub use long_texts::{order_text, zero_rate_line};
+pub use networks::{Ordered, read_ordered};
+pub use outcome::{Outcome, conclude};
+pub use reading::{FileRefusal, read_whole};
+pub use status::{NetWhy, Status};
+pub use words::{Command, SendWords, command_of};

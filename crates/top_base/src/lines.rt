@@ -1,0 +1,373 @@
+//! The lines that are said.
+ghost use Rattle.std.specs.Prelude.{◌≡◌, ◌<◌, ◌≤◌, ◌+◌, ◌++◌, ◌∷◌, [], IfSome, IfNone, codes, decimal, length};
+ghost use Rattle.std.specs.Option.{option_map_or};
+ghost use Rattle.gf_tables.specs.Product.{mark_of};
+ghost use Rattle.failure_patterns.specs.Demands.{demand_of};
+ghost use Rattle.name_texts.specs.Names.{demand_text};
+ghost use Rattle.net_model.specs.Demands.{demand_count};
+ghost use Rattle.top_base.specs.Lines.{accepted_line, check_failed_line, code_refused_line, code_text, compiled_line, link_fault_line, net_refusal_text, net_refused_line, out_of_memory_line, rate_over_line, read_fault_line, refusal_text, same_path_line, sent_line, too_long_line, too_many_demands_line, unknown_pattern_line, usage_line, what_text, write_fault_line};
+
+use crate::text::{ROOM, ShortText, Text};
+use arrayvec::ArrayVec;
+use code_file::CodeRefusal;
+use failure_patterns::{demand_at, demands};
+use gf_tables::FieldKind;
+use itoa::Buffer;
+use name_texts::{pattern_name, sink_name};
+use net_model::{Demand, Net};
+use net_reader::{ReadRefusal, What};
+use node_program::Code;
+use std::marker::Model;
+
+/// A line: a text of its own, and where it ends with a text of the words of the call, that text.
+#[derive(Drop)]
+pub struct Line<'a> {
+    text: Text,
+    quoted: Option<&'a str>,
+}
+
+impl<'a> Model for Line<'a> {
+    ghost use Rattle.std.specs.Prelude.{ℕ, List, [], ◌∷◌, ◌++◌};
+    ghost use Rattle.std.specs.Option.{option_map_or};
+    ghost use Rattle.top_base.specs.LineText.{text_bytes};
+
+    ghost Value = { List ℕ };
+
+    ghost view = { λ line. text_bytes line.text ++ option_map_or (λ quoted. quoted.now ++ 10 ∷ []) line.quoted [] };
+}
+
+// Adds bytes to a text that has room for them.
+fn push(text: &mut ShortText, bytes: &[u8])
+    requires { length text.old.items + length bytes.now ≤ ROOM }
+    ensures text { text.new.items ≡ text.old.items ++ bytes.now }
+    ensures grown { length text.new.items ≡ length text.old.items + length bytes.now }
+{
+    let _ = text.try_extend_from_slice(bytes);
+}
+
+// Adds the digits of a number to a text that has room for them.
+fn push_number(text: &mut ShortText, number: u64)
+    requires { length text.old.items + 20 ≤ ROOM }
+    ensures text { text.new.items ≡ text.old.items ++ decimal number }
+    ensures grown { length text.new.items ≤ length text.old.items + 20 }
+{
+    let mut digits = Buffer::new();
+    push(text, digits.format(number).as_bytes());
+}
+
+// A line that begins with these words.
+fn begin(words: &[u8]) -> ShortText
+    requires { length words.now ≤ ROOM }
+    ensures text { result.items ≡ words.now }
+    ensures as_long { length result.items ≡ length words.now }
+{
+    let mut text = ArrayVec::new();
+    push(&mut text, words);
+    text
+}
+
+// The name of a refusal, and its number, if it has one.
+fn name_and_number(why: CodeRefusal) -> (&'static [u8], Option<u64>)
+    ensures text { refusal_text why ≡ result.0.now ++ option_map_or (λ number. 32 ∷ decimal number) result.1 [] }
+    ensures short { length result.0.now ≤ 16 }
+{
+    match why {
+        CodeRefusal::BadMagic => (b"BadMagic", None),
+        CodeRefusal::BadVersion => (b"BadVersion", None),
+        CodeRefusal::Truncated { at } => (b"Truncated", Some(at)),
+        CodeRefusal::BadField => (b"BadField", None),
+        CodeRefusal::BadRate => (b"BadRate", None),
+        CodeRefusal::BadName { at } => (b"BadName", Some(at)),
+        CodeRefusal::BadIndex { at } => (b"BadIndex", Some(at)),
+        CodeRefusal::OutOfOrder { link } => (b"OutOfOrder", Some(u64::from(link))),
+        CodeRefusal::NotRising { at } => (b"NotRising", Some(at)),
+        CodeRefusal::ZeroCoefficient { at } => (b"ZeroCoefficient", Some(at)),
+        CodeRefusal::BadOperand { at } => (b"BadOperand", Some(at)),
+        CodeRefusal::TooMany { at } => (b"TooMany", Some(at)),
+        CodeRefusal::TrailingBytes { at } => (b"TrailingBytes", Some(at)),
+        CodeRefusal::OutOfMemory => (b"OutOfMemory", None),
+    }
+}
+
+// Of what there are too many.
+fn name_of_what(what: What) -> &'static [u8]
+    ensures text { result.now ≡ what_text what }
+    ensures short { length result.now ≤ 32 }
+{
+    match what {
+        What::Nodes => b"Nodes",
+        What::Links => b"Links",
+        What::Patterns => b"Patterns",
+    }
+}
+
+// The line of a refusal, if it is of one, its name, and what follows the name.
+fn parts_of_refusal(why: ReadRefusal, name: &[u8]) -> (Option<u64>, &'static [u8], &[u8])
+    requires { length name.now ≤ 32 }
+    ensures text { net_refusal_text name.now why
+        ≡ option_map_or (λ line. codes "line " ++ decimal line ++ codes ": ") result.0 [] ++ result.1.now ++ result.2.now }
+    ensures short { length result.1.now ≤ 16 }
+    ensures rest_short { length result.2.now ≤ 32 }
+{
+    match why {
+        ReadRefusal::BadByte { line } => (Some(line), b"BadByte", b""),
+        ReadRefusal::BadLine { line } => (Some(line), b"BadLine", b""),
+        ReadRefusal::BadName { line } => (Some(line), b"BadName", b""),
+        ReadRefusal::DuplicateLink { line } => (Some(line), b"DuplicateLink", b""),
+        ReadRefusal::DuplicatePattern { line } => (Some(line), b"DuplicatePattern", b""),
+        ReadRefusal::DuplicateSink { line } => (Some(line), b"DuplicateSink", b""),
+        ReadRefusal::SecondSource { line } => (Some(line), b"SecondSource", b""),
+        ReadRefusal::SelfLoop { line } => (Some(line), b"SelfLoop", b""),
+        ReadRefusal::UnknownLink { line } => (Some(line), b"UnknownLink", b""),
+        ReadRefusal::RepeatedLink { line } => (Some(line), b"RepeatedLink", b""),
+        ReadRefusal::SecondField { line } => (Some(line), b"SecondField", b""),
+        ReadRefusal::TooMany { line, what } => (Some(line), b"TooMany ", name_of_what(what)),
+        ReadRefusal::NoSource => (None, b"NoSource", b""),
+        ReadRefusal::NoSink => (None, b"NoSink", b""),
+        ReadRefusal::SinkIsSource { .. } => (None, b"SinkIsSource ", name),
+        ReadRefusal::OutOfMemory => (None, b"OutOfMemory", b""),
+    }
+}
+
+// The names of a demand's sink and pattern.
+fn push_demand(text: &mut ShortText, net: &Net, demand: u32)
+    requires demand { demand < demand_count net.now }
+    requires room { length text.old.items + 65 ≤ ROOM }
+    ensures text { text.new.items ≡ text.old.items ++ demand_text net.now (demand_of net.now demand) }
+    ensures grown { length text.new.items ≤ length text.old.items + 65 }
+{
+    let Demand { sink, pattern } = demand_at(net, u64::from(demand));
+    push(text, sink_name(net, sink as usize));
+    push(text, b" ");
+    push(text, pattern_name(net, pattern as usize));
+}
+
+// The number of a field in code files.
+fn mark_of(field: FieldKind) -> u64
+    ensures { result ≡ mark_of field }
+{
+    match field {
+        FieldKind::Eight => 8,
+        FieldKind::Sixteen => 16,
+    }
+}
+
+impl<'a> Line<'a> {
+    // A line that is this text.
+    fn of(text: ShortText) -> Line<'a>
+        ensures { result ≡ text.items }
+    {
+        Line {
+            text: Text::Short(text),
+            quoted: None,
+        }
+    }
+
+    /// A line, or lines, in memory.
+    pub fn long(text: Vec<u8>) -> Line<'a>
+        ensures { result ≡ text.items }
+    {
+        Line {
+            text: Text::Long(text),
+            quoted: None,
+        }
+    }
+
+    // A line that begins with these words and ends with a text of the words of the call.
+    fn quoting(words: &[u8], quoted: &'a str) -> Line<'a>
+        requires { length words.now ≤ ROOM }
+        ensures { result ≡ words.now ++ quoted.now ++ 10 ∷ [] }
+    {
+        Line {
+            text: Text::Short(begin(words)),
+            quoted: Some(quoted),
+        }
+    }
+
+    /// The line's pieces: its own text, and the text that it ends with, behind which the line ends.
+    pub fn pieces(&self) -> (&[u8], Option<&'a [u8]>)
+        ensures none { IfNone result.1 (self.now ≡ result.0.now) }
+        ensures some { IfSome result.1 (λ quoted. self.now ≡ result.0.now ++ quoted.now ++ 10 ∷ []) }
+    {
+        let text = match &self.text {
+            Text::Short(text) => text.as_slice(),
+            Text::Long(text) => text.as_slice(),
+        };
+        (text, self.quoted.map(str::as_bytes))
+    }
+
+    /// The usage.
+    pub fn usage() -> Line<'a>
+        ensures { result ≡ usage_line }
+    {
+        Line::of(begin(
+            b"usage: lif order NET | cuts NET | compile NET CODE REPORT | check CODE | send CODE PATTERN SEED SRC PREFIX | demo N K BYTES\n",
+        ))
+    }
+
+    /// An input couldn't be read.
+    pub fn read_fault() -> Line<'a>
+        ensures { result ≡ read_fault_line }
+    {
+        Line::of(begin(b"read fault\n"))
+    }
+
+    /// An output couldn't be written.
+    pub fn write_fault() -> Line<'a>
+        ensures { result ≡ write_fault_line }
+    {
+        Line::of(begin(b"write fault\n"))
+    }
+
+    /// An input is longer than its limit.
+    pub fn too_long() -> Line<'a>
+        ensures { result ≡ too_long_line }
+    {
+        Line::of(begin(b"too long\n"))
+    }
+
+    /// There was no memory.
+    pub fn out_of_memory() -> Line<'a>
+        ensures { result ≡ out_of_memory_line }
+    {
+        Line::of(begin(b"out of memory\n"))
+    }
+
+    /// The links failed.
+    pub fn link_fault() -> Line<'a>
+        ensures { result ≡ link_fault_line }
+    {
+        Line::of(begin(b"link fault\n"))
+    }
+
+    /// The text of a network is refused; the name is that of the node, where a sink is the source.
+    pub fn net_refused(why: ReadRefusal, name: &[u8]) -> Line<'a>
+        requires { length name.now ≤ 32 }
+        ensures { result ≡ net_refused_line name.now why }
+    {
+        let mut text = begin(b"net refused: ");
+        let (line, refusal, rest) = parts_of_refusal(why, name);
+        if let Some(line) = line {
+            push(&mut text, b"line ");
+            push_number(&mut text, line);
+            push(&mut text, b": ");
+        }
+        push(&mut text, refusal);
+        push(&mut text, rest);
+        push(&mut text, b"\n");
+        Line::of(text)
+    }
+
+    /// The network has more demands than its field serves.
+    pub fn too_many_demands(count: u64) -> Line<'a>
+        ensures { result ≡ too_many_demands_line count }
+    {
+        let mut text = begin(b"too many demands: ");
+        push_number(&mut text, count);
+        push(&mut text, b"\n");
+        Line::of(text)
+    }
+
+    /// The rate of the network is above 32: a demand has the least cut.
+    pub fn rate_over(net: &Net, demand: u32, least: u32) -> Line<'a>
+        requires { demand < demand_count net.now }
+        ensures { result ≡ rate_over_line net.now demand least }
+    {
+        let mut text = begin(b"rate over 32: demand ");
+        push_demand(&mut text, net, demand);
+        push(&mut text, b" cut ");
+        push_number(&mut text, u64::from(least));
+        push(&mut text, b"\n");
+        Line::of(text)
+    }
+
+    /// The bytes of a code are refused.
+    pub fn code_refused(why: CodeRefusal) -> Line<'a>
+        ensures { result ≡ code_refused_line why }
+    {
+        let (name, number) = name_and_number(why);
+        let mut text = begin(b"code refused: ");
+        push(&mut text, name);
+        if let Some(number) = number {
+            push(&mut text, b" ");
+            push_number(&mut text, number);
+        }
+        push(&mut text, b"\n");
+        Line::of(text)
+    }
+
+    /// A code isn't accepted: its check fails first at an entry of a demand's product.
+    pub fn check_failed(net: &Net, demand: u32, row: u32, column: u32, found: u32) -> Line<'a>
+        requires { demand < demand_count net.now }
+        ensures { result ≡ check_failed_line net.now demand row column found }
+    {
+        let mut text = begin(b"check failed: demand ");
+        push_demand(&mut text, net, demand);
+        push(&mut text, b" row ");
+        push_number(&mut text, u64::from(row));
+        push(&mut text, b" column ");
+        push_number(&mut text, u64::from(column));
+        push(&mut text, b" found ");
+        push_number(&mut text, u64::from(found));
+        push(&mut text, b"\n");
+        Line::of(text)
+    }
+
+    /// No pattern has this name.
+    pub fn unknown_pattern(word: &'a str) -> Line<'a>
+        ensures { result ≡ unknown_pattern_line word.now }
+    {
+        Line::quoting(b"unknown pattern: ", word)
+    }
+
+    /// The path of an output is that of an input or of another output.
+    pub fn same_path(path: &'a str) -> Line<'a>
+        ensures { result ≡ same_path_line path.now }
+    {
+        Line::quoting(b"same path: ", path)
+    }
+
+    /// A code is accepted.
+    pub fn accepted(code: &Code) -> Line<'a>
+        ensures { result ≡ accepted_line code.now }
+    {
+        Line::of_code(b"accepted ", code)
+    }
+
+    /// A code was compiled.
+    pub fn compiled(code: &Code) -> Line<'a>
+        ensures { result ≡ compiled_line code.now }
+    {
+        Line::of_code(b"compiled ", code)
+    }
+
+    // A line that begins with a word and has the rate, the field and the demands of a code.
+    fn of_code(word: &[u8], code: &Code) -> Line<'a>
+        requires { length word.now ≤ 16 }
+        ensures { result ≡ word.now ++ code_text code.now }
+    {
+        let mut text = begin(word);
+        push(&mut text, b"rate ");
+        push_number(&mut text, u64::from(code.rate));
+        push(&mut text, b" field ");
+        push_number(&mut text, mark_of(code.field));
+        push(&mut text, b" demands ");
+        push_number(&mut text, demands(&code.net));
+        push(&mut text, b"\n");
+        Line::of(text)
+    }
+
+    /// A source was sent.
+    pub fn sent(bytes: u64, generations: u64, sinks: u64) -> Line<'a>
+        ensures { result ≡ sent_line bytes generations sinks }
+    {
+        let mut text = begin(b"sent ");
+        push_number(&mut text, bytes);
+        push(&mut text, b" bytes in ");
+        push_number(&mut text, generations);
+        push(&mut text, b" generations to ");
+        push_number(&mut text, sinks);
+        push(&mut text, b" sinks\n");
+        Line::of(text)
+    }
+}

@@ -1,0 +1,105 @@
+//! A network that is read from its text and put in order.
+ghost use Rattle.std.specs.Prelude.{◌≡◌, ◌≢◌, ◌≤◌, ℕ, List, Ok, Err, IfOk, IfErr, length};
+ghost use Rattle.lif_outside.specs.Calls.{MakesCalls};
+ghost use Rattle.net_reader.specs.Text.{network_of, parts_of};
+ghost use Rattle.topo_order.specs.Order.{IsShownCycle, order_of};
+ghost use Rattle.top_base.specs.Lines.{refused_name};
+ghost use Rattle.top_base.specs.Networks.{IsNetOf, ReadsNet, RefusesNetOrLosesIt};
+
+use crate::lines::Line;
+use crate::long_texts::cycle_line;
+use crate::outcome::Outcome;
+use crate::reading::read_whole;
+use crate::status::{NetWhy, Status};
+use lif_outside::Store;
+use net_model::{LinkList, Net};
+use net_reader::{ReadRefusal, node_name, read_net};
+use std::alloc::{AllocError, Global};
+use topo_order::{OrderRefusal, order};
+
+/// The greatest length of a network text, in bytes.
+const NET_LIMIT: usize = 4_194_304;
+
+/// A network without a cycle, and its links in order.
+#[derive(Drop)]
+pub struct Ordered {
+    pub net: Net,
+    pub order: Vec<u32>,
+}
+
+// The name of the node that is source and sink, where a text is refused for it.
+fn refused_name(alloc: Global, text: &[u8], why: ReadRefusal) -> Result<&[u8], AllocError>
+    ensures name { IfOk result (λ name. name.now ≡ refused_name text.now why) }
+{
+    match why {
+        ReadRefusal::SinkIsSource { sink } => match node_name(alloc, text, sink)? {
+            Some(name) => Ok(name),
+            None => Ok(b""),
+        },
+        _ => Ok(b""),
+    }
+}
+
+// What a text that stands for no network makes of the command.
+#[tactic(auto, using(crate::proofs::RefusedNames::short))]
+fn unread<'a>(alloc: Global, text: &[u8], why: ReadRefusal) -> Outcome<'a>
+    requires { why ≢ ReadRefusal.OutOfMemory → network_of text.now ≡ Err why }
+    ensures { RefusesNetOrLosesIt text.now result }
+{
+    if why == ReadRefusal::OutOfMemory {
+        return Outcome::out_of_memory();
+    }
+    match refused_name(alloc, text, why) {
+        Ok(name) => Outcome {
+            status: Status::NetRefused(NetWhy::Text(why)),
+            line: Line::net_refused(why, name),
+        },
+        Err(_) => Outcome::out_of_memory(),
+    }
+}
+
+// What a network with a cycle makes of the command.
+fn cyclic<'a>(alloc: Global, net: &Net, links: LinkList) -> Outcome<'a>
+    requires { IsShownCycle net.now.links links }
+    ensures { (text : List ℕ) → network_of text ≡ Ok (parts_of net.now) → RefusesNetOrLosesIt text result }
+{
+    match cycle_line(alloc, net, links.as_slice()) {
+        Ok(line) => Outcome {
+            status: Status::NetRefused(NetWhy::Cycle(links)),
+            line,
+        },
+        Err(_) => Outcome::out_of_memory(),
+    }
+}
+
+// The network that a text stands for, with its links in order.
+fn parse<'a>(alloc: Global, text: &[u8]) -> Result<Ordered, Outcome<'a>>
+    requires { length text.now ≤ 4194304 }
+    ensures net { IfOk result (λ ordered. IsNetOf text.now ordered.net) }
+    ensures order { IfOk result (λ ordered. ordered.order.items ≡ order_of ordered.net.links) }
+    ensures refused { IfErr result (λ outcome. RefusesNetOrLosesIt text.now outcome) }
+{
+    let net = match read_net(alloc, text) {
+        Ok(net) => net,
+        Err(why) => return Err(unread(alloc, text, why)),
+    };
+    match order(alloc, &net) {
+        Ok(order) => Ok(Ordered { net, order }),
+        Err(OrderRefusal::Cyclic { links }) => Err(cyclic(alloc, &net, links)),
+        Err(OrderRefusal::OutOfMemory) => Err(Outcome::out_of_memory()),
+    }
+}
+
+/// Reads the text of a network at a path, and puts its links in order.
+pub fn read_ordered<'a, S: Store>(
+    alloc: Global,
+    store: &mut S,
+    path: &str,
+) -> Result<Ordered, Outcome<'a>>
+    ensures had { IfOk result (λ ordered. MakesCalls S.Store store.old store.new (ReadsNet path.now (Ok ordered.net))) }
+    ensures order { IfOk result (λ ordered. ordered.order.items ≡ order_of ordered.net.links) }
+    ensures lost { IfErr result (λ outcome. MakesCalls S.Store store.old store.new (ReadsNet path.now (Err outcome))) }
+{
+    let text = read_whole(store, path, NET_LIMIT, Vec::new(alloc))?;
+    parse(alloc, &text)
+}

@@ -1,0 +1,98 @@
+//! How the program ends.
+use code_file::CodeRefusal;
+use net_model::{LinkList, Side};
+use net_reader::ReadRefusal;
+
+/// Why a network is refused.
+#[derive(Drop, Debug, PartialEq, Eq)]
+pub enum NetWhy {
+    /// Its text is that of no network.
+    Text(ReadRefusal),
+    /// It has a cycle, which passes no node twice and begins with its least link.
+    Cycle(LinkList),
+}
+
+/// How the program ended. Each refusal says its line.
+#[derive(Drop, Debug, PartialEq, Eq)]
+pub enum Status {
+    /// All was done.
+    Done,
+    /// The words are none of the forms.
+    Usage,
+    /// The file at the path of the network isn't the text of one without a cycle.
+    NetRefused(NetWhy),
+    /// A demand of the network has no path.
+    ZeroRate {
+        /// The first such demand.
+        demand: u32,
+        /// Its least side, which no link leaves.
+        side: Side,
+    },
+    /// The field serves fewer demands than the network has.
+    TooManyDemands {
+        /// How many it has.
+        count: u64,
+    },
+    /// The rate of the network is above 32.
+    RateOver {
+        /// The first demand whose least cut is the rate.
+        demand: u32,
+        /// The size of that cut.
+        least: u32,
+    },
+    /// The file at the path of the code isn't that of a code.
+    CodeRefused(CodeRefusal),
+    /// The code isn't accepted: a demand's decoder times the vectors of its links isn't the identity.
+    CheckFailed {
+        /// The first such demand.
+        demand: u32,
+        /// The row of the first entry that differs, by rows.
+        row: u32,
+        /// Its column.
+        column: u32,
+        /// The number of the element that stands there.
+        found: u32,
+    },
+    /// No pattern of the code has the name.
+    UnknownPattern,
+    /// An input couldn't be read.
+    ReadFault,
+    /// An output couldn't be written, or a line couldn't be said.
+    WriteFault,
+    /// An input is longer than its limit.
+    TooLong,
+    /// There was no memory.
+    OutOfMemory,
+    /// The path of an output is that of an input or of another output.
+    SamePath,
+    /// The links failed.
+    LinkFault,
+}
+
+impl Status {
+    ghost use Rattle.std.specs.Prelude.{◌≡◌};
+    ghost use Rattle.top_base.specs.Codes.{code_of};
+
+    /// The number of the status, which the program ends with.
+    pub fn code(&self) -> u8
+        ensures { result ≡ code_of self.now }
+    {
+        match self {
+            Status::Done => 0,
+            Status::Usage => 2,
+            Status::NetRefused(_) => 3,
+            Status::ZeroRate { .. } => 4,
+            Status::TooManyDemands { .. } => 5,
+            Status::RateOver { .. } => 6,
+            Status::CodeRefused(_) => 7,
+            Status::CheckFailed { .. } => 8,
+            Status::UnknownPattern => 9,
+            Status::ReadFault => 10,
+            Status::WriteFault => 11,
+            Status::TooLong => 12,
+            Status::OutOfMemory => 13,
+            Status::SamePath => 14,
+            Status::LinkFault => 15,
+        }
+    }
+}

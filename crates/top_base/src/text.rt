@@ -1,0 +1,15 @@
+//! The text of a line: short ones in place, and long ones in memory.
+use arrayvec::ArrayVec;
+
+/// Room for a short text: for the names of a sink and a pattern, and a few numbers.
+pub const ROOM: usize = 192;
+
+/// A text that grows in place.
+pub type ShortText = ArrayVec<u8, ROOM>;
+
+/// A text, in place or in memory.
+#[derive(Drop)]
+pub enum Text {
+    Short(ShortText),
+    Long(Vec<u8>),
+}

@@ -1,0 +1,134 @@
+//! The words that the program is called with.
+ghost use Rattle.std.specs.Prelude.{◌≡◌, ◌<◌, ◌^◌, map, string_bytes};
+ghost use Rattle.std.specs.Char.{is_ascii_digit};
+ghost use Rattle.std.specs.List.{list_all};
+ghost use Rattle.std.specs.Option.{SomeIff, option_map};
+ghost use Rattle.top_base.specs.Words.{check_of, command_of, cuts_of, number_of, order_of, send_of, value_of_digits};
+ghost use Rattle.top_base.specs.Given.{command_in};
+
+/// What a command `send` is given.
+#[derive(Clone, Copy)]
+pub struct SendWords<'a> {
+    /// The path of the code.
+    pub code: &'a str,
+    /// The name of the pattern that holds.
+    pub pattern: &'a str,
+    /// The seed of the order of delivery.
+    pub seed: u64,
+    /// The path of the source.
+    pub source: &'a str,
+    /// What the paths of the sinks' files begin with.
+    pub prefix: &'a str,
+}
+
+/// A command with what it is given.
+#[derive(Clone, Copy)]
+pub enum Command<'a> {
+    /// `order NET`.
+    Order(&'a str),
+    /// `cuts NET`.
+    Cuts(&'a str),
+    /// `check CODE`.
+    Check(&'a str),
+    /// `send CODE PATTERN SEED SRC PREFIX`.
+    Send(SendWords<'a>),
+}
+
+/// The command that the words are, if they are one.
+pub fn command_of(words: &[String]) -> Option<Command<'_>>
+    ensures { option_map command_in result ≡ command_of (map string_bytes words.now) }
+{
+    let [name, given @ ..] = words else {
+        return None;
+    };
+    match name.as_str() {
+        "order" => order_of(given),
+        "cuts" => cuts_of(given),
+        "check" => check_of(given),
+        "send" => send_of(given),
+        _ => None,
+    }
+}
+
+// `order NET`.
+fn order_of(given: &[String]) -> Option<Command<'_>>
+    ensures { option_map command_in result ≡ order_of (map string_bytes given.now) }
+{
+    let [net] = given else {
+        return None;
+    };
+    Some(Command::Order(net.as_str()))
+}
+
+// `cuts NET`.
+fn cuts_of(given: &[String]) -> Option<Command<'_>>
+    ensures { option_map command_in result ≡ cuts_of (map string_bytes given.now) }
+{
+    let [net] = given else {
+        return None;
+    };
+    Some(Command::Cuts(net.as_str()))
+}
+
+// `check CODE`.
+fn check_of(given: &[String]) -> Option<Command<'_>>
+    ensures { option_map command_in result ≡ check_of (map string_bytes given.now) }
+{
+    let [code] = given else {
+        return None;
+    };
+    Some(Command::Check(code.as_str()))
+}
+
+// `send CODE PATTERN SEED SRC PREFIX`.
+fn send_of(given: &[String]) -> Option<Command<'_>>
+    ensures { option_map command_in result ≡ send_of (map string_bytes given.now) }
+{
+    let [code, pattern, seed, source, prefix] = given else {
+        return None;
+    };
+    let Some(seed) = number_of(seed.as_str()) else {
+        return None;
+    };
+    Some(Command::Send(SendWords {
+        code: code.as_str(),
+        pattern: pattern.as_str(),
+        seed,
+        source: source.as_str(),
+        prefix: prefix.as_str(),
+    }))
+}
+
+// The number that a word is: one or more digits of ASCII, with a value below 2^64.
+fn number_of(word: &str) -> Option<u64>
+    ensures { result ≡ number_of word.now }
+{
+    let digits = word.as_bytes();
+    if digits.is_empty() || !are_digits(digits) {
+        return None;
+    }
+    value_of_digits(digits)
+}
+
+fn are_digits(word: &[u8]) -> bool
+    ensures { result ≡ list_all is_ascii_digit word.now }
+{
+    word.iter().all(|byte| byte.is_ascii_digit())
+}
+
+fn value_of_digits(digits: &[u8]) -> Option<u64>
+    ensures { SomeIff result (value_of_digits digits.now < 2 ^ 64) (value_of_digits digits.now) }
+{
+    let mut value = 0u64;
+    for digit in digits {
+        let unit = u64::from(digit.saturating_sub(b'0'));
+        let Some(tens) = value.checked_mul(10) else {
+            return None;
+        };
+        let Some(more) = tens.checked_add(unit) else {
+            return None;
+        };
+        value = more;
+    }
+    Some(value)
+}

@@ -1,0 +1,52 @@
+-- The command `cuts`.
+use Rattle.std.specs.Prelude.{◌≡◌, ◌⊎◌, ℕ, List, IsNone, IsSome, Option}
+use Rattle.lif_outside.specs.declared.sink.Sink.{Ghosts as SinkGhosts}
+use Rattle.lif_outside.specs.declared.store.Store.{Ghosts as StoreGhosts}
+use Rattle.lif_outside.specs.Events.{Event}
+use Rattle.net_model.specs.Demands.{demand_count}
+use Rattle.net_model.specs.declared.net.FieldChoice.{FieldChoice}
+use Rattle.net_model.specs.declared.net.Net.{Net}
+use Rattle.failure_patterns.specs.UsedField.{used_field}
+use Rattle.cut_witness.specs.Certificate.{AreCertificates, IsLeastValue}
+use Rattle.cut_witness.specs.declared.cert.Cert.{Cert}
+use Rattle.report_text.specs.Report.{report_of}
+use Rattle.top_base.specs.Inspecting.{Inspects, Runs}
+use Rattle.top_base.specs.Lines.{too_many_demands_line}
+use Rattle.top_base.specs.Networks.{IsNetOf, RefusesNet, net_limit}
+use Rattle.top_base.specs.declared.outcome.Outcome.{Outcome}
+use Rattle.top_base.specs.declared.status.Status.{Status}
+use Rattle.top_base.specs.declared.status.Status.TheVariants.{Done, TooManyDemands}
+
+-- the field that serves a network's demands, if one does
+abbrev pub field_of : Net → Option FieldChoice
+field_of net = used_field net.field (demand_count net)
+
+-- a text is the report of certificates of all demands
+pub record IsReport (net : Net) (text : List ℕ) : Type 0 where
+  pub certs : List Cert
+  pub are : AreCertificates net certs
+  pub rate : ℕ
+  pub least : IsLeastValue certs rate
+  pub report : text ≡ report_of net rate certs
+
+-- no field serves the demands, and their number is said
+abbrev pub IsCrowded : Net → Outcome → Type 0
+IsCrowded net outcome =
+    IsNone (field_of net) × (outcome ≡ record { status = TooManyDemands (demand_count net); line = too_many_demands_line (demand_count net) })
+
+-- a field does, and the report is said
+abbrev pub IsReported : Net → Outcome → Type 0
+IsReported net outcome = IsSome (field_of net) × (outcome.status ≡ Done) × IsReport net outcome.line
+
+-- the outcome for a network without a cycle
+abbrev pub IsWitnessed : Net → Outcome → Type 0
+IsWitnessed net outcome = IsCrowded net outcome ⊎ IsReported net outcome
+
+-- the calls: NET is read
+abbrev pub RunsCuts : List ℕ → Outcome → List Event → Type 0
+RunsCuts path outcome calls = Runs net_limit IsNetOf RefusesNet IsWitnessed path outcome calls
+
+-- what the program promises of the command
+abbrev pub Cuts : {S C : Type 0} → StoreGhosts S → SinkGhosts C → List ℕ → S → S → C → C → Status → Type 0
+Cuts g h path store_old store_new say_old say_new status =
+    Inspects net_limit IsNetOf RefusesNet IsWitnessed g h path store_old store_new say_old say_new status

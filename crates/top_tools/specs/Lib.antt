@@ -1,0 +1,4 @@
+pub mod Check
+pub mod Cuts
+pub mod Order
+pub mod ToolLaws

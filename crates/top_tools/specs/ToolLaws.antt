@@ -1,0 +1,84 @@
+-- What has to be known of the commands.
+use Rattle.std.specs.Prelude.{◌≡◌, ◌≢◌, ℕ, List}
+use Rattle.std.proofs.Common.{sym, ap, ◌∙◌, ⊎_elim}
+use Rattle.std.proofs.lemmas.Bool.{false≢true}
+use Rattle.lif_outside.specs.Events.{Event}
+use Rattle.net_model.specs.Demands.{demand_count}
+use Rattle.net_model.specs.declared.net.Net.{Net}
+use Rattle.top_base.specs.Accepting.{IsCodeOf, RefusesCode, code_limit}
+use Rattle.top_base.specs.AcceptingLaws.{code_input}
+use Rattle.top_base.specs.Inspecting.{ChangesNone, Due, ReadsWell}
+use Rattle.top_base.specs.InspectingLaws.{EndsWell, inspects_known, inspects_used}
+use Rattle.top_base.specs.Lines.{accepted_line, order_text}
+use Rattle.top_base.specs.NetworkLaws.{net_input}
+use Rattle.top_base.specs.Networks.{IsNetOf, RefusesNet, net_limit}
+use Rattle.top_base.specs.Outcome.{any_cycle, is_of_inputs}
+use Rattle.top_base.specs.PerformingLaws.{IsKnown}
+use Rattle.top_base.specs.declared.outcome.Outcome.{Outcome}
+use Rattle.top_base.specs.declared.status.Status.{Status}
+use Rattle.top_base.specs.declared.status.Status.TheVariants.{Done, TooManyDemands, Usage}
+use Rattle.top_tools.specs.Check.{IsChecked, RunsCheck}
+use Rattle.top_tools.specs.Cuts.{IsCrowded, IsWitnessed, RunsCuts}
+use Rattle.top_tools.specs.Order.{IsOrdered, RunsOrder}
+use Rattle.topo_order.specs.Order.{order_of}
+
+-- a command that is done, with one line, where its input was had, ends well
+module _ {X : Type 0} (limit : ℕ) (Is : List ℕ → X → Type 0) (Refuses : List ℕ → Status → List ℕ → Type 0) (line : X → List ℕ) where
+  done : (x : X) (outcome : Outcome) → outcome ≡ record { status = Done; line = line x } → outcome.status ≡ Done
+  done x outcome is = ap (λ (o : Outcome). o.status) is
+
+  pub ends_done : EndsWell limit Is Refuses (λ x outcome. outcome ≡ record { status = Done; line = line x })
+  ends_done = record {
+    of_inputs = λ x outcome is. ap is_of_inputs (done x outcome is);
+    used = λ x outcome is used. let both : Done ≡ Usage = sym (done x outcome is) ∙ used in cc;
+    alike = λ x one other is is'. ap any_cycle (done x one is ∙ sym (done x other is'));
+  }
+
+-- the command `check`
+checks_well : EndsWell code_limit IsCodeOf RefusesCode IsChecked
+checks_well = ends_done code_limit IsCodeOf RefusesCode accepted_line
+
+pub check_known : (path : List ℕ) → IsKnown (RunsCheck path) (ChangesNone path) (Due code_limit IsCodeOf RefusesCode IsChecked path) (ReadsWell path)
+check_known path = inspects_known code_limit IsCodeOf RefusesCode IsChecked code_input checks_well path
+
+pub check_used : (path : List ℕ) (outcome : Outcome) (calls : List Event) → RunsCheck path outcome calls → outcome.status ≢ Usage
+check_used path = inspects_used code_limit IsCodeOf RefusesCode IsChecked code_input checks_well path
+
+-- the command `cuts`
+counted : (net : Net) (outcome : Outcome) → IsCrowded net outcome → outcome.status ≡ TooManyDemands (demand_count net)
+counted net outcome crowded = ap (λ (o : Outcome). o.status) crowded.1
+
+cuts_well : EndsWell net_limit IsNetOf RefusesNet IsWitnessed
+cuts_well = record {
+  of_inputs = λ net outcome is. ⊎_elim (λ crowded. ap is_of_inputs (counted net outcome crowded)) (λ reported. ap is_of_inputs reported.1) is;
+  used = λ net outcome is used. ⊎_elim
+      (λ crowded. let both : TooManyDemands (demand_count net) ≡ Usage = sym (counted net outcome crowded) ∙ used in cc)
+      (λ reported. let both : Done ≡ Usage = sym reported.1 ∙ used in cc)
+      is;
+  alike = λ net one other is is'. ⊎_elim
+      (λ crowded. ⊎_elim
+      (λ crowded'. ap any_cycle (counted net one crowded ∙ sym (counted net other crowded')))
+      (λ reported. absurd (false≢true (sym crowded.0 ∙ reported.0)))
+      is')
+      (λ reported. ⊎_elim
+      (λ crowded. absurd (false≢true (sym crowded.0 ∙ reported.0)))
+      (λ reported'. ap any_cycle (reported.1 ∙ sym reported'.1))
+      is')
+      is;
+}
+
+pub cuts_known : (path : List ℕ) → IsKnown (RunsCuts path) (ChangesNone path) (Due net_limit IsNetOf RefusesNet IsWitnessed path) (ReadsWell path)
+cuts_known path = inspects_known net_limit IsNetOf RefusesNet IsWitnessed net_input cuts_well path
+
+pub cuts_used : (path : List ℕ) (outcome : Outcome) (calls : List Event) → RunsCuts path outcome calls → outcome.status ≢ Usage
+cuts_used path = inspects_used net_limit IsNetOf RefusesNet IsWitnessed net_input cuts_well path
+
+-- the command `order`
+orders_well : EndsWell net_limit IsNetOf RefusesNet IsOrdered
+orders_well = ends_done net_limit IsNetOf RefusesNet (λ net. order_text net (order_of net.links))
+
+pub order_known : (path : List ℕ) → IsKnown (RunsOrder path) (ChangesNone path) (Due net_limit IsNetOf RefusesNet IsOrdered path) (ReadsWell path)
+order_known path = inspects_known net_limit IsNetOf RefusesNet IsOrdered net_input orders_well path
+
+pub order_used : (path : List ℕ) (outcome : Outcome) (calls : List Event) → RunsOrder path outcome calls → outcome.status ≢ Usage
+order_used path = inspects_used net_limit IsNetOf RefusesNet IsOrdered net_input orders_well path

@@ -1,0 +1,11 @@
+use Rattle.std.proofs.Common.{◌-◌, length}
+use Rattle.unit_flow.proofs.FlowSteps.{IsFlowing}
+use Rattle.unit_flow.proofs.flow.max_flow_along.Given as goal
+
+-- so many units are carried
+abbrev pub invariant-loop-value : goal.invariant-loop-value
+invariant-loop-value g l = IsFlowing l.net l.fn.demand l.residual l.search l.value l.initial.steps l.steps
+
+-- there are no more than links
+abbrev pub decreases-loop-value : goal.decreases-loop-value
+decreases-loop-value g l = length l.net.links - l.value

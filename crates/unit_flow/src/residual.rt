@@ -1,0 +1,105 @@
+//! Residual networks.
+ghost use Rattle.std.specs.Prelude.{◌≡◌, ◌<◌, ℕ, false, IfOk, IfSome, length, slice_index, slice_set};
+ghost use Rattle.counted_steps.specs.Steps.{RoseBy};
+ghost use Rattle.net_model.specs.Flows.{flow_network};
+ghost use Rattle.unit_flow.specs.Residual.{AreStates, is_used, passage};
+
+use counted_steps::Steps;
+use link_chains::{head, tail};
+use net_model::{Demand, Net};
+use std::alloc::{AllocError, Global};
+use std::marker::Model;
+use std::sync::ledger::Ledger;
+
+/// What holds of a link in a residual network.
+#[derive(Clone, Copy, Debug, PartialEq, Eq)]
+pub enum LinkState {
+    /// It is on no path.
+    Free,
+    /// It is on a path.
+    Used,
+    /// It failed.
+    Failed,
+}
+
+/// The residual network of a demand: which links may be passed, and from which of their ends.
+#[derive(Drop)]
+pub struct Residual {
+    demand: Demand,
+    states: Vec<LinkState>,
+}
+
+impl Model for Residual {
+    ghost use Rattle.unit_flow.specs.Residual.{ResidualNetwork};
+
+    ghost Value = { ResidualNetwork };
+
+    ghost view = { λ residual. record { demand = residual.demand; states = residual.states.items } };
+}
+
+impl Residual {
+    /// The residual network of a demand in which no link is used.
+    pub fn start(alloc: Global, net: &Net, demand: Demand) -> Result<Residual, AllocError>
+        requires sink { demand.sink < length net.now.sinks }
+        requires pattern { demand.pattern < length net.now.patterns }
+        ensures demand { IfOk result (λ residual. residual.demand ≡ demand) }
+        ensures states { IfOk result (λ residual. AreStates (flow_network net.now demand) residual.states) }
+        ensures unused { IfOk result (λ residual. (link : ℕ) → is_used residual.states link ≡ false) }
+    {
+        let mut states = vec![in alloc; LinkState::Free; net.links.len()]?;
+        for link in net.patterns.at(demand.pattern as usize).links.as_slice() {
+            states[*link as usize] = LinkState::Failed;
+        }
+        Ok(Residual { demand, states })
+    }
+
+    // The node of the demand's sink.
+    pub(crate) fn sink(&self, net: &Net) -> u32
+        requires { self.now.demand.sink < length net.now.sinks }
+        ensures { result ≡ slice_index net.now.sinks self.now.demand.sink }
+    {
+        *net.sinks.at(self.demand.sink as usize)
+    }
+
+    // Whether a link is used.
+    pub(crate) fn is_used(&self, link: u32) -> bool
+        requires { link < length self.now.states }
+        ensures { result ≡ is_used self.now.states link }
+    {
+        self.states[link as usize] == LinkState::Used
+    }
+
+    /// The node at the other end of a link that is passed from one of its ends. There is none exactly where the
+    /// residual network doesn't let it be passed from there: from its tail it is passed where it is free, from its
+    /// head where it is used.
+    pub fn cross<L: Ledger>(
+        &self,
+        net: &Net,
+        link: u32,
+        from: u32,
+        steps: &mut Steps<L>,
+    ) -> Option<u32>
+        requires link { link < length net.now.links }
+        requires states { length self.now.states ≡ length net.now.links }
+        ensures value { result ≡ passage net.now.links self.now.states link from }
+        ensures node { IfSome result (λ next. next < length net.now.nodes) }
+        ensures ticks { RoseBy 1 steps.old steps.new }
+    {
+        steps.tick();
+        let (tail, head) = (tail(net, link), head(net, link));
+        match self.states[link as usize] {
+            LinkState::Free if from == tail => Some(head),
+            LinkState::Used if from == head => Some(tail),
+            _ => None,
+        }
+    }
+
+    // Changes the state of a link.
+    pub(crate) fn set_state(&mut self, link: u32, state: LinkState)
+        requires { link < length self.old.states }
+        ensures demand { self.new.demand ≡ self.old.demand }
+        ensures states { self.new.states ≡ slice_set self.old.states link state }
+    {
+        self.states[link as usize] = state;
+    }
+}

@@ -1,0 +1,167 @@
+//! Small networks by a rule, each by its number.
+ghost use Rattle.std.specs.Prelude.{◌≡◌, ◌<◌, ◌≤◌};
+
+use net_model::Net;
+use numbered_networks::net_of;
+use std::alloc::{AllocError, Global};
+
+// The most links of a network.
+const MOST_LINKS: u32 = 12;
+
+// Numbers that look random, each made of the one before (a linear congruential generator).
+#[derive(Drop)]
+struct Draws {
+    state: u32,
+}
+
+impl Draws {
+    // A number below a bound.
+    fn below(&mut self, bound: u32) -> u32
+        requires { 0 < bound }
+        ensures { result < bound }
+    {
+        self.state = self.state.wrapping_mul(1664525).wrapping_add(1013904223);
+        self.state / 256 % bound
+    }
+}
+
+// What the links of a network are like.
+#[derive(Clone, Copy)]
+enum Shape {
+    // From the source to a middle layer, and from there to the sinks.
+    Layered,
+    // From a node of lower number to one of higher number.
+    Rising,
+    // From any node to any other, the source and the sinks too.
+    Any,
+    // Many between two or three nodes.
+    Parallel,
+}
+
+fn shape_of(number: u32) -> Shape {
+    match number % 4 {
+        0 => Shape::Layered,
+        1 => Shape::Rising,
+        2 => Shape::Any,
+        _ => Shape::Parallel,
+    }
+}
+
+fn node_count(draws: &mut Draws, shape: Shape) -> u32
+    ensures some { 2 ≤ result }
+    ensures few { result ≤ 7 }
+{
+    match shape {
+        Shape::Layered => 7,
+        Shape::Parallel => 2 + draws.below(2),
+        Shape::Rising | Shape::Any => 2 + draws.below(6),
+    }
+}
+
+// Two different nodes.
+fn two_nodes(draws: &mut Draws, nodes: u32) -> (u32, u32)
+    requires some { 2 ≤ nodes }
+    requires few { nodes ≤ 7 }
+{
+    let tail = draws.below(nodes);
+    let head = (tail + 1 + draws.below(nodes - 1)) % nodes;
+    (tail, head)
+}
+
+// The ends of a link.
+fn ends_of(draws: &mut Draws, shape: Shape, nodes: u32) -> (u32, u32)
+    requires some { 2 ≤ nodes }
+    requires few { nodes ≤ 7 }
+{
+    match shape {
+        Shape::Layered => {
+            let middle = 1 + draws.below(3);
+            if draws.below(2) == 0 {
+                (0, middle)
+            } else {
+                (middle, 4 + draws.below(3))
+            }
+        }
+        Shape::Rising => {
+            let (one, other) = two_nodes(draws, nodes);
+            (one.min(other), one.max(other))
+        }
+        Shape::Any | Shape::Parallel => two_nodes(draws, nodes),
+    }
+}
+
+fn links(
+    alloc: Global,
+    draws: &mut Draws,
+    shape: Shape,
+    nodes: u32,
+    count: u32,
+) -> Result<Vec<(u32, u32)>, AllocError>
+    requires some { 2 ≤ nodes }
+    requires few { nodes ≤ 7 }
+{
+    let mut links = Vec::new(alloc);
+    for _ in 0..count {
+        links.push(ends_of(draws, shape, nodes))?;
+    }
+    Ok(links)
+}
+
+// About one in so many of the numbers from `first` to `end`, and one of them at least.
+fn some_of(
+    alloc: Global,
+    draws: &mut Draws,
+    first: u32,
+    end: u32,
+    one_in: u32,
+) -> Result<Vec<u32>, AllocError>
+    requires some { first < end }
+    requires one_in { 0 < one_in }
+{
+    let mut drawn = Vec::new(alloc);
+    for number in first..end {
+        if draws.below(one_in) == 0 {
+            drawn.push(number)?;
+        }
+    }
+    if drawn.is_empty() {
+        drawn.push(first + draws.below(end - first))?;
+    }
+    Ok(drawn)
+}
+
+// The links that leave the source, or the first one where none does.
+fn source_links(alloc: Global, links: &[(u32, u32)]) -> Result<Vec<u32>, AllocError> {
+    let mut leaving = Vec::new(alloc);
+    for link in 0..MOST_LINKS {
+        if let Some((0, _)) = links.get(link as usize) {
+            leaving.push(link)?;
+        }
+    }
+    if leaving.is_empty() {
+        leaving.push(0)?;
+    }
+    Ok(leaving)
+}
+
+// The network of a number. In its patterns no link fails, a few do, many do, and all do that leave the source.
+pub(super) fn network(alloc: Global, number: u32) -> Result<Option<Net>, AllocError> {
+    let mut draws = Draws {
+        state: number.wrapping_mul(2654435769),
+    };
+    let shape = shape_of(number);
+    let nodes = node_count(&mut draws, shape);
+    let count = 1 + draws.below(MOST_LINKS);
+    let links = links(alloc, &mut draws, shape, nodes, count)?;
+    let sinks = some_of(alloc, &mut draws, 1, nodes, 2)?;
+    let few = some_of(alloc, &mut draws, 0, count, 6)?;
+    let many = some_of(alloc, &mut draws, 0, count, 2)?;
+    let all = source_links(alloc, links.as_slice())?;
+    net_of(
+        alloc,
+        nodes,
+        links.as_slice(),
+        sinks.as_slice(),
+        &[few.as_slice(), many.as_slice(), all.as_slice()],
+    )
+}

@@ -1,0 +1,153 @@
+//! How a command that takes a network ends, and what it says.
+mod cuts;
+mod orders;
+
+use lif_outside::{Call, Fail, MemSink, MemStore, NoGate};
+use lif_top::{Status, lif};
+use std::alloc::{AllocError, Global};
+use std::process::Abort;
+use std::test;
+use std::thread::Threads;
+
+// A command on the text at the path `net`, and what it says.
+#[derive(Clone, Copy)]
+struct Run<'a> {
+    command: &'a str,
+    text: Option<&'a [u8]>,
+    // How many bytes a read gives at most, and which read and which put fails, counted from 1, or none.
+    most: usize,
+    failing_read: u64,
+    failing_put: u64,
+    line: &'a [u8],
+}
+
+// No read and no put fails.
+fn well<'a>(command: &'a str, text: &'a [u8], line: &'a [u8]) -> Run<'a> {
+    Run {
+        command,
+        text: Some(text),
+        most: 65536,
+        failing_read: 0,
+        failing_put: 0,
+        line,
+    }
+}
+
+// The top call alone: what it promises is proved, and the tests look at what comes of it.
+fn call<R: Threads + Sync>(
+    rt: &R,
+    alloc: Global,
+    words: &[String],
+    store: &mut MemStore,
+    say: &mut MemSink,
+) -> Status {
+    lif(rt, alloc, words, store, say, &NoGate)
+}
+
+fn failing_reads(alloc: Global, nth: u64) -> Result<Vec<Fail>, AllocError> {
+    let mut fails = Vec::new(alloc);
+    if nth > 0 {
+        fails.push(Fail {
+            call: Call::Read,
+            nth,
+            keep: 0,
+        })?;
+    }
+    Ok(fails)
+}
+
+fn failing_puts(alloc: Global, nth: u64) -> Result<Vec<u64>, AllocError> {
+    let mut fails = Vec::new(alloc);
+    if nth > 0 {
+        fails.push(nth)?;
+    }
+    Ok(fails)
+}
+
+// Does a run, and looks at its status, at what is said, and at the text, which stands as before.
+fn check<R: Abort + Threads + Sync>(
+    rt: &R,
+    alloc: Global,
+    run: &Run<'_>,
+    status: &Status,
+) -> Result<(), test::Fail> {
+    let mut store = MemStore::new(
+        alloc,
+        run.most.max(1),
+        failing_reads(alloc, run.failing_read)?,
+    );
+    let mut say = MemSink::new(alloc, failing_puts(alloc, run.failing_put)?);
+    if let Some(text) = run.text {
+        store.put_file(alloc, "net", text)?;
+    }
+    let mut words = Vec::new(alloc);
+    words.push(String::from_str(alloc, run.command)?)?;
+    words.push(String::from_str(alloc, "net")?)?;
+    let ended = call(rt, alloc, words.as_slice(), &mut store, &mut say);
+    assert!(rt; ended == *status);
+    assert_eq!(rt; say.bytes(), run.line);
+    assert!(rt; store.file("net") == run.text);
+    Ok(())
+}
+
+// The only put fails: nothing is said, and a command that is done has a fault then. A second put isn't made.
+fn check_puts<R: Abort + Threads + Sync>(
+    rt: &R,
+    alloc: Global,
+    run: &Run<'_>,
+    status: &Status,
+    unsaid: &Status,
+) -> Result<(), test::Fail> {
+    let first_fails = Run {
+        failing_put: 1,
+        line: b"",
+        ..*run
+    };
+    check(rt, alloc, &first_fails, unsaid)?;
+    let second_fails = Run {
+        failing_put: 2,
+        ..*run
+    };
+    check(rt, alloc, &second_fails, status)
+}
+
+// How many reads it takes to the end of a text, where each gives at most `most` bytes.
+fn reads_of(length: usize, most: usize) -> u64 {
+    (length.div_ceil(most.max(1)) as u64).saturating_add(1)
+}
+
+// Each read of the text fails in turn, and then the one that isn't made.
+fn check_reads<R: Abort + Threads + Sync>(
+    rt: &R,
+    alloc: Global,
+    run: &Run<'_>,
+    length: usize,
+    status: &Status,
+) -> Result<(), test::Fail> {
+    for most in [1, 7, 65536] {
+        let reads = reads_of(length, most);
+        for nth in 1..=reads {
+            let fails = Run {
+                most,
+                failing_read: nth,
+                line: b"read fault\n",
+                ..*run
+            };
+            check(rt, alloc, &fails, &Status::ReadFault)?;
+        }
+        let none_fails = Run {
+            most,
+            failing_read: reads.saturating_add(1),
+            ..*run
+        };
+        check(rt, alloc, &none_fails, status)?;
+    }
+    Ok(())
+}
+
+// A text and then another.
+fn joined(alloc: Global, front: &[u8], back: &[u8]) -> Result<Vec<u8>, AllocError> {
+    let mut text = Vec::from_slice(alloc, front)?;
+    text.extend_from_slice(back)?;
+    Ok(text)
+}

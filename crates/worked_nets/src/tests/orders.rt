@@ -1,0 +1,318 @@
+//! The links of a network in order, and what is said of texts that have none.
+use super::{Run, check, check_puts, check_reads, joined, well};
+use lif_top::{NetWhy, Status};
+use net_model::LinkList;
+use net_reader::ReadRefusal::{
+    BadByte, BadLine, BadName, DuplicateLink, DuplicatePattern, DuplicateSink, NoSink, NoSource,
+    RepeatedLink, SecondField, SecondSource, SelfLoop, SinkIsSource, TooMany, UnknownLink,
+};
+use net_reader::{ReadRefusal, What};
+use std::alloc::{AllocError, Global};
+use std::process::Abort;
+use std::test;
+use std::thread::Threads;
+use worked_rows::texts::{BUTTERFLY_TEXT, ONE_LINK_TEXT, THREE_CORES_TEXT};
+
+/// The greatest length of a text.
+const LIMIT: usize = 4_194_304;
+
+/// The links of the butterfly in order.
+const BUTTERFLY_ORDER: &[u8] = b"s-a\ns-b\na-t1\nb-t2\na-c\nb-c\nc-d\nd-t1\nd-t2\n";
+
+// Texts, and their links in order.
+const ORDERS: &[(&[u8], &[u8])] = &[
+    (BUTTERFLY_TEXT, BUTTERFLY_ORDER),
+    (b"source s\nsink t\n", b""),
+    (
+        THREE_CORES_TEXT,
+        b"h-c1\nh-c2\nh-c3\nc1-e1\nc2-e1\nc3-e1\nc1-e2\nc2-e2\nc3-e2\n",
+    ),
+    // The least link that may come is `c`, then `a` before `d`, and `b` only behind `a`.
+    (
+        b"link b a t\nlink c s b\nlink a s a\nlink d b t\nsource s\nsink t",
+        b"c\na\nb\nd\n",
+    ),
+    (
+        b"source s\nsink t\nlink l s t\nlink into q s\n",
+        b"into\nl\n",
+    ),
+];
+
+#[test]
+fn links_are_said_in_order(rt: HostRuntime) -> Result<(), test::Fail> {
+    for &(text, line) in ORDERS {
+        let run = well("order", text, line);
+        check(&rt, rt.alloc(), &run, &Status::Done)?;
+        check_puts(&rt, rt.alloc(), &run, &Status::Done, &Status::WriteFault)?;
+    }
+    Ok(())
+}
+
+#[test]
+fn each_read_fails_in_turn(rt: HostRuntime) -> Result<(), test::Fail> {
+    let run = well("order", BUTTERFLY_TEXT, BUTTERFLY_ORDER);
+    check_reads(&rt, rt.alloc(), &run, BUTTERFLY_TEXT.len(), &Status::Done)
+}
+
+#[test]
+fn a_missing_text_is_a_fault(rt: HostRuntime) -> Result<(), test::Fail> {
+    let run = Run {
+        text: None,
+        ..well("order", b"", b"read fault\n")
+    };
+    check(&rt, rt.alloc(), &run, &Status::ReadFault)
+}
+
+// What stands behind the text of the one link, the links of the cycle, and how they are said.
+const CYCLES: &[(&[u8], &[u32], &str)] = &[
+    (
+        b"link a-b a b\nlink b-c b c\nlink c-a c a\n",
+        &[1, 2, 3],
+        "a-b b-c c-a",
+    ),
+    (
+        b"link c-a c a\nlink b-c b c\nlink a-b a b\n",
+        &[1, 3, 2],
+        "c-a a-b b-c",
+    ),
+    (b"link back t s\n", &[0, 1], "l back"),
+    (
+        b"link on t a\nlink b-a b a\nlink a-b a b\nlink off b c\n",
+        &[2, 3],
+        "b-a a-b",
+    ),
+];
+
+#[test]
+fn a_cycle_is_said(rt: HostRuntime) -> Result<(), test::Fail> {
+    let alloc = rt.alloc();
+    for &(rest, links, said) in CYCLES {
+        let text = joined(alloc, ONE_LINK_TEXT, rest)?;
+        let list = LinkList::of(Vec::from_slice(alloc, links)?);
+        let status = Status::NetRefused(NetWhy::Cycle(list));
+        assert_eq!(rt; status.code(), 3);
+        let line = format!(in alloc; "net refused: cycle {said}\n")?;
+        let run = well("order", &text, line.as_bytes());
+        check(&rt, alloc, &run, &status)?;
+        check_puts(&rt, alloc, &run, &status, &status)?;
+    }
+    Ok(())
+}
+
+// A text is refused, and it is said why.
+fn refuse_text<R: Abort + Threads + Sync>(
+    rt: &R,
+    alloc: Global,
+    text: &[u8],
+    why: ReadRefusal,
+    said: &str,
+) -> Result<(), test::Fail> {
+    let line = format!(in alloc; "net refused: {said}\n")?;
+    let status = Status::NetRefused(NetWhy::Text(why));
+    let run = well("order", text, line.as_bytes());
+    check(rt, alloc, &run, &status)?;
+    check_puts(rt, alloc, &run, &status, &status)
+}
+
+// A text, or what stands behind that of the one link, with its refusal and how it is said.
+type Refused = (&'static [u8], ReadRefusal, &'static str);
+
+const BEHIND_ONE_LINK: &[Refused] = &[
+    (b"sink \x01\n", BadByte { line: 4 }, "line 4: BadByte"),
+    (b"sink t2\r\r\n", BadByte { line: 4 }, "line 4: BadByte"),
+    (b"field 9\n", BadLine { line: 4 }, "line 4: BadLine"),
+    (b"pattern f\n", BadLine { line: 4 }, "line 4: BadLine"),
+    (b"link a/b s t\n", BadName { line: 4 }, "line 4: BadName"),
+    (b"link a/b s s\n", BadName { line: 4 }, "line 4: BadName"),
+    (
+        b"link l a a\n",
+        DuplicateLink { line: 4 },
+        "line 4: DuplicateLink",
+    ),
+    (
+        b"pattern none l\n",
+        DuplicatePattern { line: 4 },
+        "line 4: DuplicatePattern",
+    ),
+    (
+        b"sink t\n",
+        DuplicateSink { line: 4 },
+        "line 4: DuplicateSink",
+    ),
+    (
+        b"source s\n",
+        SecondSource { line: 4 },
+        "line 4: SecondSource",
+    ),
+    (b"link k a a\n", SelfLoop { line: 4 }, "line 4: SelfLoop"),
+    (
+        b"pattern f x\n",
+        UnknownLink { line: 4 },
+        "line 4: UnknownLink",
+    ),
+    (
+        b"pattern f l l\n",
+        RepeatedLink { line: 4 },
+        "line 4: RepeatedLink",
+    ),
+    (
+        b"field 8\nfield 8\n",
+        SecondField { line: 5 },
+        "line 5: SecondField",
+    ),
+    // A cycle isn't looked for where a line is refused.
+    (
+        b"link k t s\n\n# k\r\n\t\r\nsink",
+        BadLine { line: 8 },
+        "line 8: BadLine",
+    ),
+    (b"sink s\n", SinkIsSource { sink: 0 }, "SinkIsSource s"),
+];
+
+const TEXTS: &[Refused] = &[
+    (b"", NoSource, "NoSource"),
+    (b"link l s t # s\r\n", NoSource, "NoSource"),
+    (b"source s\n", NoSink, "NoSink"),
+    (
+        b"link l s t\nlink k t s\nsource s\n# sink t\n",
+        NoSink,
+        "NoSink",
+    ),
+    (
+        b"sink t\nlink l u s\nsink s\nsource s",
+        SinkIsSource { sink: 2 },
+        "SinkIsSource s",
+    ),
+    (
+        b"source 1234567890-234567890_234567890.2\nsink 1234567890-234567890_234567890.2\n",
+        SinkIsSource { sink: 0 },
+        "SinkIsSource 1234567890-234567890_234567890.2",
+    ),
+];
+
+#[test]
+fn texts_of_no_network_are_refused(rt: HostRuntime) -> Result<(), test::Fail> {
+    let alloc = rt.alloc();
+    for &(rest, why, said) in BEHIND_ONE_LINK {
+        let text = joined(alloc, ONE_LINK_TEXT, rest)?;
+        refuse_text(&rt, alloc, &text, why, said)?;
+    }
+    for &(text, why, said) in TEXTS {
+        refuse_text(&rt, alloc, text, why, said)?;
+    }
+    Ok(())
+}
+
+// Lines of numbers from 0 on, behind others.
+fn numbered(
+    alloc: Global,
+    front: &str,
+    before: &str,
+    behind: &str,
+    count: u64,
+) -> Result<String, AllocError> {
+    let mut text = String::from_str(alloc, front)?;
+    for number in 0..count {
+        text.push_str(format!(in alloc; "{before}{number}{behind}")?.as_str())?;
+    }
+    Ok(text)
+}
+
+// A text of many lines: what it begins with, what stands in each line before and behind its number, how many there
+// may be, and what one more is refused for. Its links are named `l` with a number.
+struct Many {
+    front: &'static str,
+    before: &'static str,
+    behind: &'static str,
+    most: u64,
+    links: u64,
+    why: ReadRefusal,
+    said: &'static str,
+}
+
+const MANY: &[Many] = &[
+    Many {
+        front: "source s\n",
+        before: "sink t",
+        behind: "\n",
+        most: 4095,
+        links: 0,
+        why: TooMany {
+            line: 4097,
+            what: What::Nodes,
+        },
+        said: "line 4097: TooMany Nodes",
+    },
+    Many {
+        front: "source s\nsink t\n",
+        before: "link l",
+        behind: " s t\n",
+        most: 8192,
+        links: 8192,
+        why: TooMany {
+            line: 8195,
+            what: What::Links,
+        },
+        said: "line 8195: TooMany Links",
+    },
+    Many {
+        front: "source s\nsink t\nlink l0 s t\n",
+        before: "pattern p",
+        behind: " l0\n",
+        most: 4095,
+        links: 1,
+        why: TooMany {
+            line: 4099,
+            what: What::Patterns,
+        },
+        said: "line 4099: TooMany Patterns",
+    },
+];
+
+// As many lines as there may be are a network's, and one more is refused.
+fn check_many<R: Abort + Threads + Sync>(
+    rt: &R,
+    alloc: Global,
+    many: &Many,
+) -> Result<(), test::Fail> {
+    let Many {
+        front,
+        before,
+        behind,
+        most,
+        links,
+        why,
+        said,
+    } = *many;
+    let text = numbered(alloc, front, before, behind, most)?;
+    let line = numbered(alloc, "", "l", "\n", links)?;
+    let run = well("order", text.as_bytes(), line.as_bytes());
+    check(rt, alloc, &run, &Status::Done)?;
+    let text = numbered(alloc, front, before, behind, most.saturating_add(1))?;
+    refuse_text(rt, alloc, text.as_bytes(), why, said)
+}
+
+#[test]
+fn one_too_many_is_refused(rt: HostRuntime) -> Result<(), test::Fail> {
+    for many in MANY {
+        check_many(&rt, rt.alloc(), many)?;
+    }
+    Ok(())
+}
+
+#[test]
+fn a_text_has_a_limit(rt: HostRuntime) -> Result<(), test::Fail> {
+    let alloc = rt.alloc();
+    let mut text = joined(alloc, ONE_LINK_TEXT, b"#")?;
+    for _ in text.len()..LIMIT {
+        text.push(b'x')?;
+    }
+    check(&rt, alloc, &well("order", &text, b"l\n"), &Status::Done)?;
+    text.push(b'x')?;
+    check(
+        &rt,
+        alloc,
+        &well("order", &text, b"too long\n"),
+        &Status::TooLong,
+    )
+}
