@@ -1,0 +1,115 @@
+#!/usr/bin/env python3
+"""Writes a network text to standard output, made from the format that docs/FORMATS.md gives.
+
+`patterns` and `comments` are texts of the most bytes, links and nodes that there can be. Their links lead from a node
+to a later one, and the lines stand in no order. `patterns` has the most listed patterns too, behind the links, and
+nearly all of its bytes are names of links in patterns. In `comments` nearly all bytes are comments, one behind each
+link and five in lines of their own, and each line ends with a carriage return.
+
+`combination MIDDLES SIZE` has a link from the source to each middle node, and a sink for each set of so many middle
+nodes, with a link from each of them.
+
+`layers LAYERS WIDTH DEGREE PATTERNS` has so many layers of so many nodes. The source has as many links to each node
+of the first layer as the degree is, and each node of a layer as many to different nodes of the next one. The nodes of
+the last layer are the sinks. Pattern p fails all links into one layer but p, which are spread evenly; the layers take
+turns, all but the last one.
+"""
+import itertools
+import random
+import string
+import sys
+
+MOST_BYTES, MOST_NODES, MOST_LINKS, MOST_PATTERNS = 4194304, 4096, 8192, 4095
+
+# What stands in the comments behind links.
+SIDES = ("east", "west")
+
+
+def scattered_links(chance):
+    """The words of the most links, in no order, between the most nodes."""
+    heads = list(range(1, MOST_NODES)) + [chance.randrange(1, MOST_NODES) for _ in range(MOST_LINKS - MOST_NODES + 1)]
+    links = [f"link l{number} n{chance.randrange(head)} n{head}" for number, head in enumerate(heads)]
+    chance.shuffle(links)
+    return links
+
+
+def ends(sinks):
+    """The lines of the source and of so many sinks, which are the last nodes."""
+    return ["source n0"] + [f"sink n{MOST_NODES - sinks + sink}" for sink in range(sinks)]
+
+
+def failing(chance, number, room):
+    """The line of a pattern, with a comment that fills it up to so many bytes with the line feed."""
+    line = f"pattern p{number}"
+    comment = " # fail together"
+    room -= len(line) + len(comment) + 1
+    names = "".join(f" l{link}" for link in chance.sample(range(MOST_LINKS), room // len(" l1000")))
+    return line + names + comment + (room - len(names)) * "."
+
+
+def patterns():
+    chance = random.Random(1)
+    lines = ends(16) + [f"{link} # {side}" for link, side in zip(scattered_links(chance), itertools.cycle(SIDES))]
+    room = MOST_BYTES - sum(len(line) + 1 for line in lines)
+    for before in range(MOST_PATTERNS):
+        lines.append(failing(chance, before + 1, room // (MOST_PATTERNS - before)))
+        room -= len(lines[-1]) + 1
+    return "".join(line + "\n" for line in lines)
+
+
+def remark(chance, length):
+    """A comment of so many bytes."""
+    return "#" + "".join(chance.choices(string.ascii_letters + "    ,.#\t", k=length - 1))
+
+
+def comments():
+    chance = random.Random(2)
+    lines = ends(16)
+    starts = [start for link in scattered_links(chance) for start in (link + " ", "", "", "", "", "")]
+    room = MOST_BYTES - sum(len(line) + 2 for line in lines + starts)
+    for before, start in enumerate(starts):
+        length = room // (len(starts) - before)
+        lines.append(start + remark(chance, length))
+        room -= length
+    return "".join(line + "\r\n" for line in lines)
+
+
+def combination(middles, size):
+    nodes = range(1, middles + 1)
+    sets = list(enumerate(itertools.combinations(nodes, size), 1))
+    lines = ["source s"]
+    lines += [f"link a{middle} s m{middle}" for middle in nodes]
+    lines += [f"link b{sink}-{middle} m{middle} t{sink}" for sink, members in sets for middle in members]
+    lines += [f"sink t{sink}" for sink, _ in sets]
+    return "".join(line + "\n" for line in lines)
+
+
+def layers(count, width, degree, listed):
+    lines = ["source s"]
+    for layer in range(count):
+        for node, step in itertools.product(range(width), range(degree)):
+            tail = f"n{layer - 1}.{node}" if layer > 0 else "s"
+            head = (5 * node + 3 * step + 7 * layer) % width if layer > 0 else node
+            lines.append(f"link l{layer}.{node * degree + step} {tail} n{layer}.{head}")
+    lines += [f"sink n{count - 1}.{node}" for node in range(width)]
+    into = width * degree
+    for pattern in range(1, listed + 1):
+        kept = {place * into // pattern for place in range(pattern)}
+        layer = (pattern - 1) % (count - 1)
+        names = [f"l{layer}.{link}" for link in range(into) if link not in kept]
+        lines.append(" ".join([f"pattern p{pattern}"] + names))
+    return "".join(line + "\n" for line in lines)
+
+
+KINDS = {"patterns": (patterns, 0), "comments": (comments, 0), "combination": (combination, 2), "layers": (layers, 4)}
+USAGE = "patterns | comments | combination MIDDLES SIZE | layers LAYERS WIDTH DEGREE PATTERNS"
+
+
+def main(kind="", *words):
+    make, count = KINDS.get(kind, (None, 0))
+    if make is None or len(words) != count:
+        sys.exit(f"usage: networks.py {USAGE}")
+    sys.stdout.write(make(*map(int, words)))
+
+
+main(*sys.argv[1:])
