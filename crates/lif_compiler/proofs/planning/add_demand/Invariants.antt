@@ -1,0 +1,6 @@
+use Rattle.lif_compiler.specs.Planning.{Gains, hops_on_paths}
+use Rattle.lif_compiler.proofs.planning.add_demand.Given as goal
+
+-- the hops of the paths before this one are added
+abbrev pub invariant-loop-path : goal.invariant-loop-path
+invariant-loop-path l = Gains (hops_on_paths l.demand l.paths l.path) l.initial.hops l.hops

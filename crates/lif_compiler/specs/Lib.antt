@@ -1,0 +1,11 @@
+pub mod Hops
+pub mod InOrderLaws
+pub mod Frontier
+pub mod FrontierLaws
+pub mod DraftLaws
+pub mod DecoderLaws
+pub mod Routes
+pub mod RouteLaws
+pub mod Planning
+pub mod PlanningLaws
+pub mod Butterfly
