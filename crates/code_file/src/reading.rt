@@ -1,6 +1,5 @@
 //! All of a code file.
 ghost use Rattle.std.specs.Prelude.{◌≡◌, ◌≢◌, ◌≤◌, ◌^◌, length, Err, IfOk, IfErr};
-ghost use Rattle.node_program.specs.Code.{choice_of};
 ghost use Rattle.node_program.specs.declared.code.Code.{Code as SpecCode};
 ghost use Rattle.code_file.specs.Items.{bytes_of};
 ghost use Rattle.code_file.specs.Reading.{contents_of};
@@ -14,9 +13,8 @@ use crate::front::front;
 use crate::operands::operand_table;
 use crate::parts::{Front, Parts};
 use crate::rest::Rest;
-use gf_tables::FieldKind;
-use net_model::{FieldChoice, Net};
-use node_program::{Code, DecoderTable, OperandTable};
+use net_model::Net;
+use node_program::{Code, DecoderTable, OperandTable, choice_of};
 use std::alloc::Global;
 
 /// What stands at the front of a code file.
@@ -39,16 +37,6 @@ fn read_parts(alloc: Global, bytes: &[u8]) -> Result<Parts, CodeRefusal>
         operands: OperandTable::of(operands),
         decoders: DecoderTable::of(decoders),
     })
-}
-
-// The choice that names a field.
-fn choice_of(field: FieldKind) -> FieldChoice
-    ensures { result ≡ choice_of field }
-{
-    match field {
-        FieldKind::Eight => FieldChoice::Eight,
-        FieldKind::Sixteen => FieldChoice::Sixteen,
-    }
 }
 
 // The code of its parts.

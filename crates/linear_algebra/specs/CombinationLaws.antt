@@ -1,7 +1,8 @@
 -- Laws of combinations of rows. A combination of rows of one width is a row of that width. It is linear in its rows
 -- and in its coefficients.
-use Rattle.std.specs.Prelude.{◌≡◌, ℕ, zero, suc, ◌+◌, ◌-◌, ◌<◌, ◌≤◌, ◌==◌, true, false, List, [], ◌∷◌, ◌++◌, length, map, take, drop, slice_get, slice_index, unwrap_or, if◌then◌else◌}
+use Rattle.std.specs.Prelude.{◌≡◌, ℕ, zero, suc, ◌+◌, ◌-◌, ◌<◌, ◌≤◌, ◌==◌, true, false, bit_xor, List, [], ◌∷◌, ◌++◌, length, map, take, drop, slice_get, slice_index, unwrap_or, if◌then◌else◌}
 use Rattle.std.proofs.Common.{arith, refl, sym, ap, ◌∙◌, get_or}
+use Rattle.std.proofs.Math.Path.{ap₂}
 use borrow.Author.Tests.{eq-eqb}
 use Rattle.std.proofs.lemmas.Bool.{ne_eqb}
 use Rattle.std.proofs.lemmas.List.{take-map, drop-map, take-replicate, drop-replicate}
@@ -11,6 +12,7 @@ use Rattle.std.specs.List.{All, range_with_len}
 use Rattle.gf_tables.specs.Product.{product, size_of}
 use Rattle.gf_tables.specs.declared.kind.FieldKind.{FieldKind}
 use Rattle.gf_tables.specs.declared.kind.FieldKind.TheVariants.{Eight}
+use Rattle.linear_algebra.specs.DotLaws.{dot-add_rows_left, dot-scale_row_left, dot-zero_row_left}
 use Rattle.linear_algebra.specs.Matrices.{column, add_blocks}
 use Rattle.linear_algebra.specs.RowLaws.{AreElements-head, AreElements-tail, add_rows-exchange, add_rows-assoc, add_rows-zero_row, zero_row-add_rows, zero_row-zero_row, length-add_rows, add_rows-IsRow, zero_row-IsRow, scale_row-IsRow, scale_row-one, scale_row-zero, scale_row-zero_row, length-scale_row, scale_row-scale_row, scale_row-comm, scale_row-add_rows, scale_row-xor, scale_row-inverse, AreRows-get_or, take-add_rows, drop-add_rows, unit_row-before, slice_index-add_rows, slice_index-scale_row, slice_index-zero_row}
 use Rattle.linear_algebra.specs.Rows.{add_rows, scale_row, zero_row, unit_row, combination, dot, AreElements, IsRow, AreRows}
@@ -248,3 +250,16 @@ drop-combination field width n (times ∷ coefficients) (row ∷ rows) h =
       drop-map (product field times) n row,
       drop-combination field width n coefficients rows h.1,
     ) refl
+
+-- the product of a combination of rows and a row is the sum of the products with the coefficients
+pub dot-combination : (field : FieldKind) (width : ℕ) (coefficients : List ℕ) (rows : List (List ℕ)) (v : List ℕ) → AreElements field coefficients → AreRows field width rows → IsRow field width v
+    → dot field (combination field width coefficients rows) v ≡ dot field coefficients (map (λ row. dot field row v) rows)
+dot-combination field width [] rows v h k l = dot-zero_row_left field width v
+dot-combination field width (times ∷ coefficients) [] v h k l = dot-zero_row_left field width v
+dot-combination field width (times ∷ coefficients) (row ∷ rows) v h k l =
+    let below = AreElements-head field times coefficients h in
+    let rest = AreElements-tail field times coefficients h in
+    let first = scale_row-IsRow field width times row below k.0 in
+    let others = combination-IsRow field width coefficients rows rest k.1 in
+    dot-add_rows_left field (scale_row field times row) (combination field width coefficients rows) v first.elements others.elements l.elements (first.width ∙ sym others.width)
+    ∙ ap₂ bit_xor (dot-scale_row_left field times row v below k.0.elements l.elements) (dot-combination field width coefficients rows v rest k.1 l)

@@ -1,1 +1,2 @@
+pub mod CarrySteps
 pub mod VectorSteps

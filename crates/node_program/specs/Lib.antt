@@ -7,6 +7,7 @@ pub mod OperandLaws
 pub mod ValueLaws
 pub mod BlockLaws
 pub mod VectorLaws
+pub mod Carried
 pub mod Vectors
 pub mod DecodingLaws
 pub mod LiveLaws

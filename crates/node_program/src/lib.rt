@@ -1,12 +1,16 @@
 //! Linear network codes as values, and what their links carry.
 #![tactic(auto)]
 
+mod carrying;
+mod choice;
 mod code;
 mod link_vectors;
 mod lists;
 mod live_table;
 mod liveness;
 
+pub use carrying::carry;
+pub use choice::choice_of;
 pub use code::Code;
 pub use gf_tables::FieldKind;
 pub use link_vectors::vectors;

@@ -1,10 +1,10 @@
 //! The global coding vectors of a code's links under a pattern.
-ghost use Rattle.std.specs.Prelude.{◌≡◌, ◌<◌, ◌+◌, false, length, IfOk};
+ghost use Rattle.std.specs.Prelude.{◌≡◌, ◌<◌, length, IfOk};
 ghost use Rattle.gf_tables.specs.Kind.{IsOfKind};
-ghost use Rattle.net_model.specs.Failed.{is_failed_in};
 ghost use Rattle.node_program.specs.Vectors.{AreVectors, AreVectorsBefore};
 
 use crate::Code;
+use crate::carrying::carry;
 use crate::liveness::{leaves_source, operands_of};
 use counted_steps::Steps;
 use field_vectors::Matrix;
@@ -40,34 +40,8 @@ fn fill<F: Field, L: Ledger>(vectors: &mut Matrix<F>, code: &Code, pattern: u32,
     let mut steps = Steps::<L>::start(blank);
     for link in 0..vectors.rows() {
         if !code.net.is_failed(pattern, link) {
-            add_operands(vectors, code, pattern, link, &mut steps);
-        }
-    }
-}
-
-// Adds the operands of a link to its row, which is zero.
-fn add_operands<F: Field, L: Ledger>(
-    vectors: &mut Matrix<F>,
-    code: &Code,
-    pattern: u32,
-    link: u32,
-    steps: &mut Steps<L>,
-)
-    requires link { link < length code.now.net.links }
-    requires whole { is_failed_in code.now.net.patterns pattern link ≡ false }
-    requires field { IsOfKind code.now.field F.SIZE F.BYTES F.MARK F.product }
-    requires before { AreVectorsBefore F.number F.zero code.now pattern link vectors.old }
-    ensures { AreVectorsBefore F.number F.zero code.now pattern (link + 1) vectors.new }
-{
-    let leaves = leaves_source(code, link);
-    for operand in operands_of(code, link) {
-        let _rows = vectors.rows();
-        let times = F::of_number(operand.times);
-        if leaves {
-            let sum = vectors.at(link, operand.from).add(times);
-            vectors.set(link, operand.from, sum);
-        } else {
-            vectors.add_row(link, times, operand.from, steps);
+            let leaves = leaves_source(code, link);
+            carry(vectors, link, leaves, operands_of(code, link), &mut steps);
         }
     }
 }

@@ -1,19 +1,33 @@
-use Rattle.std.proofs.Common.{◌+◌, sym, subst, ◌∙◌, arith}
+use Rattle.std.proofs.Common.{◌+◌, ◌<◌, length, Bool, List, sym, subst, ◌∙◌, arith}
 use Rattle.field_vectors.specs.Grid.{Grid}
-use Rattle.node_program.proofs.VectorSteps.{failed_before}
+use Rattle.node_program.proofs.VectorSteps.{failed_before, carried_before}
+use Rattle.node_program.specs.Carried.{IsCarried}
+use Rattle.node_program.specs.Value.{leaves_source}
 use Rattle.node_program.specs.Vectors.{AreVectorsBefore}
+use Rattle.node_program.specs.declared.Operand.{Operand}
 use Rattle.node_program.proofs.link_vectors.fill.Goals as goal
 use Rattle.node_program.proofs.link_vectors.fill.Goals.{then-not-is_failed, else-not-is_failed}
 
 pub loop-link-preserved : goal.loop-link-preserved
 loop-link-preserved g c =
-    let Made : Grid g.row.F.Denot → Type 0 =
-    AreVectorsBefore g.F.Field.number g.F.Field.zero c.args.code.now c.args.pattern (c.loop-link.link + 1) in
+    let number = g.F.Field.number in
+    let nil = g.F.Field.zero in
+    let code = c.args.code.now in
+    let link = c.loop-link.link in
+    let old = c.loop-link.vectors in
+    let before = c.loop-link.invariant in
+    let within : link < length code.net.links = omega (arith, c.loop-link-test.true, c.rows-link-end.ensures.value, before.rows) in
+    let Made : Grid g.row.F.Denot → Type 0 = AreVectorsBefore number nil code c.args.pattern (link + 1) in
     elim c.if-not-is_failed.branch [
-      | then-not-is_failed w ↦ subst Made (sym w.vectors-is) w.add_operands.ensures
+      | then-not-is_failed w ↦
+          let new = w.carry.new.vectors in
+          let Leaving : Bool → Type 0 = λ leaves. IsCarried code.field number leaves w.operands_of.result.now link old new in
+          let Reading : List Operand → Type 0 = λ operands. IsCarried code.field number (leaves_source code.net link) operands link old new in
+          subst Made (sym w.vectors-is)
+          (carried_before number nil code c.args.pattern link old new within (sym c.is_failed.ensures ∙ w.if-not-is_failed.true) before
+          (subst Reading w.operands_of.ensures.value (subst Leaving w.leaves_source-leaves.ensures (w.carry.ensures code.field c.requires.field))))
       | else-not-is_failed w ↦
           subst Made (sym w.vectors-is)
-          (failed_before g.F.Field.number g.F.Field.zero c.args.code.now c.args.pattern c.loop-link.link c.loop-link.vectors g.met.F.Field.number_zero
-          (omega (arith, c.loop-link-test.true, c.rows-link-end.ensures.value, c.loop-link.invariant.rows))
-          (sym c.is_failed.ensures ∙ w.if-not-is_failed.false) c.loop-link.invariant)
+          (failed_before number nil code c.args.pattern link old g.met.F.Field.number_zero within
+          (sym c.is_failed.ensures ∙ w.if-not-is_failed.false) before)
     ]
