@@ -1,1 +1,11 @@
 pub mod RouteSteps
+pub mod TableSteps
+pub mod CarrySteps
+pub mod RenewSteps
+pub mod ChoosingSteps
+pub mod ReadySteps
+pub mod AfterSteps
+pub mod StandSteps
+pub mod StartSteps
+pub mod AllSteps
+pub mod BuildSteps

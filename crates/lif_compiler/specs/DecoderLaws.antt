@@ -1,7 +1,6 @@
--- The decoder of a basis. Its links lie on different paths, each link carries the vector of its path, and the column of
--- a link has the entries of its path's inverse vector. So its matrix times the vectors of its links is the identity,
--- and it gives back every block.
-use Rattle.std.specs.Prelude.{◌≡◌, ℕ, zero, suc, ◌+◌, ◌*◌, ◌<◌, ◌==◌, bit_xor, Some, List, [], ◌∷◌, length, map, slice_get, slice_index, slice_index_or, if◌then◌else◌}
+-- Laws of the decoder of a basis: its matrix times the vectors of its links is the identity, and it gives back every
+-- block.
+use Rattle.std.specs.Prelude.{◌≡◌, ℕ, zero, suc, ◌*◌, ◌<◌, ◌==◌, bit_xor, Some, List, [], ◌∷◌, length, map, slice_get, slice_index, slice_index_or, if◌then◌else◌}
 use Rattle.std.specs.Int.Bits.{xor_assoc, xor_self, xor_zero_r}
 use Rattle.std.specs.List.{All, range_with_len, swap}
 use Rattle.std.specs.List.Sorted.{IsPermutation}
@@ -17,8 +16,6 @@ use Rattle.std.proofs.lemmas.Simd.{map-map}
 use Rattle.gf_tables.specs.Product.{product}
 use Rattle.gf_tables.specs.declared.kind.FieldKind.{FieldKind}
 use Rattle.net_model.specs.Demands.{demand_count, pattern_of_demand}
-use Rattle.net_model.specs.Failed.{failed_links}
-use Rattle.net_model.specs.declared.net.Net.{Net}
 use Rattle.linear_algebra.specs.EntryLaws.{rows_of-AreRows, slice_index-rows_of}
 use Rattle.linear_algebra.specs.Matrices.{column, identity, rows_of, times_rows}
 use Rattle.linear_algebra.specs.MatrixLaws.{length-column, length-rows_of, times_rows-columns}
@@ -27,36 +24,9 @@ use Rattle.linear_algebra.specs.Rows.{AreElements, AreRows, IsRow, dot, unit_row
 use Rattle.node_program.specs.CodeValue.{vector_in}
 use Rattle.node_program.specs.Decoding.{IsAccepted, decoder_matrix, decoder_vectors}
 use Rattle.node_program.specs.DecodingLaws.{IsAccepted-identity, decoder_of_demand}
-use Rattle.node_program.specs.Value.{global_vector}
 use Rattle.node_program.specs.declared.Decoder.{Decoder}
-use Rattle.node_program.specs.declared.Operand.{Operand}
 use Rattle.node_program.specs.declared.code.Code.{Code}
-
--- so many vectors of that length and as many inverse vectors: the product of place i of the inverses and place j of the
--- vectors is 1 for i = j and 0 otherwise
-pub record AreInverse (field : FieldKind) (rate : ℕ) (vectors inverses : List (List ℕ)) : Type 0 where
-  pub vectors_high : length vectors ≡ rate
-  pub vector_rows : AreRows field rate vectors
-  pub inverses_high : length inverses ≡ rate
-  pub spans : (i j : ℕ) → i < rate → j < rate → dot field (column i inverses) (column j vectors) ≡ (if i == j then 1 else 0)
-
--- Entries that stand row by row, for links that lie on paths, each path with one of the links: entry j of row i is
--- place i of the inverse vector of the path of link j.
-pub record AreInverseEntries (rate : ℕ) (inverses : List (List ℕ)) (paths entries : List ℕ) : Type 0 where
-  pub each_path : IsPermutation (range_with_len 0 rate) paths
-  pub entry : (i j : ℕ) → i < rate → j < rate → slice_index entries (i * rate + j) ≡ slice_index (slice_index_or inverses (slice_index paths j) []) i
-
--- A demand's decoder that comes from a basis: each of its links carries the vector of its path under the demand's
--- pattern, and its entries are of the inverse vectors.
-pub record IsBasisDecoder (net : Net) (rate : ℕ) (field : FieldKind) (operands : List (List Operand)) (demand : ℕ) (decoder : Decoder) : Type 0 where
-  pub vectors : List (List ℕ)
-  pub inverses : List (List ℕ)
-  pub paths : List ℕ
-  pub basis : AreInverse field rate vectors inverses
-  pub entries : AreInverseEntries rate inverses paths decoder.entries
-  pub vector : (j : ℕ) → j < rate
-      → global_vector net field operands (failed_links net.patterns (pattern_of_demand net demand)) rate (slice_index decoder.links j)
-      ≡ slice_index_or vectors (slice_index paths j) []
+use Rattle.lif_compiler.specs.Decoders.{AreInverse, AreInverseEntries, IsBasisDecoder}
 
 -- a summand and a later one change places
 xor-outer : (a b c : ℕ) → bit_xor (bit_xor a b) c ≡ bit_xor (bit_xor c b) a

@@ -1,5 +1,4 @@
--- Drafts of a compiler that visits the links 0, 1, 2, .. in order and gives each its operands. Links that it hasn't
--- visited yet have none, and what it gives to later links doesn't change the vectors of the earlier ones.
+-- Laws of drafts: what the compiler gives to later links doesn't change the vectors of the earlier ones.
 use Rattle.std.specs.Prelude.{◌≡◌, ℕ, zero, suc, ◌-◌, ◌<◌, ◌≤◌, true, Some, List, [], ◌∷◌, ◌++◌, IsTrue, length, map, replicate, slice_get, if◌then◌else◌}
 use Rattle.std.specs.List.{All}
 use Rattle.std.proofs.Common.{refl, sym, ap, ◌∙◌, subst, arith, get_or, inl, inr}
@@ -20,10 +19,7 @@ use Rattle.node_program.specs.Value.{width_of, row_at, operands_at, leaves_sourc
 use Rattle.node_program.specs.ValueLaws.{map-agree, value_from-agree}
 use Rattle.node_program.specs.VectorLaws.{global_vector-equation}
 use Rattle.node_program.specs.declared.Operand.{Operand}
-
--- the operands of the visited links, and then none for each other link, of so many links in all
-abbrev pub draft_of : ℕ → List (List Operand) → List (List Operand)
-draft_of count visited = visited ++ replicate (count - length visited) []
+use Rattle.lif_compiler.specs.Drafts.{draft_of}
 
 -- no operands fit each link
 no_operands : (net : Net) (rate : ℕ) (field : FieldKind) (links : List Link) → are_operands_of net rate field links (replicate (length links) []) ≡ true

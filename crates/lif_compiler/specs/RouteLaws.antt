@@ -50,14 +50,14 @@ AreCertificates-below net certs are number none within =
 -- the routes of the demands of a network, by its certificates
 module _ (net : Net) (certs : List Cert) (order : List ℕ) (rate : ℕ) (are : AreCertificates net certs) where
   -- the certificate of a demand
-  cert_of : (number : ℕ) → number < demand_count net → (cert : Cert) × (slice_get certs number ≡ Some cert)
+  pub cert_of : (number : ℕ) → number < demand_count net → (cert : Cert) × (slice_get certs number ≡ Some cert)
   cert_of number within = elim (slice_get_cases certs number).1 [
     | inl found ↦ (found.0, found.2)
     | inr past ↦ absurd (omega (arith, are.each_demand, past.0))
   ]
 
   -- the routes of the demand of a certificate
-  routes_there : (number : ℕ) (cert : Cert) → slice_get certs number ≡ Some cert → unwrap_or (slice_get (routes_of_certs order rate certs) number) [] ≡ renumbered_paths order (take rate cert.paths)
+  pub routes_there : (number : ℕ) (cert : Cert) → slice_get certs number ≡ Some cert → unwrap_or (slice_get (routes_of_certs order rate certs) number) [] ≡ renumbered_paths order (take rate cert.paths)
   routes_there number cert there =
       let route : Cert → List (List ℕ) = λ cert. renumbered_paths order (take rate cert.paths) in
       ap (λ (found : Option (List (List ℕ))). unwrap_or found []) (slice_get-map route certs number ∙ ap (option_map route) there)

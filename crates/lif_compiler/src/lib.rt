@@ -1,11 +1,26 @@
 //! The Linear Information Flow compiler (Jaggi et al. 2005).
 #![tactic(auto)]
 
+mod carrying;
+mod choosing;
+mod compiling;
+mod decoding;
+mod draft;
 mod hops;
+mod kinds;
+mod operands;
 mod planning;
+mod rating;
+mod refusal;
+mod renewing;
 mod routes;
+mod starting;
+mod table;
+mod visiting;
 
+pub use compiling::compile;
 pub use hops::{Hop, HopList};
+pub use refusal::CompileRefusal;
 
 #[cfg(test)]
 mod tests;

@@ -2,12 +2,15 @@ ghost use Rattle.std.specs.Prelude.{◌≡◌, [], ◌∷◌, IfOk};
 ghost use Rattle.lif_compiler.specs.Butterfly.{butterfly_certs, butterfly_order};
 ghost use Rattle.lif_compiler.specs.Routes.{routes_of_certs};
 
+use crate::operands::{operands_with, places_of, sources_of};
 use crate::planning::hops_of;
 use crate::routes::routes_of;
 use crate::{Hop, HopList};
 use cut_witness::Cert;
+use gf_tables::{Field, Gf8};
 use item_list::ItemList;
 use net_model::{Demand, Paths};
+use node_program::Operand;
 use std::alloc::Global;
 use std::test;
 
@@ -93,5 +96,20 @@ fn routes_and_hops_of_the_butterfly(rt: HostRuntime) -> Result<(), test::Fail> {
     assert!(rt; are_over(&hops, 2, &[hop(1, 0, 0)]));
     assert!(rt; are_over(&hops, 6, &[hop(0, 1, 4), hop(1, 0, 2)]));
     assert!(rt; are_over(&hops, 8, &[hop(1, 0, 6)]));
+    Ok(())
+}
+
+#[test]
+fn operands_of_hops(rt: HostRuntime) -> Result<(), test::Fail> {
+    let hops = [hop(0, 0, 7), hop(1, 1, 2), hop(2, 0, 7), hop(3, 1, 4)];
+    let sources = sources_of(rt.alloc(), &hops)?;
+    assert_eq!(rt; sources.as_slice(), [2, 4, 7].as_slice());
+    let places = places_of(rt.alloc(), &hops, &sources)?;
+    assert_eq!(rt; places.as_slice(), [2, 0, 2, 1].as_slice());
+    assert_eq!(rt; sources.len(), 3);
+    let coefficients = [Gf8::of_number(5), Gf8::zero(), Gf8::one()];
+    let operands = operands_with(rt.alloc(), &sources, &coefficients)?;
+    let wanted = [Operand { from: 2, times: 5 }, Operand { from: 7, times: 1 }];
+    assert_eq!(rt; operands.as_slice(), wanted.as_slice());
     Ok(())
 }

@@ -1,0 +1,92 @@
+-- Steps of a code's making from certificates.
+use Rattle.std.specs.Prelude.{◌≡◌, ◌≤◌, ℕ, IsTrue, List, [], All, Some, length, slice_get, slice_index_or}
+use Rattle.std.proofs.Common.{sym, ap, ◌∙◌, arith, get_or, subst}
+use Rattle.std.proofs.lemmas.List.Elements.{All-weaker}
+use Rattle.std.proofs.lemmas.Option.{slice_get-get_or, unwrap_or-slice_get}
+use Rattle.cut_witness.specs.Certificate.{AreCertificates, IsLeastValue}
+use Rattle.cut_witness.specs.declared.cert.Cert.{Cert}
+use Rattle.gf_tables.specs.Product.{size_of}
+use Rattle.gf_tables.specs.declared.kind.FieldKind.{FieldKind}
+use Rattle.net_model.specs.Demands.{demand_count}
+use Rattle.net_model.specs.Renumbering.{HasEachOnce, renumbered_links}
+use Rattle.net_model.specs.RenumberingLaws.{length-renumbered_links}
+use Rattle.net_model.specs.Walks.{IsAcyclic}
+use Rattle.net_model.specs.declared.net.Net.{Net}
+use Rattle.node_program.specs.Code.{are_in_order, choice_of}
+use Rattle.node_program.specs.Value.{leaves_source, operands_at}
+use Rattle.node_program.specs.declared.Decoder.{Decoder}
+use Rattle.node_program.specs.declared.Operand.{Operand}
+use Rattle.node_program.specs.declared.code.Code.{Code}
+use Rattle.topo_order.specs.Order.{order_of}
+use Rattle.lif_compiler.specs.Compiled.{Feeds, IsCompiled, IsOfPaths, IsRenumbered}
+use Rattle.lif_compiler.specs.Hops.{AreHops}
+use Rattle.lif_compiler.specs.InOrderLaws.{HasEachOnce-order_of, are_in_order-renumbered}
+use Rattle.lif_compiler.specs.OriginLaws.{AreRoutes-renumbered, Feeds-of_hop}
+use Rattle.lif_compiler.specs.RouteLaws.{routes-count}
+use Rattle.lif_compiler.specs.Routes.{routes_of_certs}
+use Rattle.lif_compiler.specs.Visits.{AreRoutes, AreVisitable, IsFilled, IsOfHop}
+use Rattle.lif_compiler.specs.declared.hops.Hop.{Hop}
+
+-- the order of a network without a cycle has each link once
+pub order_once : (net : Net) (order : List ℕ) → order ≡ order_of net.links → IsAcyclic net.links → HasEachOnce (length net.links) order
+order_once net order is acyclic = subst (HasEachOnce (length net.links)) (sym is) (HasEachOnce-order_of net.links acyclic)
+
+-- each certificate has as many paths as the least value says
+pub enough_paths : (net : Net) (certs : List Cert) (rate : ℕ) → AreCertificates net certs → IsLeastValue certs rate → All (λ cert. rate ≤ length cert.paths) certs
+enough_paths net certs rate are least = λ k d within.
+    let there = slice_get-get_or certs k d within in
+    omega (arith, least.least k (get_or certs k d) there, (are.at k (get_or certs k d) there).0.paths_value)
+
+-- each demand has few routes
+pub few_routes : (net : Net) (certs : List Cert) (order : List ℕ) (rate : ℕ) → AreCertificates net certs → All (λ cert. rate ≤ length cert.paths) certs → rate ≤ 32 → All (λ paths. length paths ≤ 32) (routes_of_certs order rate certs)
+few_routes net certs order rate are enough low =
+    All-weaker (λ (paths : List (List ℕ)). length paths ≡ rate) (λ (paths : List (List ℕ)). length paths ≤ 32) (λ paths many. omega arith) (routes_of_certs order rate certs) (routes-count net certs order rate are enough)
+
+module _ (net new : Net) (certs : List Cert) (order : List ℕ) (rate : ℕ) (kind : FieldKind) (order_is : order ≡ order_of net.links) (acyclic : IsAcyclic net.links) (are : AreCertificates net certs) (least : IsLeastValue certs rate)
+    (renumbered : IsRenumbered order (choice_of kind) net new) where
+  once : HasEachOnce (length net.links) order
+  once = order_once net order order_is acyclic
+
+  enough : All (λ cert. rate ≤ length cert.paths) certs
+  enough = enough_paths net certs rate are least
+
+  -- the new network's links are in order, and as many
+  pub new_order : IsTrue (are_in_order [] new.links)
+  new_order =
+      subst (λ links. IsTrue (are_in_order [] links)) (sym (renumbered.links ∙ ap (renumbered_links net.links) order_is)) (are_in_order-renumbered net.links acyclic)
+
+  pub new_count : length new.links ≡ length net.links
+  new_count = ap length renumbered.links ∙ length-renumbered_links net.links once
+
+  -- its links can be visited
+  pub can_visit_all : (routes : List (List (List ℕ))) (hops : List (List Hop)) → routes ≡ routes_of_certs order rate certs → length hops ≡ length net.links
+      → ((link : ℕ) (at : List Hop) → slice_get hops link ≡ Some at → AreHops routes link at) → AreVisitable new rate routes hops
+  can_visit_all routes hops are_routes count over = record {
+    routes_fit = subst (AreRoutes new rate) (sym are_routes) (AreRoutes-renumbered net new certs order rate (choice_of kind) are once renumbered enough);
+    each_link = count ∙ sym new_count;
+    hops_over = over;
+  }
+
+  -- a code that is made so is one of the network
+  pub compiled : (size : ℕ) → size ≡ size_of kind → demand_count net ≤ size → (routes : List (List (List ℕ))) → routes ≡ routes_of_certs order rate certs → (operands : List (List Operand)) (decoders : List Decoder)
+      → IsFilled new kind rate routes operands decoders → (code : Code) → code.net ≡ new → code.rate ≡ rate → code.field ≡ kind → code.operands ≡ operands → code.decoders ≡ decoders → IsCompiled net kind code certs
+  compiled size same served routes are_routes operands decoders filled code of_net of_rate of_field of_operands of_decoders = record {
+    acyclic = acyclic;
+    served = omega (arith, served, same);
+    certified = are;
+    network = subst (λ order. IsRenumbered order (choice_of kind) net code.net) order_is (subst (IsRenumbered order (choice_of kind) net) (sym of_net) renumbered);
+    over = of_field;
+    rate = subst (IsLeastValue certs) (sym of_rate) least;
+    accepted = filled.accepted code of_net of_rate of_field of_operands of_decoders;
+    of_paths = λ link below.
+        let of_hops : All (IsOfHop routes link) (slice_index_or operands link []) = filled.of_hops link (omega (arith, new_count)) in
+        let of_these : All (IsOfHop (routes_of_certs order rate certs) link) (operands_at code.operands link) =
+        subst (λ (own : List Operand). All (IsOfHop (routes_of_certs order rate certs) link) own)
+        (sym (unwrap_or-slice_get operands link []) ∙ ap (λ (table : List (List Operand)). operands_at table link) (sym of_operands)) (subst (λ routes. All (IsOfHop routes link) (slice_index_or operands link [])) are_routes of_hops) in
+        All-weaker (IsOfHop (routes_of_certs order rate certs) link) (IsOfPaths (order_of net.links) certs code link)
+        (λ operand from.
+        subst (λ order. IsOfPaths order certs code link operand) order_is
+        (subst (λ rate. Feeds (leaves_source code.net link) order rate certs operand.from link) (sym of_rate)
+        (Feeds-of_hop net new certs order rate (choice_of kind) are once renumbered enough new_order link operand from (leaves_source code.net link) (ap (λ net. leaves_source net link) of_net))))
+        (operands_at code.operands link) of_these;
+  }

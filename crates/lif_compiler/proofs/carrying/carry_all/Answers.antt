@@ -1,0 +1,25 @@
+use Rattle.std.proofs.Common.{◌<◌, [], length, arith}
+use Rattle.std.proofs.lemmas.List.{get_or_default}
+use Rattle.field_vectors.specs.Grid.{IsMatrix}
+use Rattle.node_program.specs.Value.{leaves_source}
+use Rattle.lif_compiler.proofs.CarrySteps.{carried_more, carried_same, kept_more, shape_more}
+use Rattle.lif_compiler.proofs.carrying.carry_all.Goals as goal
+
+pub loop-pattern-preserved : goal.loop-pattern-preserved
+loop-pattern-preserved g c =
+    let F = g.F.Field in
+    let old = c.args.vectors.now in
+    let now = c.loop-pattern.vectors in
+    let pattern = c.loop-pattern.pattern in
+    let so_far = c.loop-pattern.invariant in
+    let within : pattern < length now = omega arith in
+    let inside : pattern < length old = omega (arith, so_far.behind.same_count) in
+    let leaves = leaves_source c.args.net.now c.args.link in
+    record {
+      behind = shape_more pattern old now c.carry_unless.new.vectors so_far.behind;
+      made = λ kind of_kind.
+          carried_more kind F.number c.args.operands.now c.args.link c.args.net.now.patterns leaves pattern old now c.carry_unless.new.vectors inside (so_far.made kind of_kind)
+          (carried_same kind F.number c.args.operands.now c.args.link c.is_failed-is_failed.result _ c.leaves_source-leaves.result leaves _ _ c.carry_unless.new.vectors
+          c.is_failed-is_failed.ensures c.leaves_source-leaves.ensures (get_or_default now pattern c.index-vectors-pattern.result (record { columns = 0; rows = [] }) within) (c.carry_unless.ensures.carried kind of_kind));
+      kept = kept_more (IsMatrix F.is_element) pattern now c.carry_unless.new.vectors within c.carry_unless.ensures.kept so_far.kept;
+    }

@@ -1,0 +1,56 @@
+-- Which networks aren't compiled, and what the refusal says.
+use Rattle.std.specs.Prelude.{◌≡◌, ◌<◌, ◌≤◌, ℕ, List, Bool}
+use Rattle.net_model.specs.Demands.{demand_count}
+use Rattle.net_model.specs.Flows.{IsLeastSide, flow_network}
+use Rattle.net_model.specs.Walks.{IsAcyclic}
+use Rattle.net_model.specs.declared.net.Net.{Net}
+use Rattle.failure_patterns.specs.Demands.{demand_of}
+use Rattle.failure_patterns.specs.Rate.{HasLeastCut, IsRate}
+use Rattle.topo_order.specs.Order.{IsShownCycle}
+use Rattle.topo_order.specs.declared.refusal.OrderRefusal.{OrderRefusal}
+use Rattle.topo_order.specs.declared.refusal.OrderRefusal.TheVariants as of_links
+use Rattle.lif_compiler.specs.declared.refusal.CompileRefusal.{CompileRefusal}
+use Rattle.lif_compiler.specs.declared.refusal.CompileRefusal.TheVariants.{Cyclic, TooManyDemands, ZeroRate, RateOver, OutOfMemory}
+
+-- the refusal of a network whose links have no order
+abbrev pub of_order : OrderRefusal → CompileRefusal
+of_order (of_links.Cyclic links) = Cyclic links
+of_order of_links.OutOfMemory = OutOfMemory
+
+-- the first demand with a least cut of this size
+pub record IsFirstWithCut (net : Net) (size demand : ℕ) : Type 0 where
+  pub within : demand < demand_count net
+  pub has : HasLeastCut net demand size
+  pub first : (earlier : ℕ) → earlier < demand → ¬ HasLeastCut net earlier size
+
+-- the network has no cycle, and at most so many demands
+pub record IsServed (net : Net) (most : ℕ) : Type 0 where
+  pub acyclic : IsAcyclic net.links
+  pub served : demand_count net ≤ most
+
+-- the rate is 0: the first demand that shows it, and its least side
+pub record IsZeroRate (net : Net) (demand : ℕ) (side : List Bool) : Type 0 where
+  pub first : IsFirstWithCut net 0 demand
+  pub least_side : IsLeastSide (flow_network net (demand_of net demand)) side
+
+-- the rate is above 32: the first demand that shows it, and its least cut's size
+pub record IsRateOver (net : Net) (demand least : ℕ) : Type 0 where
+  pub over : 32 < least
+  pub rate : IsRate net least
+  pub first : IsFirstWithCut net least demand
+
+-- what a refusal for its rate says of a network; no other kind of refusal is one
+abbrev pub IsBadRate : Net → CompileRefusal → Type 0
+IsBadRate net (Cyclic links) = ⊥
+IsBadRate net (TooManyDemands count) = ⊥
+IsBadRate net (ZeroRate demand side) = IsZeroRate net demand side
+IsBadRate net (RateOver demand least) = IsRateOver net demand least
+IsBadRate net OutOfMemory = Unit {0}
+
+-- what each refusal says of a network, for a field with so many elements
+abbrev pub IsRefusal : Net → ℕ → CompileRefusal → Type 0
+IsRefusal net size (Cyclic links) = IsShownCycle net.links links
+IsRefusal net size (TooManyDemands count) = IsAcyclic net.links × (size < demand_count net) × (count ≡ demand_count net)
+IsRefusal net size (ZeroRate demand side) = IsServed net size × IsZeroRate net demand side
+IsRefusal net size (RateOver demand least) = IsServed net size × IsRateOver net demand least
+IsRefusal net size OutOfMemory = Unit {0}

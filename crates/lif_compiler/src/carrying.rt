@@ -1,0 +1,74 @@
+//! The vectors of a link that is visited, under all patterns.
+ghost use Rattle.std.specs.Prelude.{◌≡◌, ◌<◌, All, false, length, replicate, true};
+ghost use Rattle.field_vectors.specs.Grid.{IsMatrix, row_of};
+ghost use Rattle.gf_tables.specs.Kind.{IsOfKind};
+ghost use Rattle.gf_tables.specs.declared.kind.FieldKind.{FieldKind};
+ghost use Rattle.node_program.specs.Value.{leaves_source};
+ghost use Rattle.lif_compiler.specs.Steps.{AreCarried, IsCarriedUnless};
+ghost use Rattle.lif_compiler.specs.Tables.{AreNamed, AreOfShape};
+
+use crate::draft::leaves_source;
+use counted_steps::Steps;
+use field_vectors::Matrix;
+use gf_tables::Field;
+use net_model::Net;
+use node_program::{Operand, carry};
+use std::sync::ledger::Ledger;
+
+// Makes the row of a link, which is zero, what the link carries by its operands, unless it fails.
+fn carry_unless<F: Field, L: Ledger>(
+    is_failed: bool,
+    vectors: &mut Matrix<F>,
+    link: u32,
+    leaves: bool,
+    operands: &[Operand],
+    steps: &mut Steps<L>,
+)
+    requires link { link < length vectors.old.rows }
+    requires zeros { row_of vectors.old link ≡ replicate vectors.old.columns F.zero }
+    requires times { All (λ operand. operand.times < F.SIZE) operands.now }
+    requires rows { leaves ≡ true → All (λ operand. operand.from < vectors.old.columns) operands.now }
+    requires links { leaves ≡ false → All (λ operand. operand.from < link) operands.now }
+    ensures carried { (kind : FieldKind) → IsOfKind kind F.SIZE F.BYTES F.MARK F.product
+        → IsCarriedUnless is_failed kind F.number leaves operands.now link vectors.old vectors.new }
+    ensures kept { IsMatrix F.is_element vectors.new }
+{
+    if !is_failed {
+        carry(vectors, link, leaves, operands, steps);
+    }
+    let _rows = vectors.rows();
+}
+
+/// Makes under each pattern the row of a link, which is zero, what the link carries by its operands.
+pub fn carry_all<F: Field, L: Ledger>(
+    vectors: &mut [Matrix<F>],
+    rate: u32,
+    net: &Net,
+    link: u32,
+    operands: &[Operand],
+    steps: &mut Steps<L>,
+)
+    requires link { link < length net.now.links }
+    requires each_pattern { length vectors.old ≡ length net.now.patterns }
+    requires shape { AreOfShape (length net.now.links) rate vectors.old }
+    requires zeros { All (λ m. row_of m link ≡ replicate rate F.zero) vectors.old }
+    requires times { All (λ operand. operand.times < F.SIZE) operands.now }
+    requires rows { leaves_source net.now link ≡ true → All (λ operand. operand.from < rate) operands.now }
+    requires links { leaves_source net.now link ≡ false → All (λ operand. operand.from < link) operands.now }
+    ensures carried { (kind : FieldKind) → IsOfKind kind F.SIZE F.BYTES F.MARK F.product
+        → AreCarried kind F.number net.now.patterns (leaves_source net.now link) operands.now link (length vectors.old) vectors.old vectors.new }
+    ensures kept { All (IsMatrix F.is_element) vectors.new }
+{
+    let leaves = leaves_source(net, link);
+    for pattern in 0..vectors.len() {
+        let is_failed = net.is_failed(pattern as u32, link);
+        carry_unless(
+            is_failed,
+            &mut vectors[pattern],
+            link,
+            leaves,
+            operands,
+            steps,
+        );
+    }
+}

@@ -1,0 +1,111 @@
+//! The compiler: a network to a code of the greatest rate.
+ghost use Rattle.std.specs.Prelude.{◌≡◌, ◌≤◌, ℕ, List, [], IfErr, IfOk, IsTrue, length};
+ghost use Rattle.cut_witness.specs.Certificate.{AreCertificates, IsLeastValue};
+ghost use Rattle.gf_tables.specs.Kind.{IsOfKind};
+ghost use Rattle.net_model.specs.Demands.{demand_count};
+ghost use Rattle.net_model.specs.Walks.{IsAcyclic};
+ghost use Rattle.node_program.specs.Code.{are_in_order, choice_of};
+ghost use Rattle.topo_order.specs.Order.{order_of};
+ghost use Rattle.lif_compiler.specs.Compiled.{IsCompiled, marked_kind};
+ghost use Rattle.lif_compiler.specs.Refused.{IsRefusal};
+ghost use Rattle.lif_compiler.specs.Visits.{AreVisitable, IsFilled};
+
+use crate::decoding::decoders_of;
+use crate::draft::Draft;
+use crate::kinds::kind_of;
+use crate::planning::hops_of;
+use crate::rating::bounded_rate;
+use crate::routes::routes_of;
+use crate::{CompileRefusal, HopList};
+use counted_steps::Steps;
+use cut_witness::{Cert, certify_all};
+use failure_patterns::demands;
+use gf_tables::Field;
+use lif_outside::Gate;
+use net_model::Net;
+use node_program::{Code, DecoderTable, OperandTable, choice_of};
+use std::alloc::{AllocError, Global};
+use std::sync::ledger::Ledger;
+use std::thread::Threads;
+use topo_order::order;
+
+/// The most jobs that certificates are cut into.
+const WORKERS: u32 = 4;
+
+// The operands of all links and the decoders of all demands of a code, by the hops over each link. The links are in
+// order.
+fn fill<F: Field, L: Ledger>(
+    alloc: Global,
+    net: &Net,
+    rate: u32,
+    hops: &[HopList],
+    steps: &mut Steps<L>,
+) -> Result<(OperandTable, DecoderTable), AllocError>
+    requires field { IsOfKind (marked_kind F.MARK) F.SIZE F.BYTES F.MARK F.product }
+    requires some { 1 ≤ rate }
+    requires low { rate ≤ 32 }
+    requires few { demand_count net.now ≤ F.SIZE }
+    requires order { IsTrue (are_in_order [] net.now.links) }
+    requires named { net.now.field ≡ choice_of (marked_kind F.MARK) }
+    requires ready { (routes : List (List (List ℕ))) × AreVisitable net.now rate routes hops.now }
+    ensures { IfOk result (λ parts. (routes : List (List (List ℕ))) → AreVisitable net.now rate routes hops.now → IsFilled net.now (marked_kind F.MARK) rate routes parts.0 parts.1) }
+{
+    let mut draft = Draft::<F>::start(alloc, net, rate)?;
+    draft.visit_all(alloc, net, hops, steps)?;
+    let decoders = decoders_of(alloc, draft.bases.as_slice())?;
+    Ok((OperandTable::of(draft.operands), decoders))
+}
+
+// A code of a network without a cycle, from the certificates of its demands, of which the least value is the rate.
+fn build<F: Field, L: Ledger>(
+    alloc: Global,
+    net: &Net,
+    order: &[u32],
+    certs: &[Cert],
+    rate: u32,
+    steps: &mut Steps<L>,
+) -> Result<Code, AllocError>
+    requires field { IsOfKind (marked_kind F.MARK) F.SIZE F.BYTES F.MARK F.product }
+    requires order { order.now ≡ order_of net.now.links }
+    requires acyclic { IsAcyclic net.now.links }
+    requires few { demand_count net.now ≤ F.SIZE }
+    requires certified { AreCertificates net.now certs.now }
+    requires least { IsLeastValue certs.now rate }
+    requires some { 1 ≤ rate }
+    requires low { rate ≤ 32 }
+    ensures { IfOk result (λ code. IsCompiled net.now (marked_kind F.MARK) code certs.now) }
+{
+    let kind = kind_of::<F>();
+    let routes = routes_of(alloc, certs, order, rate)?;
+    let hops = hops_of(alloc, net.links.len(), &routes)?;
+    let net = net.renumbered(alloc, order, choice_of(kind))?;
+    let (operands, decoders) = fill::<F, L>(alloc, &net, rate, &hops, steps)?;
+    Ok(Code::of(net, rate, kind, operands, decoders))
+}
+
+/// An accepted code over the field `F`, one of the two that codes are over, with the certificates of the network's
+/// demands. The code's network is the given one with its links in order, its rate is the least value of the
+/// certificates, which is the greatest rate of any code. It exists for every network without a cycle that has at
+/// most as many demands as the field has elements, and whose rate is 1 to 32; else the refusal says which of this
+/// doesn't hold (Jaggi et al. 2005, for demands with failed links).
+pub fn compile<F: Field, G: Gate + Sync, L: Ledger, R: Threads + Sync>(
+    rt: &R,
+    alloc: Global,
+    net: &Net,
+    gate: &G,
+    steps: &mut Steps<L>,
+) -> Result<(Code, Vec<Cert>), CompileRefusal>
+    requires { IsOfKind (marked_kind F.MARK) F.SIZE F.BYTES F.MARK F.product }
+    ensures compiled { IfOk result (λ made. IsCompiled net.now (marked_kind F.MARK) made.0 made.1.items) }
+    ensures refused { IfErr result (IsRefusal net.now F.SIZE) }
+{
+    let order = order(alloc, net)?;
+    let count = demands(net);
+    if count > u64::from(F::SIZE) {
+        return Err(CompileRefusal::TooManyDemands { count });
+    }
+    let certs = certify_all(rt, alloc, net, WORKERS, gate)?;
+    let rate = bounded_rate(alloc, net, &certs)?;
+    let code = build::<F, L>(alloc, net, &order, &certs, rate, steps)?;
+    Ok((code, certs))
+}

@@ -1,0 +1,112 @@
+//! The table of products by which the coefficients of a link are chosen.
+ghost use Rattle.std.specs.Prelude.{◌≡◌, ◌≢◌, ◌<◌, ◌≤◌, ◌^◌, ℕ, All, IfOk, false, length, map, slice_index, slice_index_or, true};
+ghost use Rattle.field_vectors.specs.Grid.{row_of};
+ghost use Rattle.gf_tables.specs.Kind.{IsOfKind};
+ghost use Rattle.gf_tables.specs.declared.kind.FieldKind.{FieldKind};
+ghost use Rattle.linear_algebra.specs.Rows.{dot};
+ghost use Rattle.node_program.specs.Carried.{numbers_at, source_vector};
+ghost use Rattle.node_program.specs.Value.{leaves_source};
+ghost use Rattle.lif_compiler.specs.Tables.{AreAmong, AreNamed, AreOfShape, IsTable};
+
+use crate::Hop;
+use crate::draft::{Draft, leaves_source};
+use counted_steps::Steps;
+use field_vectors::{Matrix, dot};
+use gf_tables::Field;
+use net_model::Net;
+use std::alloc::{AllocError, Global};
+use std::sync::ledger::Ledger;
+
+// The product of the vector of a source with the inverse vector of a path.
+fn product<F: Field, L: Ledger>(
+    leaves: bool,
+    from: u32,
+    vectors: &Matrix<F>,
+    inverses: &Matrix<F>,
+    path: u32,
+    steps: &mut Steps<L>,
+) -> F
+    requires row { leaves ≡ true → from < vectors.now.columns }
+    requires link { leaves ≡ false → from < length vectors.now.rows }
+    requires path { path < length inverses.now.rows }
+    requires width { inverses.now.columns ≡ vectors.now.columns }
+    ensures element { F.is_element result }
+    ensures value { (kind : FieldKind) → IsOfKind kind F.SIZE F.BYTES F.MARK F.product →
+        F.number result ≡ dot kind (source_vector leaves vectors.now.columns (numbers_at F.number vectors.now) from) (numbers_at F.number inverses.now path) }
+{
+    let _rows = inverses.rows();
+    let _columns = vectors.columns();
+    if leaves {
+        inverses.at(path, from)
+    } else {
+        dot(vectors.row(from), inverses.row(path), steps)
+    }
+}
+
+// Makes a row of the table the products of the sources' vectors with the inverse vector of a path.
+fn fill_row<F: Field, L: Ledger>(
+    table: &mut Matrix<F>,
+    row: u32,
+    leaves: bool,
+    sources: &[u32],
+    vectors: &Matrix<F>,
+    inverses: &Matrix<F>,
+    path: u32,
+    steps: &mut Steps<L>,
+)
+    requires row { row < length table.old.rows }
+    requires columns { table.old.columns ≡ length sources.now }
+    requires named { AreNamed leaves vectors.now.columns (length vectors.now.rows) sources.now }
+    requires path { path < length inverses.now.rows }
+    requires width { inverses.now.columns ≡ vectors.now.columns }
+    ensures columns { table.new.columns ≡ table.old.columns }
+    ensures height { length table.new.rows ≡ length table.old.rows }
+    ensures products { (kind : FieldKind) → IsOfKind kind F.SIZE F.BYTES F.MARK F.product → numbers_at F.number table.new row
+        ≡ map (λ from. dot kind (source_vector leaves vectors.now.columns (numbers_at F.number vectors.now) from) (numbers_at F.number inverses.now path)) sources.now }
+    ensures others { (other : ℕ) → other ≢ row → row_of table.new other ≡ row_of table.old other }
+{
+    let _columns = table.columns();
+    for (column, from) in sources.iter().enumerate() {
+        let entry = product(leaves, *from, vectors, inverses, path, steps);
+        table.set(row, column as u32, entry);
+    }
+}
+
+impl<F: Field> Draft<F> {
+    /// The table of the products of the sources' vectors with the inverse vectors of the hops' paths: a row for each
+    /// hop over the link, a column for each source.
+    pub fn table_of<L: Ledger>(
+        &self,
+        alloc: Global,
+        net: &Net,
+        link: u32,
+        sources: &[u32],
+        hops: &[Hop],
+        steps: &mut Steps<L>,
+    ) -> Result<Matrix<F>, AllocError>
+        requires link { link < length net.now.links }
+        requires some_pattern { 0 < length self.now.vectors.items }
+        requires vectors { AreOfShape (length net.now.links) self.now.rate self.now.vectors.items }
+        requires bases { All (λ basis. length basis.frontier ≡ self.now.rate) self.now.bases.items }
+        requires hops { AreAmong (length self.now.bases.items) self.now.rate hops.now }
+        requires sources { AreNamed (leaves_source net.now link) self.now.rate (length net.now.links) sources.now }
+        requires few_sources { length sources.now < 2 ^ 32 }
+        requires few_hops { length hops.now < 2 ^ 32 }
+        ensures { IfOk result (λ table. (kind : FieldKind) → IsOfKind kind F.SIZE F.BYTES F.MARK F.product →
+            IsTable kind F.number (leaves_source net.now link) self.now.rate sources.now hops.now self.now.vectors.items (map (λ basis. basis.inverses) self.now.bases.items) table) }
+    {
+        let leaves = leaves_source(net, link);
+        let mut table = Matrix::zeros(alloc, hops.len() as u32, sources.len() as u32)?;
+        for (row, hop) in hops.iter().enumerate() {
+            let demand = hop.demand as usize;
+            let vectors = &self.vectors[demand % self.vectors.len()];
+            let inverses = &self.bases[demand].inverses;
+            let _columns = vectors.columns();
+            let _rows = inverses.rows();
+            fill_row(
+                &mut table, row as u32, leaves, sources, vectors, inverses, hop.path, steps,
+            );
+        }
+        Ok(table)
+    }
+}
