@@ -9,6 +9,8 @@ pub mod Runs
 pub mod RunLaws
 pub mod FaultLaws
 pub mod TurnLaws
+pub mod Writes
+pub mod WriteLaws
 pub mod Puts
 pub mod PutLaws
 pub mod Accounts

@@ -86,20 +86,20 @@ appends_of-stops front path rest pieces piece later =
     (stops_behind (appends_of paths pieces) (map to paths ++ appends_of paths later) _ (stops_first (map to paths) (appends_of paths later) _ turn))
 
 -- of a path and more paths, the first, those behind it, and no other
-first_there : (path : List ℕ) (paths : List (List ℕ)) → Contains (path ∷ paths) path
+pub first_there : (path : List ℕ) (paths : List (List ℕ)) → Contains (path ∷ paths) path
 first_there path paths = (0, omega arith, refl)
 
-behind_there : (path : List ℕ) (paths : List (List ℕ)) (place : List ℕ) → Contains paths place → Contains (path ∷ paths) place
+pub behind_there : (path : List ℕ) (paths : List (List ℕ)) (place : List ℕ) → Contains paths place → Contains (path ∷ paths) place
 behind_there path paths place there = Contains-append_right (path ∷ []) paths place there
 
 there_cases : (path : List ℕ) (paths : List (List ℕ)) (place : List ℕ) → Contains (path ∷ paths) place → (path ≡ place) ⊎ Contains paths place
 there_cases path paths place there = ⊎_elim (λ one. inl (contains_one path place one)) inr (Contains-append_cases (path ∷ []) paths place there)
 
 -- a path that is none of these isn't the first, and none of those behind it
-apart_first : (path : List ℕ) (paths : List (List ℕ)) (place : List ℕ) → ¬ Contains (path ∷ paths) place → path ≢ place
+pub apart_first : (path : List ℕ) (paths : List (List ℕ)) (place : List ℕ) → ¬ Contains (path ∷ paths) place → path ≢ place
 apart_first path paths place apart same = apart (subst (Contains (path ∷ paths)) same (first_there path paths))
 
-apart_behind : (path : List ℕ) (paths : List (List ℕ)) (place : List ℕ) → ¬ Contains (path ∷ paths) place → ¬ Contains paths place
+pub apart_behind : (path : List ℕ) (paths : List (List ℕ)) (place : List ℕ) → ¬ Contains (path ∷ paths) place → ¬ Contains paths place
 apart_behind path paths place apart there = apart (behind_there path paths place there)
 
 -- one piece for some of these paths

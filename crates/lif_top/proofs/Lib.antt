@@ -1,4 +1,3 @@
-pub mod ClearPaths
 pub mod GivenLaws
 pub mod PathLaws
 pub mod Pieces

@@ -16,7 +16,8 @@ use Rattle.net_model.specs.ListLaws.{IsDistinct-from_are_distinct}
 use Rattle.lif_outside.specs.Files.{AreDistinct}
 use Rattle.net_model.specs.declared.net.Net.{Net}
 use Rattle.name_texts.specs.Names.{node_name}
-use Rattle.lif_top.specs.Paths.{output_path, output_paths, is_shared, shared_path}
+use Rattle.top_base.specs.Paths.{is_shared, shared_path}
+use Rattle.lif_top.specs.Paths.{output_path, output_paths}
 use Rattle.name_texts.specs.NameLaws.{sink_in_range}
 
 -- paths of which no two are equal

@@ -9,6 +9,9 @@ use Rattle.lif_outside.specs.DeedLaws.{Accounted, accounted}
 use Rattle.lif_outside.specs.Events.{Event}
 use Rattle.lif_outside.specs.Puts.{Put}
 use Rattle.top_tools.specs.Check.{Checks, RunsCheck}
+use Rattle.top_tools.specs.Compile.Promise.{Compiles}
+use Rattle.top_tools.specs.Compile.Runs.{Runs as CompileRuns}
+use Rattle.top_tools.specs.CompileLaws.{compile_known, compile_used}
 use Rattle.top_tools.specs.Cuts.{Cuts, RunsCuts}
 use Rattle.top_tools.specs.Order.{Orders, RunsOrder}
 use Rattle.top_base.specs.Lines.{usage_line}
@@ -16,7 +19,7 @@ use Rattle.top_base.specs.Outcome.{status_unsaid, SaysOutcome, Concludes, EndsAt
 use Rattle.lif_top.specs.Promises.{Promises}
 use Rattle.lif_top.specs.Send.Promise.{Sends}
 use Rattle.lif_top.specs.Send.Runs.{Runs as SendRuns}
-use Rattle.top_base.specs.Words.{Send, check, cuts, order, send, command_of}
+use Rattle.top_base.specs.Words.{Compile, Send, check, compile, cuts, order, send, command_of}
 use Rattle.top_base.specs.declared.outcome.Outcome.{Outcome}
 use Rattle.top_base.specs.declared.status.Status.{Status}
 use Rattle.top_base.specs.declared.status.Status.TheVariants.{Done, Usage}
@@ -68,6 +71,7 @@ module _ {S C : Type 0} (g : StoreGhosts S) (h : SinkGhosts C) (words : List (Li
         misused = λ _. concludes (EndsAtOnce usage) outcome (record { made = []; lead = no_calls; holds = (same_outcome outcome usage (is, line_is), refl) }) puts;
         orders = λ net some. absurd (cc);
         cuts = λ net some. absurd (cc);
+        compiles = λ given some. absurd (cc);
         checks = λ code some. absurd (cc);
         sends = λ given some. absurd (cc);
       }
@@ -91,6 +95,7 @@ module _ {S C : Type 0} (g : StoreGhosts S) (h : SinkGhosts C) (words : List (Li
               subst (λ net. Orders g h net store_old store_new say_old say_new status) same
               (performs _ _ _ _ (order_known path) g h store_old store_new say_old say_new status does (deeds_accounted does));
           cuts = λ net other. absurd (cc);
+          compiles = λ given other. absurd (cc);
           checks = λ code other. absurd (cc);
           sends = λ given other. absurd (cc);
         }
@@ -109,6 +114,26 @@ module _ {S C : Type 0} (g : StoreGhosts S) (h : SinkGhosts C) (words : List (Li
               let same : path ≡ net = cc in
               subst (λ net. Cuts g h net store_old store_new say_old say_new status) same
               (performs _ _ _ _ (cuts_known path) g h store_old store_new say_old say_new status does (deeds_accounted does));
+          compiles = λ given other. absurd (cc);
+          checks = λ code other. absurd (cc);
+          sends = λ given other. absurd (cc);
+        }
+
+    -- the words are a command `compile`
+    pub compile_promises : (given : Compile) → command_of words ≡ Some (compile given) → (outcome : Outcome) → MakesCalls g store_old store_new (CompileRuns given outcome) → MakesPuts h say_old say_new (SaysOutcome outcome status)
+        → Promises g h words store_old store_new say_old say_new status
+    compile_promises given some outcome calls puts =
+        let does = concludes (CompileRuns given) outcome calls puts in
+        let used = said_used outcome status puts.made (compile_used given outcome calls.made calls.holds) puts.holds in
+        record {
+          usage = ((λ is. absurd (used is)), (λ none. absurd (cc)));
+          misused = λ none. absurd (cc);
+          orders = λ net other. absurd (cc);
+          cuts = λ net other. absurd (cc);
+          compiles = λ other_given other.
+              let same : given ≡ other_given = cc in
+              subst (λ given. Compiles g h given store_old store_new say_old say_new status) same
+              (performs _ _ _ _ (compile_known given) g h store_old store_new say_old say_new status does (deeds_accounted does));
           checks = λ code other. absurd (cc);
           sends = λ given other. absurd (cc);
         }
@@ -124,6 +149,7 @@ module _ {S C : Type 0} (g : StoreGhosts S) (h : SinkGhosts C) (words : List (Li
           misused = λ none. absurd (cc);
           orders = λ net other. absurd (cc);
           cuts = λ net other. absurd (cc);
+          compiles = λ given other. absurd (cc);
           checks = λ code other.
               let same : path ≡ code = cc in
               subst (λ code. Checks g h code store_old store_new say_old say_new status) same
@@ -142,6 +168,7 @@ module _ {S C : Type 0} (g : StoreGhosts S) (h : SinkGhosts C) (words : List (Li
           misused = λ none. absurd (cc);
           orders = λ net other. absurd (cc);
           cuts = λ net other. absurd (cc);
+          compiles = λ given other. absurd (cc);
           checks = λ code other. absurd (cc);
           sends = λ other_given other.
               let same : given ≡ other_given = cc in

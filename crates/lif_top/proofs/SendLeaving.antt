@@ -26,7 +26,7 @@ use Rattle.lif_top.specs.Send.Runs.{deliveries, AfterCreates, AfterSource, Deliv
 use Rattle.top_base.specs.Words.{Send}
 use Rattle.top_base.specs.declared.status.Status.{Status}
 use Rattle.top_base.specs.declared.status.Status.TheVariants.{Done, UnknownPattern, ReadFault, WriteFault, TooLong, OutOfMemory, SamePath}
-use Rattle.lif_top.proofs.ClearPaths.{clear_distinct, clear_apart}
+use Rattle.top_base.specs.PathLaws.{clear_distinct, clear_apart}
 use Rattle.top_base.specs.LeavingLaws.{KeepAll, none_keep, keep_files, told_at, later_among, happen_parts, happen_later}
 
 module _ (send : Send) where

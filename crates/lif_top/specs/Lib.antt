@@ -8,13 +8,19 @@ pub use Rattle.top_base.specs.Inspecting
 pub use Rattle.top_base.specs.Lines
 pub use Rattle.top_base.specs.Networks
 pub use Rattle.top_base.specs.Outcome
+pub use Rattle.top_base.specs.Paths as SharedPaths
 pub use Rattle.top_base.specs.Performs
 pub use Rattle.top_base.specs.Words
 pub use Rattle.top_tools.specs.Check
+pub use Rattle.top_tools.specs.Compile
+pub use Rattle.top_tools.specs.Cuts
 pub use Rattle.top_tools.specs.Order
 pub use Rattle.code_checker.specs.Checking
 pub use Rattle.code_file.specs.Items
 pub use Rattle.code_file.specs.Reading
+pub use Rattle.cut_witness.specs.Certificate
+pub use Rattle.failure_patterns.specs.Rate
+pub use Rattle.failure_patterns.specs.UsedField
 pub use Rattle.generation_frame.specs.Blocks
 pub use Rattle.gf_tables.specs.Product
 pub use Rattle.lif_outside.specs.Accounts
@@ -25,9 +31,15 @@ pub use Rattle.lif_outside.specs.Files
 pub use Rattle.lif_outside.specs.Puts
 pub use Rattle.lif_outside.specs.Runs
 pub use Rattle.lif_outside.specs.Told
+pub use Rattle.lif_outside.specs.Writes
+pub use Rattle.lif_compiler.specs.Compiled
+pub use Rattle.lif_compiler.specs.Refused
 pub use Rattle.net_model.specs.Demands
+pub use Rattle.net_model.specs.Flows
 pub use Rattle.net_model.specs.Lists
 pub use Rattle.net_model.specs.Name
 pub use Rattle.net_model.specs.Network
+pub use Rattle.net_model.specs.Renumbering
 pub use Rattle.node_program.specs.Code
 pub use Rattle.node_program.specs.Decoding
+pub use Rattle.report_text.specs.Report

@@ -1,7 +1,5 @@
--- The paths of a command.
-use Rattle.std.specs.Prelude.{ℕ, Bool, ◌||◌, nat_lt, List, ◌∷◌, ◌++◌, map, Option, find, count_by}
-use Rattle.std.specs.List.{list_any}
-use Rattle.std.specs.Str.{bytes_eq}
+-- The paths of the sinks' files.
+use Rattle.std.specs.Prelude.{ℕ, List, ◌∷◌, ◌++◌, map}
 use Rattle.name_texts.specs.Names.{node_name}
 use Rattle.net_model.specs.declared.net.Net.{Net}
 
@@ -12,11 +10,3 @@ output_path prefix sink = prefix ++ 46 ∷ sink
 -- the paths of all sinks' files, in the order of the sinks
 abbrev pub output_paths : List ℕ → Net → List (List ℕ)
 output_paths prefix net = map (λ sink. output_path prefix (node_name net sink)) net.sinks
-
--- an output's path is that of an input or of another output
-abbrev pub is_shared : List (List ℕ) → List (List ℕ) → List ℕ → Bool
-is_shared inputs outputs path = list_any (bytes_eq path) inputs || nat_lt 1 (count_by (bytes_eq path) outputs)
-
--- the first output's path that is
-abbrev pub shared_path : List (List ℕ) → List (List ℕ) → Option (List ℕ)
-shared_path inputs outputs = find (is_shared inputs outputs) outputs

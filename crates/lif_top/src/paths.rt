@@ -3,7 +3,8 @@ ghost use Rattle.std.specs.Prelude.{◌≡◌, ◌++◌, ◌∷◌, [], IfOk, ma
 ghost use Rattle.std.specs.Option.{option_map};
 ghost use Rattle.lif_outside.specs.Files.{AreDistinct};
 ghost use Rattle.net_model.specs.Name.{IsName};
-ghost use Rattle.lif_top.specs.Paths.{output_path, output_paths, shared_path};
+ghost use Rattle.top_base.specs.Paths.{shared_path};
+ghost use Rattle.lif_top.specs.Paths.{output_path, output_paths};
 
 use name_texts::sink_name;
 use net_model::Net;

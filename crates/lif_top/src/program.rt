@@ -8,7 +8,7 @@ use lif_outside::{Gate, Sink, Store};
 use std::alloc::Global;
 use std::thread::Threads;
 use top_base::{Command, Outcome, Status, command_of, conclude};
-use top_tools::{check, cuts, order};
+use top_tools::{check, compile, cuts, order};
 
 /// Does what the words say, over a store of files and a sink for what is said, and tells how it ended. The words
 /// are those after the program's name:
@@ -16,11 +16,13 @@ use top_tools::{check, cuts, order};
 /// - `order NET` reads a network text and says the links in order.
 /// - `cuts NET` reads a network text and says for each sink and pattern the least cut, with paths and a side that show
 ///   it.
+/// - `compile NET CODE REPORT` reads a network text, and writes a code of the greatest rate and the report of the least
+///   cuts.
 /// - `check CODE` reads a code file and says whether its code is accepted.
 /// - `send CODE PATTERN SEED SRC PREFIX` makes `PREFIX.<sink>` for each sink of an accepted code and writes to it what
 ///   the sink decodes of the file at SRC, where the links of the pattern fail.
 ///
-/// The jobs of a check enter the gate.
+/// The jobs of certificates, of a compilation and of a check enter the gate.
 pub fn lif<S: Store, C: Sink, G: Gate + Sync, R: Threads + Sync>(
     rt: &R,
     alloc: Global,
@@ -42,6 +44,10 @@ pub fn lif<S: Store, C: Sink, G: Gate + Sync, R: Threads + Sync>(
         }
         Some(Command::Cuts(path)) => {
             let Outcome { status, line } = cuts(rt, alloc, path, store, gate);
+            conclude(status, &line, say)
+        }
+        Some(Command::Compile(given)) => {
+            let Outcome { status, line } = compile(rt, alloc, &given, store, gate);
             conclude(status, &line, say)
         }
         Some(Command::Check(path)) => {

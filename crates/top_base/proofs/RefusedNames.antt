@@ -1,5 +1,5 @@
 -- The name in the refusal of a network text is short.
-use Rattle.std.specs.Prelude.{◌≡◌, ◌≤◌, ℕ, List, [], length}
+use Rattle.std.specs.Prelude.{◌≡◌, ◌≤◌, ℕ, List, length}
 use Rattle.std.proofs.Common.{arith, sym, subst}
 use Rattle.net_reader.specs.NodeNameLaws.{node_name-short}
 use Rattle.net_reader.specs.declared.refusal.ReadRefusal.{ReadRefusal}

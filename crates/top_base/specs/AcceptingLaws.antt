@@ -1,5 +1,5 @@
 -- Codes as inputs: bytes are those of one accepted code, or are refused in one way.
-use Rattle.std.specs.Prelude.{◌≡◌, ◌<◌, ℕ, List, Err, IsTrue}
+use Rattle.std.specs.Prelude.{◌≡◌, ◌<◌, ℕ, List, IsTrue}
 use Rattle.std.proofs.Common.{refl, sym, ap, subst, ◌∙◌, arith}
 use Rattle.code_checker.specs.Checking.{FailsFirst, DiffersFirst, entry_at, demand_product}
 use Rattle.code_checker.specs.CheckingLaws.{FailsFirst-refuses}
@@ -11,7 +11,7 @@ use Rattle.node_program.specs.declared.code.Code.{Code}
 use Rattle.top_base.specs.Accepting.{IsCodeOf, RefusesCode, code_limit}
 use Rattle.top_base.specs.InputLaws.{IsInput}
 use Rattle.top_base.specs.Inputs.{is_refusal}
-use Rattle.top_base.specs.Outcome.{AreAlike, any_cycle}
+use Rattle.top_base.specs.Outcome.{any_cycle}
 use Rattle.top_base.specs.SameCode.{same_code}
 use Rattle.top_base.specs.declared.status.Status.{Status}
 use Rattle.top_base.specs.declared.status.Status.TheVariants.{CodeRefused, CheckFailed}

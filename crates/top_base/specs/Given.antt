@@ -1,8 +1,13 @@
 -- The commands that words were read as.
-use Rattle.top_base.specs.Words.{Send, Command as Form, check, cuts, order, send}
+use Rattle.top_base.specs.Words.{Compile, Send, Command as Form, check, compile, cuts, order, send}
+use Rattle.top_base.specs.declared.words.CompileWords.{CompileWords}
 use Rattle.top_base.specs.declared.words.SendWords.{SendWords}
 use Rattle.top_base.specs.declared.words.Command.{Command}
 use Rattle.top_base.specs.declared.words.Command.TheVariants as read
+
+-- what a command `compile` is given, by its words
+abbrev pub compile_given_in : CompileWords → Compile
+compile_given_in words = record { net = words.net.now; code = words.code.now; report = words.report.now }
 
 -- what a command `send` is given, by its words
 abbrev pub given_in : SendWords → Send
@@ -11,5 +16,6 @@ given_in words = record { code = words.code.now; pattern = words.pattern.now; se
 abbrev pub command_in : Command → Form
 command_in (read.Order path) = order path.now
 command_in (read.Cuts path) = cuts path.now
+command_in (read.Compile words) = compile (compile_given_in words)
 command_in (read.Check path) = check path.now
 command_in (read.Send words) = send (given_in words)

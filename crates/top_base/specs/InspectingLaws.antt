@@ -1,5 +1,5 @@
 -- What has to be known of a command that reads one input and says what it finds.
-use Rattle.std.specs.Prelude.{◌≡◌, ◌≢◌, ℕ, Bool, true, false, List, Result, Ok, Err, IsTrue, IsFalse}
+use Rattle.std.specs.Prelude.{◌≡◌, ◌≢◌, ℕ, false, List, Result, Ok, Err, IsTrue, IsFalse}
 use Rattle.std.proofs.Common.{refl, sym, ap, subst, ◌∙◌}
 use Rattle.std.proofs.lemmas.Bool.{false≢true}
 use Rattle.lif_outside.specs.Calls.{Deeds, Outside}
@@ -7,10 +7,9 @@ use Rattle.lif_outside.specs.Counts.{Rose}
 use Rattle.lif_outside.specs.DeedLaws.{Accounted}
 use Rattle.lif_outside.specs.Events.{Event, Follow}
 use Rattle.lif_outside.specs.FaultLaws.{HaveFailed}
-use Rattle.lif_outside.specs.Files.{Files}
 use Rattle.lif_outside.specs.Told.{Told}
 use Rattle.lif_outside.specs.ToldLaws.{told_before}
-use Rattle.top_base.specs.Inputs.{HoldsInput, Loses, Reads}
+use Rattle.top_base.specs.Inputs.{Loses, Reads}
 use Rattle.top_base.specs.InputLaws.{AreAlikeResults, IsInput, IsOfInputs, alike_results, loses-failed, loses-line, loses-no_link, loses-no_write, loses-rose, loses-used, reads-held, reads-keep, reads-unfailed}
 use Rattle.top_base.specs.Inspecting.{ChangesNone, Due, EndsBy, ReadsWell, Runs}
 use Rattle.top_base.specs.LeavingLaws.{keep_files}

@@ -15,6 +15,8 @@ pub mod LineText
 pub mod Networks
 pub mod NetworkLaws
 pub mod Outcome
+pub mod Paths
+pub mod PathLaws
 pub mod Performs
 pub mod PerformingLaws
 pub mod SameCode

@@ -3,6 +3,7 @@ use Rattle.std.specs.Prelude.{ℕ, Bool, List, [], ◌++◌, codes, decimal, map
 use Rattle.code_file.specs.declared.refusal.CodeRefusal.{CodeRefusal}
 use Rattle.code_file.specs.declared.refusal.CodeRefusal.TheVariants.{BadMagic, BadVersion, Truncated, BadField, BadRate, BadName, BadIndex, OutOfOrder, NotRising, ZeroCoefficient, BadOperand, TooMany, TrailingBytes, OutOfMemory}
 use Rattle.gf_tables.specs.Product.{mark_of}
+use Rattle.gf_tables.specs.declared.kind.FieldKind.{FieldKind}
 use Rattle.failure_patterns.specs.Demands.{demand_of}
 use Rattle.name_texts.specs.Names.{demand_text, link_name, links_text, on_lines, side_text}
 use Rattle.net_model.specs.Demands.{demand_count}
@@ -119,16 +120,20 @@ unknown_pattern_line word = codes "unknown pattern: " ++ word ++ codes "\n"
 abbrev pub same_path_line : List ℕ → List ℕ
 same_path_line path = codes "same path: " ++ path ++ codes "\n"
 
--- the rate, the field and the demands of a code
-abbrev pub code_text : Code → List ℕ
-code_text code = codes "rate " ++ decimal code.rate ++ codes " field " ++ decimal (mark_of code.field) ++ codes " demands " ++ decimal (demand_count code.net) ++ codes "\n"
+-- a rate, a field and a number of demands
+abbrev pub rate_text : ℕ → FieldKind → ℕ → List ℕ
+rate_text rate field demands = codes "rate " ++ decimal rate ++ codes " field " ++ decimal (mark_of field) ++ codes " demands " ++ decimal demands ++ codes "\n"
 
--- the lines of a code that is accepted, and of one that was compiled
+-- those of a code
+abbrev pub code_text : Code → List ℕ
+code_text code = rate_text code.rate code.field (demand_count code.net)
+
+-- the lines of a code that is accepted, and of one of this rate and field that was compiled for so many demands
 abbrev pub accepted_line : Code → List ℕ
 accepted_line code = codes "accepted " ++ code_text code
 
-abbrev pub compiled_line : Code → List ℕ
-compiled_line code = codes "compiled " ++ code_text code
+abbrev pub compiled_line : ℕ → FieldKind → ℕ → List ℕ
+compiled_line rate field demands = codes "compiled " ++ rate_text rate field demands
 
 -- the line of a source that was sent
 abbrev pub sent_line : ℕ → ℕ → ℕ → List ℕ

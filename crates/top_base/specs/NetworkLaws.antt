@@ -1,9 +1,8 @@
 -- Networks as inputs: a text is that of one network without a cycle, or is refused in one way.
-use Rattle.std.specs.Prelude.{◌≡◌, ℕ, List, [], Err, IsTrue}
+use Rattle.std.specs.Prelude.{◌≡◌, ℕ, List, IsTrue}
 use Rattle.std.proofs.Common.{refl, sym, ap, subst, ◌∙◌}
 use Rattle.net_model.specs.Walks.{IsAcyclic}
 use Rattle.net_model.specs.declared.net.Net.{Net}
-use Rattle.net_reader.specs.Text.{network_of, parts_of}
 use Rattle.top_base.specs.InputLaws.{IsInput}
 use Rattle.top_base.specs.Inputs.{is_refusal}
 use Rattle.top_base.specs.Networks.{IsNetOf, RefusesNet, net_limit}

@@ -4,8 +4,6 @@ use Rattle.std.proofs.Common.{◌≡◌, ◌∙◌, ℕ, sym, ap, subst}
 use Rattle.std.proofs.Props.{props}
 use Rattle.gf_tables.specs.declared.kind.FieldKind.{FieldKind}
 use Rattle.net_model.specs.Network.{IsNetwork}
-use Rattle.net_model.specs.declared.Link.{Link}
-use Rattle.net_model.specs.declared.Pattern.{Pattern}
 use Rattle.net_model.specs.declared.net.Net.{Net}
 use Rattle.net_model.specs.declared.net.FieldChoice.{FieldChoice}
 use Rattle.node_program.specs.Code.{IsCode}

@@ -15,6 +15,12 @@ number_of word =
     if nat_lt 0 (length word) && list_all is_ascii_digit word && nat_lt (value_of_digits word) (2 ^ 64)
     then Some (value_of_digits word) else None
 
+-- what a command `compile` is given
+pub record Compile : Type 0 where
+  pub net : List ℕ
+  pub code : List ℕ
+  pub report : List ℕ
+
 -- what a command `send` is given
 pub record Send : Type 0 where
   pub code : List ℕ
@@ -27,6 +33,7 @@ pub record Send : Type 0 where
 pub data Command : Type 0 where
   order : (net : List ℕ) → Command
   cuts : (net : List ℕ) → Command
+  compile : (given : Compile) → Command
   check : (code : List ℕ) → Command
   send : (given : Send) → Command
 
@@ -39,6 +46,11 @@ order_of _ = None
 abbrev pub cuts_of : List (List ℕ) → Option Command
 cuts_of (net ∷ []) = Some (cuts net)
 cuts_of _ = None
+
+-- `compile NET CODE REPORT`
+abbrev pub compile_of : List (List ℕ) → Option Command
+compile_of (net ∷ code ∷ report ∷ []) = Some (compile (record { net = net; code = code; report = report }))
+compile_of _ = None
 
 -- `check CODE`
 abbrev pub check_of : List (List ℕ) → Option Command
@@ -57,6 +69,7 @@ command_of [] = None
 command_of (name ∷ given) =
     if bytes_eq name (codes "order") then order_of given
     else if bytes_eq name (codes "cuts") then cuts_of given
+    else if bytes_eq name (codes "compile") then compile_of given
     else if bytes_eq name (codes "check") then check_of given
     else if bytes_eq name (codes "send") then send_of given
     else None

@@ -19,4 +19,4 @@ pub use networks::{Ordered, read_ordered};
 pub use outcome::{Outcome, conclude};
 pub use reading::{FileRefusal, read_whole};
 pub use status::{NetWhy, Status};
-pub use words::{Command, SendWords, command_of};
+pub use words::{Command, CompileWords, SendWords, command_of};

@@ -336,7 +336,7 @@ impl<'a> Line<'a> {
 
     /// A code was compiled.
     pub fn compiled(code: &Code) -> Line<'a>
-        ensures { result ≡ compiled_line code.now }
+        ensures { result ≡ compiled_line code.now.rate code.now.field (demand_count code.now.net) }
     {
         Line::of_code(b"compiled ", code)
     }

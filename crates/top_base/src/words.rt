@@ -3,8 +3,19 @@ ghost use Rattle.std.specs.Prelude.{◌≡◌, ◌<◌, ◌^◌, map, string_byt
 ghost use Rattle.std.specs.Char.{is_ascii_digit};
 ghost use Rattle.std.specs.List.{list_all};
 ghost use Rattle.std.specs.Option.{SomeIff, option_map};
-ghost use Rattle.top_base.specs.Words.{check_of, command_of, cuts_of, number_of, order_of, send_of, value_of_digits};
+ghost use Rattle.top_base.specs.Words.{check_of, command_of, compile_of, cuts_of, number_of, order_of, send_of, value_of_digits};
 ghost use Rattle.top_base.specs.Given.{command_in};
+
+/// What a command `compile` is given.
+#[derive(Clone, Copy)]
+pub struct CompileWords<'a> {
+    /// The path of the network.
+    pub net: &'a str,
+    /// The path of the code, which is written.
+    pub code: &'a str,
+    /// The path of the report, which is written.
+    pub report: &'a str,
+}
 
 /// What a command `send` is given.
 #[derive(Clone, Copy)]
@@ -28,6 +39,8 @@ pub enum Command<'a> {
     Order(&'a str),
     /// `cuts NET`.
     Cuts(&'a str),
+    /// `compile NET CODE REPORT`.
+    Compile(CompileWords<'a>),
     /// `check CODE`.
     Check(&'a str),
     /// `send CODE PATTERN SEED SRC PREFIX`.
@@ -44,6 +57,7 @@ pub fn command_of(words: &[String]) -> Option<Command<'_>>
     match name.as_str() {
         "order" => order_of(given),
         "cuts" => cuts_of(given),
+        "compile" => compile_of(given),
         "check" => check_of(given),
         "send" => send_of(given),
         _ => None,
@@ -68,6 +82,20 @@ fn cuts_of(given: &[String]) -> Option<Command<'_>>
         return None;
     };
     Some(Command::Cuts(net.as_str()))
+}
+
+// `compile NET CODE REPORT`.
+fn compile_of(given: &[String]) -> Option<Command<'_>>
+    ensures { option_map command_in result ≡ compile_of (map string_bytes given.now) }
+{
+    let [net, code, report] = given else {
+        return None;
+    };
+    Some(Command::Compile(CompileWords {
+        net: net.as_str(),
+        code: code.as_str(),
+        report: report.as_str(),
+    }))
 }
 
 // `check CODE`.

@@ -1,4 +1,7 @@
 pub mod Check
+pub mod Compile
+pub mod CompileLaws
 pub mod Cuts
 pub mod Order
+pub mod RefusalLaws
 pub mod ToolLaws

@@ -1,18 +1,15 @@
 //! The command `cuts`.
-ghost use Rattle.std.specs.Prelude.{◌≡◌, ◌⊎◌, ◌≤◌, ◌++◌, IfOk, OnOk};
-ghost use Rattle.std.specs.List.{flat_map};
-ghost use Rattle.cut_witness.specs.Certificate.{AreCertificates};
+ghost use Rattle.std.specs.Prelude.{◌⊎◌, ◌≤◌, IfOk, IsNone};
 ghost use Rattle.lif_outside.specs.Calls.{MakesCalls};
 ghost use Rattle.net_model.specs.Demands.{demand_count};
-ghost use Rattle.report_text.specs.Report.{entry_text};
 ghost use Rattle.top_base.specs.Inputs.{IsNoMemory};
-ghost use Rattle.top_tools.specs.Cuts.{IsReport, IsWitnessed, RunsCuts};
+ghost use Rattle.top_tools.specs.Cuts.{IsCrowded, IsReport, IsWitnessed, RunsCuts, field_of};
 
-use cut_witness::{Cert, certify_all, rate};
+use crate::reporting::report_of;
+use cut_witness::{certify_all, rate};
 use failure_patterns::{demands, used_field};
 use lif_outside::{Gate, Store};
 use net_model::Net;
-use report_text::{entry, head};
 use std::alloc::{AllocError, Global};
 use std::thread::Threads;
 use top_base::{Line, Outcome, Status, read_ordered};
@@ -20,31 +17,16 @@ use top_base::{Line, Outcome, Status, read_ordered};
 /// The most jobs that certificates are cut into.
 const WORKERS: u32 = 4;
 
-// Adds the lines of certificates to a text.
-fn push_entries(
-    alloc: Global,
-    text: &mut Vec<u8>,
-    net: &Net,
-    certs: &[Cert],
-) -> Result<(), AllocError>
-    requires { AreCertificates net.now certs.now }
-    ensures { OnOk result (text.new.items ≡ text.old.items ++ flat_map (entry_text net.now) certs.now) }
+/// What a network makes of a command that has more demands than a field serves.
+pub fn crowded<'a>(net: &Net) -> Outcome<'a>
+    requires { IsNone (field_of net.now) }
+    ensures { IsCrowded net.now result }
 {
-    for cert in certs {
-        let lines = entry(alloc, net, cert)?;
-        text.extend_from_slice(&lines)?;
+    let count = demands(net);
+    Outcome {
+        status: Status::TooManyDemands { count },
+        line: Line::too_many_demands(count),
     }
-    Ok(())
-}
-
-// The report of certificates.
-fn report_of(alloc: Global, net: &Net, certs: &[Cert]) -> Result<Vec<u8>, AllocError>
-    requires { AreCertificates net.now certs.now }
-    ensures { IfOk result (λ text. IsReport net.now text.items) }
-{
-    let mut text = head(alloc, rate(certs))?;
-    push_entries(alloc, &mut text, net, certs)?;
-    Ok(text)
 }
 
 // The report of a network's certificates.
@@ -58,7 +40,7 @@ fn report<G: Gate + Sync, R: Threads + Sync>(
     ensures { IfOk result (λ text. IsReport net.now text.items) }
 {
     let certs = certify_all(rt, alloc, net, WORKERS, gate)?;
-    report_of(alloc, net, &certs)
+    report_of(alloc, net, rate(&certs), &certs)
 }
 
 // Says the report of a network's certificates, where a field serves its demands.
@@ -71,11 +53,7 @@ fn witness<'a, G: Gate + Sync, R: Threads + Sync>(
     ensures { IsWitnessed net.now result ⊎ IsNoMemory result }
 {
     if used_field(net).is_none() {
-        let count = demands(net);
-        return Outcome {
-            status: Status::TooManyDemands { count },
-            line: Line::too_many_demands(count),
-        };
+        return crowded(net);
     }
     match report(rt, alloc, net, gate) {
         Ok(text) => Outcome {

@@ -1,11 +1,15 @@
 //! The commands that read one input and say what they find: the order of a network's links, its least cuts, and
-//! whether a code is accepted.
+//! whether a code is accepted. And the one that compiles a network and writes its code and report.
 #![tactic(auto)]
 
 mod checking;
+mod compiling;
 mod cutting;
+mod making;
 mod ordering;
+mod reporting;
 
 pub use checking::check;
+pub use compiling::compile;
 pub use cutting::cuts;
 pub use ordering::order;

@@ -4,7 +4,8 @@ use Rattle.std.specs.Str.{bytes_eq}
 use Rattle.generation_frame.specs.Blocks.{block_count}
 use Rattle.node_program.specs.declared.code.Code.{Code}
 use Rattle.top_base.specs.Lines.{sent_line}
-use Rattle.lif_top.specs.Paths.{output_paths, shared_path}
+use Rattle.top_base.specs.Paths.{shared_path}
+use Rattle.lif_top.specs.Paths.{output_paths}
 use Rattle.top_base.specs.Words.{Send}
 
 -- the greatest length of a source

@@ -4,7 +4,7 @@ use Rattle.std.specs.Option.{option_map}
 use Rattle.lif_outside.specs.Files.{AreDistinct}
 use Rattle.lif_top.proofs.GivenLaws.{named_in, outputs_in}
 use Rattle.top_base.specs.Given.{given_in}
-use Rattle.lif_top.specs.Paths.{shared_path}
+use Rattle.top_base.specs.Paths.{shared_path}
 use Rattle.lif_top.specs.Send.Given.{shared_of}
 use Rattle.lif_top.proofs.preparing.prepare.Goals as goal
 

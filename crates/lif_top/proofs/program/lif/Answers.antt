@@ -1,9 +1,9 @@
 use Rattle.std.proofs.Common.{Some, sym, ap, ◌∙◌}
 use Rattle.std.specs.Option.{option_map}
 use Rattle.lif_outside.specs.AccountLaws.{keeps_same}
-use Rattle.top_base.specs.Given.{given_in, command_in}
+use Rattle.top_base.specs.Given.{compile_given_in, given_in, command_in}
 use Rattle.top_base.specs.declared.words.Command.{Command}
-use Rattle.lif_top.proofs.Promising.{misused_promises, order_promises, cuts_promises, check_promises, send_promises}
+use Rattle.lif_top.proofs.Promising.{misused_promises, order_promises, cuts_promises, compile_promises, check_promises, send_promises}
 use Rattle.lif_top.proofs.program.lif.Goals as goal
 
 pub returns-in-None : goal.returns-in-None
@@ -38,6 +38,19 @@ returns-in-Some-Cuts g c =
           c.in-Some-Cuts.path.now
           (sym c.command_of.ensures ∙ ap (option_map command_in) (c.in-Some-Cuts.is ∙ ap (λ (command : Command). Some command) c.in-Some-Cuts.field-0-is))
           c.cuts-status.result calls puts;
+      counts = (g.met.S.Store.accounts calls.made _ _ calls.lead).counts;
+      say_count = (g.met.C.Sink.accounts puts.made _ _ puts.lead).count;
+    }
+
+pub returns-in-Some-Compile : goal.returns-in-Some-Compile
+returns-in-Some-Compile g c =
+    let calls = c.compile-status.ensures in
+    let puts = c.conclude-in-Some-Compile.ensures in
+    record {
+      promises = compile_promises g.S.Store g.C.Sink _ _ _ _ _ _ (λ events lead. g.met.S.Store.accounts events _ _ lead) (λ puts lead. g.met.C.Sink.accounts puts _ _ lead)
+          (compile_given_in c.in-Some-Compile.given)
+          (sym c.command_of.ensures ∙ ap (option_map command_in) (c.in-Some-Compile.is ∙ ap (λ (command : Command). Some command) c.in-Some-Compile.field-0-is))
+          c.compile-status.result calls puts;
       counts = (g.met.S.Store.accounts calls.made _ _ calls.lead).counts;
       say_count = (g.met.C.Sink.accounts puts.made _ _ puts.lead).count;
     }

@@ -9,7 +9,7 @@ use Rattle.std.proofs.lemmas.List.Sums.{sum_by-cons, get_or-le-sum_by}
 use Rattle.std.proofs.lemmas.Slice.Eq.{bytes_eq-Decides}
 use Rattle.lif_outside.specs.AccountLaws.{contains_none, contains_one}
 use Rattle.lif_outside.specs.Files.{AreDistinct}
-use Rattle.lif_top.specs.Paths.{is_shared, shared_path}
+use Rattle.top_base.specs.Paths.{is_shared, shared_path}
 
 -- what isn't found doesn't stand there
 none_found : {X : Type 0} (test : X → Bool) (xs : List X) (x : X) → find test xs ≡ None → Contains xs x → test x ≡ false

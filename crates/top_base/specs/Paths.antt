@@ -1,0 +1,12 @@
+-- The paths of outputs among those of a command.
+use Rattle.std.specs.Prelude.{ℕ, Bool, ◌||◌, nat_lt, List, Option, find, count_by}
+use Rattle.std.specs.List.{list_any}
+use Rattle.std.specs.Str.{bytes_eq}
+
+-- an output's path is that of an input or of another output
+abbrev pub is_shared : List (List ℕ) → List (List ℕ) → List ℕ → Bool
+is_shared inputs outputs path = list_any (bytes_eq path) inputs || nat_lt 1 (count_by (bytes_eq path) outputs)
+
+-- the first output's path that is
+abbrev pub shared_path : List (List ℕ) → List (List ℕ) → Option (List ℕ)
+shared_path inputs outputs = find (is_shared inputs outputs) outputs

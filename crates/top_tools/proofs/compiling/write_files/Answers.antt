@@ -1,0 +1,31 @@
+use Rattle.std.proofs.Common.{◌++◌, ◌∷◌, [], ap, subst, sym, ◌∙◌}
+use Rattle.lif_outside.specs.CallLaws.{calls_then, calls_weaker}
+use Rattle.lif_outside.specs.Runs.{StopsWithin}
+use Rattle.lif_outside.specs.TurnLaws.{stops_behind, stops_first}
+use Rattle.lif_outside.specs.Writes.{writes_of}
+use Rattle.top_base.specs.Exits.{on_err}
+use Rattle.top_tools.proofs.Writing.{err_then, ok_then}
+use Rattle.top_tools.proofs.compiling.write_files.Goals as goal
+
+pub returns-in_err-write_file-clause-stopped : goal.returns-in_err-write_file-clause-stopped
+returns-in_err-write_file-clause-stopped g c =
+    let words = c.args.words.now in
+    let code = writes_of ((words.code.now, c.args.code.now) ∷ []) in
+    let report = writes_of ((words.report.now, c.args.report.now) ∷ []) in
+    on_err c.from_residual.result (calls_weaker _ _ c.in_err-write_file.ensures.stopped (λ made stop. stops_first code report made stop))
+
+pub returns-clause-written : goal.returns-clause-written
+returns-clause-written g c =
+    let words = c.args.words.now in
+    let code = writes_of ((words.code.now, c.args.code.now) ∷ []) in
+    ok_then c.write_file-2.result c.write_file-2.ensures.written (λ last.
+    calls_then g.met.S.Store.more_calls _ _ _ c.in_ok-write_file.ensures.written last (λ first later one other. ap (λ calls. calls ++ later) one ∙ ap (λ calls. code ++ calls) other))
+
+pub returns-clause-stopped : goal.returns-clause-stopped
+returns-clause-stopped g c =
+    let words = c.args.words.now in
+    let code = writes_of ((words.code.now, c.args.code.now) ∷ []) in
+    let report = writes_of ((words.report.now, c.args.report.now) ∷ []) in
+    err_then c.write_file-2.result c.write_file-2.ensures.stopped (λ last.
+    calls_then g.met.S.Store.more_calls _ _ (StopsWithin (code ++ report)) c.in_ok-write_file.ensures.written last
+    (λ first later one other. subst (λ calls. StopsWithin (code ++ report) (calls ++ later)) (sym one) (stops_behind code report later other)))

@@ -1,0 +1,23 @@
+use Rattle.std.proofs.Common.{ap, ◌∙◌}
+use Rattle.code_file.specs.Items.{bytes_of}
+use Rattle.node_program.specs.Code.{choice_of}
+use Rattle.top_base.specs.Lines.{compiled_line}
+use Rattle.top_tools.proofs.MadeLaws.{same_count}
+use Rattle.top_tools.proofs.making.of_code.Goals as goal
+use Rattle.top_tools.specs.Compile.Ready.{files_of}
+use Rattle.topo_order.specs.Order.{order_of}
+
+pub returns : goal.returns
+returns c = λ given.
+    let net = c.args.net.now in
+    let code = c.args.code.now in
+    let report = c.in_ok-report_of.field-0.items in
+    record {
+      field = code.field;
+      served = c.requires.served;
+      code = code;
+      certs = c.args.certs.now;
+      compiled = c.requires.compiled;
+      files_are = ap (λ bytes. files_of given bytes report) c.in_ok-write_code.ensures ∙ ap (λ text. files_of given (bytes_of code) text) c.in_ok-report_of.ensures;
+      line_is = c.compiled.ensures ∙ ap (compiled_line code.rate code.field) (same_count (order_of net.links) (choice_of code.field) net code.net c.requires.compiled.network);
+    }

@@ -1,0 +1,8 @@
+-- The command `compile`.
+pub mod Runs
+pub mod Made
+pub mod Changes
+pub mod Due
+pub mod Promise
+pub mod Given
+pub mod Ready

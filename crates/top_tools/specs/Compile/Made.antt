@@ -1,0 +1,50 @@
+-- What `compile` makes of a network without a cycle, and which networks it refuses.
+use Rattle.std.specs.Prelude.{◌≡◌, ◌≤◌, ℕ, List, [], ◌∷◌, Some}
+use Rattle.cut_witness.specs.declared.cert.Cert.{Cert}
+use Rattle.code_file.specs.Items.{bytes_of}
+use Rattle.failure_patterns.specs.Rate.{IsRate}
+use Rattle.gf_tables.specs.declared.kind.FieldKind.{FieldKind}
+use Rattle.lif_compiler.specs.Compiled.{IsCompiled}
+use Rattle.lif_compiler.specs.Refused.{IsRateOver, IsZeroRate}
+use Rattle.lif_outside.specs.Writes.{Written}
+use Rattle.net_model.specs.Demands.{demand_count}
+use Rattle.net_model.specs.declared.net.Net.{Net}
+use Rattle.node_program.specs.Code.{choice_of}
+use Rattle.node_program.specs.declared.code.Code.{Code}
+use Rattle.report_text.specs.Report.{report_of}
+use Rattle.top_base.specs.Lines.{compiled_line, rate_over_line, zero_rate_line}
+use Rattle.top_base.specs.Words.{Compile}
+use Rattle.top_base.specs.declared.status.Status.{Status}
+use Rattle.top_base.specs.declared.status.Status.TheVariants.{RateOver, TooManyDemands, ZeroRate}
+use Rattle.top_tools.specs.Cuts.{IsCrowded, field_of}
+
+-- the field of this kind serves the demands
+abbrev pub IsServedBy : Net → FieldKind → Type 0
+IsServedBy net field = field_of net ≡ Some (choice_of field)
+
+-- a code of the network with certificates of its rate, and what is written and said of them
+pub record IsMade (given : Compile) (net : Net) (files : List Written) (line : List ℕ) : Type 0 where
+  pub field : FieldKind
+  pub served : IsServedBy net field
+  pub code : Code
+  pub certs : List Cert
+  pub compiled : IsCompiled net field code certs
+  pub files_are : files ≡ (given.code, bytes_of code) ∷ (given.report, report_of net code.rate certs) ∷ []
+  pub line_is : line ≡ compiled_line code.rate field (demand_count net)
+
+-- a network that a code is made of: a field serves its demands, and its rate is 1 to 32
+pub record IsGood (net : Net) (line : List ℕ) : Type 0 where
+  pub field : FieldKind
+  pub served : IsServedBy net field
+  pub rate : ℕ
+  pub is_rate : IsRate net rate
+  pub some : 1 ≤ rate
+  pub few : rate ≤ 32
+  pub line_is : line ≡ compiled_line rate field (demand_count net)
+
+-- a network that none is made of, by the status and the line: there are too many demands, or the rate is 0 or above 32
+abbrev pub RefusesMaking : Net → Status → List ℕ → Type 0
+RefusesMaking net (TooManyDemands count) line = IsCrowded net (record { status = TooManyDemands count; line = line })
+RefusesMaking net (ZeroRate demand side) line = (field : FieldKind) × IsServedBy net field × IsZeroRate net demand side × (line ≡ zero_rate_line net demand side)
+RefusesMaking net (RateOver demand least) line = (field : FieldKind) × IsServedBy net field × IsRateOver net demand least × (line ≡ rate_over_line net demand least)
+RefusesMaking net status line = ⊥

@@ -1,0 +1,109 @@
+//! The command `compile`.
+ghost use Rattle.std.specs.Prelude.{◌≡◌, ◌∷◌, [], OnErr, OnOk, ℕ};
+ghost use Rattle.std.specs.Option.{option_map};
+ghost use Rattle.lif_outside.specs.Calls.{MakesCalls};
+ghost use Rattle.lif_outside.specs.Runs.{Are, StopsWithin};
+ghost use Rattle.lif_outside.specs.Writes.{writes_of};
+ghost use Rattle.net_model.specs.Walks.{IsAcyclic};
+ghost use Rattle.net_model.specs.declared.net.Net.{Net};
+ghost use Rattle.top_base.specs.Given.{compile_given_in};
+ghost use Rattle.top_tools.specs.Compile.Given.{shared_of};
+ghost use Rattle.top_tools.specs.Compile.Ready.{IsReady, files_of};
+ghost use Rattle.top_tools.specs.Compile.Runs.{Runs, RunsNet};
+
+use crate::making::{Made, make};
+use lif_outside::{Failed, Gate, Store};
+use net_model::Net;
+use std::alloc::Global;
+use std::thread::Threads;
+use top_base::{CompileWords, Line, Outcome, Status, read_ordered};
+
+// The first path to be written that is that of the network or the other one.
+fn shared_path<'a>(words: &CompileWords<'a>) -> Option<&'a str>
+    ensures { option_map (λ path. path.now) result ≡ shared_of (compile_given_in words.now) }
+{
+    if words.code == words.net || words.code == words.report {
+        return Some(words.code);
+    }
+    if words.report == words.net {
+        return Some(words.report);
+    }
+    None
+}
+
+// Makes a file of these bytes.
+fn write_file<S: Store>(store: &mut S, path: &str, bytes: &[u8]) -> Result<(), Failed>
+    ensures written { OnOk result (MakesCalls S.Store store.old store.new (Are (writes_of ((path.now, bytes.now) ∷ [])))) }
+    ensures stopped { OnErr result (MakesCalls S.Store store.old store.new (StopsWithin (writes_of ((path.now, bytes.now) ∷ [])))) }
+{
+    store.create(path)?;
+    store.append(path, bytes)
+}
+
+// Makes the code's file, and then the report's.
+fn write_files<S: Store>(
+    store: &mut S,
+    words: &CompileWords<'_>,
+    code: &[u8],
+    report: &[u8],
+) -> Result<(), Failed>
+    ensures written { OnOk result (MakesCalls S.Store store.old store.new (Are (writes_of (files_of (compile_given_in words.now) code.now report.now)))) }
+    ensures stopped { OnErr result (MakesCalls S.Store store.old store.new (StopsWithin (writes_of (files_of (compile_given_in words.now) code.now report.now)))) }
+{
+    write_file(store, words.code, code)?;
+    write_file(store, words.report, report)
+}
+
+// Writes what was made of a network.
+fn write<'a, S: Store>(words: &CompileWords<'a>, made: Made<'a>, store: &mut S) -> Outcome<'a>
+    ensures { (net : Net) → IsReady net made.entry → MakesCalls S.Store store.old store.new (RunsNet (compile_given_in words.now) net result.status result.line) }
+{
+    match write_files(store, words, &made.code, &made.report) {
+        Ok(()) => Outcome {
+            status: Status::Done,
+            line: made.line,
+        },
+        Err(_) => Outcome::write_fault(),
+    }
+}
+
+// Compiles a network without a cycle, and writes its code and report.
+fn compile_net<'a, S: Store, G: Gate + Sync, R: Threads + Sync>(
+    rt: &R,
+    alloc: Global,
+    words: &CompileWords<'a>,
+    net: &Net,
+    store: &mut S,
+    gate: &G,
+) -> Outcome<'a>
+    requires { IsAcyclic net.now.links }
+    ensures { MakesCalls S.Store store.old store.new (RunsNet (compile_given_in words.now) net.now result.status result.line) }
+{
+    match make(rt, alloc, net, gate) {
+        Ok(made) => write(words, made, store),
+        Err(refused) => refused,
+    }
+}
+
+/// Reads a network, compiles it, and writes the code and the report of its certificates. All memory is taken before
+/// a file is made.
+pub fn compile<'a, S: Store, G: Gate + Sync, R: Threads + Sync>(
+    rt: &R,
+    alloc: Global,
+    words: &CompileWords<'a>,
+    store: &mut S,
+    gate: &G,
+) -> Outcome<'a>
+    ensures { MakesCalls S.Store store.old store.new (Runs (compile_given_in words.now) result) }
+{
+    if let Some(path) = shared_path(words) {
+        return Outcome {
+            status: Status::SamePath,
+            line: Line::same_path(path),
+        };
+    }
+    match read_ordered(alloc, store, words.net) {
+        Ok(ordered) => compile_net(rt, alloc, words, &ordered.net, store, gate),
+        Err(refused) => refused,
+    }
+}

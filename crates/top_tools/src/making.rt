@@ -1,0 +1,136 @@
+//! A code of a network and its report, as they are written.
+ghost use Rattle.std.specs.Prelude.{◌≡◌, ◌<◌, IfErr, IfOk, IsNone};
+ghost use Rattle.gf_tables.specs.Kind.{IsOfKind};
+ghost use Rattle.lif_compiler.specs.Compiled.{IsCompiled, marked_kind};
+ghost use Rattle.lif_compiler.specs.Refused.{IsRefusal};
+ghost use Rattle.net_model.specs.Walks.{IsAcyclic};
+ghost use Rattle.top_tools.specs.Compile.Made.{IsServedBy};
+ghost use Rattle.top_tools.specs.Compile.Ready.{IsReady, IsUnmade, RefusesOrLosesIt};
+
+use crate::cutting::crowded;
+use crate::reporting::report_of;
+use code_file::write_code;
+use counted_steps::Steps;
+use cut_witness::Cert;
+use failure_patterns::used_field;
+use gf_tables::{Field, Gf8, Gf16};
+use lif_compiler::CompileRefusal;
+use lif_outside::Gate;
+use net_model::{FieldChoice, Net};
+use node_program::Code;
+use std::alloc::{AllocError, Global};
+use std::marker::Brand;
+use std::sync::ledger::{Blank, Ledger};
+use std::thread::Threads;
+use top_base::{Line, Outcome, Status, zero_rate_line};
+
+/// A code's file and a report, and the line that is said of them.
+#[derive(Drop)]
+pub struct Made<'a> {
+    /// The bytes of the code's file.
+    pub code: Vec<u8>,
+    /// The text of the report.
+    pub report: Vec<u8>,
+    /// The line.
+    pub line: Line<'a>,
+}
+
+// What is written and said of a code of a network, and of certificates of its rate.
+fn of_code<'a>(
+    alloc: Global,
+    net: &Net,
+    code: &Code,
+    certs: &[Cert],
+) -> Result<Made<'a>, AllocError>
+    requires compiled { IsCompiled net.now code.now.field code.now certs.now }
+    requires served { IsServedBy net.now code.now.field }
+    ensures { IfOk result (IsReady net.now) }
+{
+    Ok(Made {
+        code: write_code(alloc, code)?,
+        report: report_of(alloc, net, code.rate, certs)?,
+        line: Line::compiled(code),
+    })
+}
+
+// What a network makes of the command that no code is made of.
+fn unmade<'a>(alloc: Global, net: &Net, why: CompileRefusal) -> Outcome<'a>
+    requires { IsUnmade net.now why }
+    ensures { RefusesOrLosesIt net.now result }
+{
+    match why {
+        CompileRefusal::ZeroRate { demand, side } => {
+            match zero_rate_line(alloc, net, demand, side.as_slice()) {
+                Ok(line) => Outcome {
+                    status: Status::ZeroRate { demand, side },
+                    line,
+                },
+                Err(_) => Outcome::out_of_memory(),
+            }
+        }
+        CompileRefusal::RateOver { demand, least } => Outcome {
+            status: Status::RateOver { demand, least },
+            line: Line::rate_over(net, demand, least),
+        },
+        CompileRefusal::OutOfMemory => Outcome::out_of_memory(),
+        CompileRefusal::Cyclic { .. } | CompileRefusal::TooManyDemands { .. } => unreachable!(),
+    }
+}
+
+// The code over the field `F`, with a counter of its own.
+fn code_in<F: Field, G: Gate + Sync, L: Ledger, R: Threads + Sync>(
+    rt: &R,
+    alloc: Global,
+    net: &Net,
+    gate: &G,
+    blank: Blank,
+) -> Result<(Code, Vec<Cert>), CompileRefusal>
+    requires field { IsOfKind (marked_kind F.MARK) F.SIZE F.BYTES F.MARK F.product }
+    requires name { blank.name ≡ L.name }
+    requires parts { blank.parts ≡ L.parts }
+    requires some_part { 0 < blank.parts }
+    ensures compiled { IfOk result (λ made. IsCompiled net.now (marked_kind F.MARK) made.0 made.1.items) }
+    ensures refused { IfErr result (IsRefusal net.now F.SIZE) }
+{
+    lif_compiler::compile::<F, G, L, R>(rt, alloc, net, gate, &mut Steps::<L>::start(blank))
+}
+
+// What is written and said of a network whose demands the field `F` serves.
+fn make_over<'a, F: Field, G: Gate + Sync, R: Threads + Sync>(
+    rt: &R,
+    alloc: Global,
+    net: &Net,
+    gate: &G,
+) -> Result<Made<'a>, Outcome<'a>>
+    requires field { IsOfKind (marked_kind F.MARK) F.SIZE F.BYTES F.MARK F.product }
+    requires served { IsServedBy net.now (marked_kind F.MARK) }
+    requires acyclic { IsAcyclic net.now.links }
+    ensures ready { IfOk result (IsReady net.now) }
+    ensures refused { IfErr result (RefusesOrLosesIt net.now) }
+{
+    match code_in::<F, G, Brand, R>(rt, alloc, net, gate, Blank::new(1)) {
+        Ok((code, certs)) => Ok(of_code(alloc, net, &code, &certs)?),
+        Err(why) => Err(unmade(alloc, net, why)),
+    }
+}
+
+/// Compiles a network without a cycle, over the field that serves its demands, and takes all memory that its code
+/// and report need.
+#[tactic(auto, unfolding(gf_tables::specs::Product::product))]
+pub fn make<'a, G: Gate + Sync, R: Threads + Sync>(
+    rt: &R,
+    alloc: Global,
+    net: &Net,
+    gate: &G,
+) -> Result<Made<'a>, Outcome<'a>>
+    requires { IsAcyclic net.now.links }
+    ensures ready { IfOk result (IsReady net.now) }
+    ensures refused { IfErr result (RefusesOrLosesIt net.now) }
+{
+    match used_field(net) {
+        Some(FieldChoice::Eight) => make_over::<Gf8, G, R>(rt, alloc, net, gate),
+        Some(FieldChoice::Sixteen) => make_over::<Gf16, G, R>(rt, alloc, net, gate),
+        Some(FieldChoice::Any) => unreachable!(),
+        None => Err(crowded(net)),
+    }
+}
