@@ -1,4 +1,5 @@
-// Networks of texts, as docs/FORMATS.md gives them, and the order of their links: what order.cpp and cuts.cpp share.
+// Networks of texts, as docs/FORMATS.md gives them, and the order of their links: what order.cpp, cuts.cpp and
+// compile.cpp share.
 #pragma once
 
 #include <algorithm>
@@ -33,13 +34,14 @@ struct Pattern {
     std::bitset<MOST_LINKS> fails;
 };
 
-// All names are parts of the text. The first pattern is the one without links.
+// All names are parts of the text. The first pattern is the one without links. The field is 0 where the text has none.
 struct Network {
     std::vector<std::string_view> nodes;
     std::vector<Link> links;
     std::vector<Pattern> patterns{{"none", {}}};
     std::vector<int> sinks;
     int source = -1;
+    int field = 0;
 };
 
 inline void require(bool holds, const char *why) {
@@ -84,7 +86,6 @@ private:
     std::vector<std::string_view> words;
     std::unordered_map<std::string_view, int> node_numbers, link_numbers, pattern_numbers{{"none", 0}};
     std::array<bool, MOST_NODES> is_sink{};
-    bool has_field = false;
 
     void split(std::string_view line) {
         words.clear();
@@ -121,8 +122,8 @@ private:
 
     void take_field() {
         require(words.size() == 2 && (words[1] == "8" || words[1] == "16"), "BadLine");
-        require(!has_field, "SecondField");
-        has_field = true;
+        require(network.field == 0, "SecondField");
+        network.field = words[1] == "8" ? 8 : 16;
     }
 
     void take_source() {

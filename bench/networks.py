@@ -13,6 +13,15 @@ nodes, with a link from each of them.
 of the first layer as the degree is, and each node of a layer as many to different nodes of the next one. The nodes of
 the last layer are the sinks. Pattern p fails all links into one layer but p, which are spread evenly; the layers take
 turns, all but the last one.
+
+`butterfly SINKS PATTERNS` is a butterfly with so many sinks. Each has the link of the middle from one node, and the
+first half of them a link from the one side, the second half from the other. The patterns fail links from the source to
+a node where nothing goes on.
+
+`mixed LAYERS WIDTH DEGREE SINKS RATE PATTERNS` has so many layers of so many nodes too. The source has one link to each
+node of the first layer, each node of a layer has as many as the degree is to different nodes of the next one, and each
+sink has as many as the rate is from different nodes of the last one, all by chance. Each pattern fails an eighth of the
+links into one layer, by chance; the layers take turns, all but the first one.
 """
 import itertools
 import random
@@ -101,8 +110,48 @@ def layers(count, width, degree, listed):
     return "".join(line + "\n" for line in lines)
 
 
-KINDS = {"patterns": (patterns, 0), "comments": (comments, 0), "combination": (combination, 2), "layers": (layers, 4)}
-USAGE = "patterns | comments | combination MIDDLES SIZE | layers LAYERS WIDTH DEGREE PATTERNS"
+def butterfly(sinks, listed):
+    numbers = range(1, sinks + 1)
+    lines = ["source s"] + [f"sink t{sink}" for sink in numbers]
+    lines += ["link s-a s a", "link s-b s b", "link a-c a c", "link b-c b c", "link c-d c d"]
+    lines += [f"link d-t{sink} d t{sink}" for sink in numbers]
+    sides = {sink: "a" if 2 * sink <= sinks else "b" for sink in numbers}
+    lines += [f"link {side}-t{sink} {side} t{sink}" for sink, side in sides.items()]
+    for pattern in range(1, listed + 1):
+        lines += [f"link e{pattern} s x", f"pattern p{pattern} e{pattern}"]
+    return "".join(line + "\n" for line in lines)
+
+
+def mixed(count, width, degree, sinks, rate, listed):
+    chance = random.Random(3)
+    lines = ["source s"] + [f"link l0.{node} s n0.{node}" for node in range(width)]
+    for layer, node in itertools.product(range(1, count), range(width)):
+        for step, head in enumerate(chance.sample(range(width), degree)):
+            lines.append(f"link l{layer}.{node * degree + step} n{layer - 1}.{node} n{layer}.{head}")
+    for sink in range(1, sinks + 1):
+        lines.append(f"sink t{sink}")
+        for step, tail in enumerate(chance.sample(range(width), rate)):
+            lines.append(f"link t{sink}.{step} n{count - 1}.{tail} t{sink}")
+    into = width * degree
+    for pattern in range(1, listed + 1):
+        layer = (pattern - 1) % (count - 1) + 1
+        names = [f"l{layer}.{link}" for link in chance.sample(range(into), into // 8)]
+        lines.append(" ".join([f"pattern p{pattern}"] + names))
+    return "".join(line + "\n" for line in lines)
+
+
+KINDS = {
+    "patterns": (patterns, 0),
+    "comments": (comments, 0),
+    "combination": (combination, 2),
+    "layers": (layers, 4),
+    "butterfly": (butterfly, 2),
+    "mixed": (mixed, 6),
+}
+USAGE = (
+    "patterns | comments | combination MIDDLES SIZE | layers LAYERS WIDTH DEGREE PATTERNS | "
+    "butterfly SINKS PATTERNS | mixed LAYERS WIDTH DEGREE SINKS RATE PATTERNS"
+)
 
 
 def main(kind="", *words):
