@@ -1,4 +1,4 @@
-//! The compiler: a network to a code of the greatest rate.
+//! The compiler: a network to a code of its rate, the least cut of a demand.
 ghost use Rattle.std.specs.Prelude.{◌≡◌, ◌≤◌, ℕ, List, [], IfErr, IfOk, IsTrue, length};
 ghost use Rattle.cut_witness.specs.Certificate.{AreCertificates, IsLeastValue};
 ghost use Rattle.gf_tables.specs.Kind.{IsOfKind};
@@ -84,10 +84,10 @@ fn build<F: Field, L: Ledger>(
 }
 
 /// An accepted code over the field `F`, one of the two that codes are over, with the certificates of the network's
-/// demands. The code's network is the given one with its links in order, its rate is the least value of the
-/// certificates, which is the greatest rate of any code. It exists for every network without a cycle that has at
-/// most as many demands as the field has elements, and whose rate is 1 to 32; else the refusal says which of this
-/// doesn't hold (Jaggi et al. 2005, for demands with failed links).
+/// demands. The code's network is the given one with its links in order, and its rate is the least value of the
+/// certificates: the least cut of a demand. There is such a code for every network without a cycle that has at most
+/// as many demands as the field has elements, and whose rate is 1 to 32; else the refusal says which of this doesn't
+/// hold (Jaggi et al. 2005, for demands with failed links).
 pub fn compile<F: Field, G: Gate + Sync, L: Ledger, R: Threads + Sync>(
     rt: &R,
     alloc: Global,

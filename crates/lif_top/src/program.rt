@@ -16,8 +16,8 @@ use top_tools::{check, compile, cuts, order};
 /// - `order NET` reads a network text and says the links in order.
 /// - `cuts NET` reads a network text and says for each sink and pattern the least cut, with paths and a side that show
 ///   it.
-/// - `compile NET CODE REPORT` reads a network text, and writes a code of the greatest rate and the report of the least
-///   cuts.
+/// - `compile NET CODE REPORT` reads a network text, and writes a code of its rate, which is the least cut of a demand,
+///   and the report of the least cuts.
 /// - `check CODE` reads a code file and says whether its code is accepted.
 /// - `send CODE PATTERN SEED SRC PREFIX` makes `PREFIX.<sink>` for each sink of an accepted code and writes to it what
 ///   the sink decodes of the file at SRC, where the links of the pattern fail.
