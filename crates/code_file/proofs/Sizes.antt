@@ -92,10 +92,10 @@ module _ {X : Type 0} (xs : List X) (i : ℕ) (d : X) where
 
 -- sums under a cap
 pub add_capped : (cap result room before extra total : ℕ) → result ≡ min (room + extra) cap → room ≡ min before cap → total ≡ before + extra → result ≡ min total cap
-add_capped cap result room before extra total summed capped whole = omega arith
+add_capped cap result room before extra total summed saturate whole = omega arith
 
 pub sum_capped : (cap result room other before extra total : ℕ) → result ≡ min (room + other) cap → room ≡ min before cap → other ≡ min extra cap → total ≡ before + extra → result ≡ min total cap
-sum_capped cap result room other before extra total summed capped capped' whole = omega arith
+sum_capped cap result room other before extra total summed saturate saturate' whole = omega arith
 
 -- the front of a file
 pub front-size : (mark : Item) (version rate : ℕ) (field : FieldKind) (net : Net) → length mark ≡ 4

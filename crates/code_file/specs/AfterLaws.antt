@@ -1,13 +1,13 @@
 -- Lists whose items each fit in view of the earlier ones, in the words of networks and codes.
-use Rattle.std.specs.Prelude.{◌≡◌, ℕ, ◌+◌, ◌<◌, ◌≤◌, Bool, true, false, ◌||◌, ◌==◌, nat_eq, nat_lt, List, [], ◌∷◌, ◌++◌, length, map}
+use Rattle.std.specs.Prelude.{◌≡◌, ℕ, ◌+◌, ◌<◌, ◌≤◌, Bool, true, false, ◌||◌, ◌==◌, nat_lt, List, [], ◌∷◌, ◌++◌, length, map}
 use Rattle.std.specs.List.{list_all, list_any, AllByRecursion}
 use Rattle.std.specs.Str.{bytes_eq}
 use Rattle.std.proofs.Common.{refl, sym, subst, ap, ◌∙◌, arith}
-use Rattle.std.proofs.lemmas.Bool.{and_parts, and_from, or_parts, or_from, not-true, not_from_false, eqb-true, eq-eqb, ltb-true, lt-ltb}
+use Rattle.std.proofs.lemmas.Bool.{and_parts, and_from, or_parts, or_from, not-true, not_from_false, ltb-true, lt-ltb}
 use Rattle.std.proofs.lemmas.List.{map-append}
 use Rattle.std.proofs.lemmas.List.Folds.{list_any-append}
-use Rattle.std.proofs.lemmas.Slice.Eq.{bytes_eq-Decides}
 use Rattle.net_model.specs.Lists.{are_distinct, is_rising, is_among}
+use Rattle.net_model.specs.ListLaws.{nat_eq-swap, bytes_eq-swap}
 use Rattle.net_model.specs.Name.{is_name}
 use Rattle.net_model.specs.Network.{are_names}
 use Rattle.net_model.specs.declared.Link.{Link}
@@ -51,29 +51,6 @@ module _ {X Y : Type 0} (part : X → Y) (P : List Y → Y → Type 0) where
   AllAfter-from_map earlier [] all = tt
   AllAfter-from_map earlier (x ∷ xs) all =
       (all.0, AllAfter-from_map (earlier ++ x ∷ []) xs (subst (λ (before : List Y). AllAfter P before (map part xs)) (sym (map-append part earlier (x ∷ []))) all.1))
-
--- a test of the parts is one of the items
-pub list_any-map : {X Y : Type 0} (part : X → Y) (test : Y → Bool) (xs : List X) → list_any test (map part xs) ≡ list_any (λ x. test (part x)) xs
-list_any-map part test [] = refl
-list_any-map part test (x ∷ xs) = ap (λ (b : Bool). test (part x) || b) (list_any-map part test xs)
-
--- ---- tests that don't depend on the order of their two sides
-
--- tests that pass together
-same_truth : (p q : Bool) → (p ≡ true → q ≡ true) → (q ≡ true → p ≡ true) → p ≡ q
-same_truth true true there back = refl
-same_truth true false there back = sym (there refl)
-same_truth false true there back = back refl
-same_truth false false there back = refl
-
--- numbers
-pub nat_eq-swap : (a b : ℕ) → nat_eq a b ≡ nat_eq b a
-nat_eq-swap a b = same_truth (nat_eq a b) (nat_eq b a) (λ h. eq-eqb b a (sym (eqb-true a b h))) (λ h. eq-eqb a b (sym (eqb-true b a h)))
-
--- texts
-pub bytes_eq-swap : (a b : List ℕ) → bytes_eq a b ≡ bytes_eq b a
-bytes_eq-swap a b =
-    same_truth (bytes_eq a b) (bytes_eq b a) (λ h. (bytes_eq-Decides b a).1 (sym ((bytes_eq-Decides a b).0 h))) (λ h. (bytes_eq-Decides a b).1 (sym ((bytes_eq-Decides b a).0 h)))
 
 -- ---- distinct items
 

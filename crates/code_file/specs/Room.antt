@@ -4,8 +4,8 @@ use Rattle.std.specs.List.{concat}
 use Rattle.code_file.specs.Items.{Item}
 
 -- a number, or the greatest that there is
-abbrev pub capped : ℕ → ℕ
-capped n = min n (2 ^ 64 - 1)
+abbrev pub saturate : ℕ → ℕ
+saturate n = min n (2 ^ 64 - 1)
 
 -- how many bytes the items have
 unfoldable pub size_of_items : List Item → ℕ

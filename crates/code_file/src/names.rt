@@ -1,5 +1,5 @@
-//! Names, each of which stands only once in its kind.
-ghost use Rattle.std.specs.Prelude.{◌≡◌, ◌++◌, ◌∷◌, [], true, false, not, OnOk, IfOk};
+//! Names in code files.
+ghost use Rattle.std.specs.Prelude.{◌≡◌, ◌++◌, ◌∷◌, [], false, IfOk};
 ghost use Rattle.std.specs.List.{list_any};
 ghost use Rattle.std.specs.Str.{bytes_eq};
 ghost use Rattle.net_model.specs.Name.{IsName};
@@ -9,43 +9,9 @@ ghost use Rattle.code_file.specs.Gives.{Gives, left_of};
 use crate::CodeRefusal;
 use crate::items::item;
 use crate::rest::Rest;
-use indexmap::IndexSet;
+use name_index::Names;
 use net_model::{Name, is_name};
-use std::alloc::{AllocError, Global};
-use std::marker::Model;
-
-/// The names of a kind so far, in order.
-#[derive(Drop)]
-pub(crate) struct Names<'a> {
-    seen: IndexSet<&'a [u8]>,
-}
-
-impl<'a> Model for Names<'a> {
-    ghost use Rattle.std.specs.Prelude.{List, ℕ, map};
-
-    ghost Value = { List (List ℕ) };
-
-    ghost view = { λ names. map (λ name. name.now) names.seen.keys };
-}
-
-impl<'a> Names<'a> {
-    /// No names.
-    pub fn new(alloc: Global) -> Names<'a>
-        ensures { result ≡ [] }
-    {
-        Names {
-            seen: IndexSet::new(alloc),
-        }
-    }
-
-    /// Adds a name, unless it is there: then the answer is `false`.
-    pub fn add(&mut self, name: &'a [u8]) -> Result<bool, AllocError>
-        ensures fresh { IfOk result (λ fresh. fresh ≡ not (list_any (bytes_eq name.now) self.old)) }
-        ensures added { IfOk result (λ fresh. fresh ≡ true → self.new ≡ self.old ++ name.now ∷ []) }
-    {
-        Ok(self.seen.insert(name)?)
-    }
-}
+use std::alloc::Global;
 
 // The bytes of the next name, which may be an earlier one.
 #[tactic(auto, using(crate::proofs::Checks::name_plain))]

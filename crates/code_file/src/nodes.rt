@@ -10,8 +10,9 @@ ghost use Rattle.code_file.specs.Marks.{AreMarks};
 use crate::CodeRefusal;
 use crate::items::{count, number};
 use crate::marks::{is_marked, mark, no_marks};
-use crate::names::{Names, name};
+use crate::names::name;
 use crate::rest::Rest;
+use name_index::Names;
 use net_model::{Name, NameList, NodeList};
 use std::alloc::Global;
 

@@ -6,9 +6,10 @@ ghost use Rattle.code_file.specs.Gives.{Gives, left_of};
 
 use crate::CodeRefusal;
 use crate::items::number;
-use crate::names::{Names, name};
+use crate::names::name;
 use crate::rest::Rest;
 use crate::rising::is_above_last;
+use name_index::Names;
 use net_model::{LinkList, Name, Pattern, PatternList};
 use std::alloc::Global;
 

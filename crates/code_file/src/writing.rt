@@ -121,6 +121,16 @@ fn put_decoders(out: &mut Vec<u8>, field: FieldKind, decoders: &[Decoder]) -> Re
     Ok(())
 }
 
+// The number of a field in code files.
+fn mark_byte(field: FieldKind) -> u8
+    ensures { result ≡ mark_of field }
+{
+    match field {
+        FieldKind::Eight => 8,
+        FieldKind::Sixteen => 16,
+    }
+}
+
 // Adds the mark, the version, the field and the rate.
 fn put_head(
     out: &mut Vec<u8>,
@@ -133,12 +143,7 @@ fn put_head(
     ensures { OnOk result (out.new.items ≡ out.old.items ++ (mark.now ++ (version ∷ mark_of field ∷ rate ∷ []))) }
 {
     out.extend_from_slice(mark)?;
-    out.push(version)?;
-    out.push(match field {
-        FieldKind::Eight => 8,
-        FieldKind::Sixteen => 16,
-    })?;
-    Ok(out.push(rate as u8)?)
+    Ok(out.extend_from_slice(&[version, mark_byte(field), rate as u8])?)
 }
 
 // Adds all up to the operands.

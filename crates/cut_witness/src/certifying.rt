@@ -1,6 +1,7 @@
 //! Certificates of a network's demands.
 ghost use Rattle.std.specs.Prelude.{◌≡◌, ◌≤◌, ◌<◌, ℕ, List, IfOk, length};
 ghost use Rattle.counted_steps.specs.Steps.{RoseByAtMost};
+ghost use Rattle.failure_patterns.specs.UsedField.{pair_demands};
 ghost use Rattle.cut_witness.specs.Certificate.{AreCertificates, IsCertificate, IsDemand, IsLeastValue};
 ghost use Rattle.net_model.specs.Demands.{demand_count};
 ghost use Rattle.net_model.specs.Flows.{IsCut, flow_network};
@@ -45,7 +46,7 @@ pub fn certify_all<G: Gate + Sync, R: Threads + Sync>(
     gate: &G,
 ) -> Result<Vec<Cert>, AllocError>
     requires workers { 1 ≤ workers }
-    requires few { demand_count net.now ≤ 65536 }
+    requires few { demand_count net.now ≤ pair_demands }
     ensures { IfOk result (λ certs. AreCertificates net.now certs.items) }
 {
     let wiring = wiring_of(alloc, net)?;

@@ -1,6 +1,7 @@
 //! The demands of a network, cut into runs.
 ghost use Rattle.std.specs.Prelude.{◌≡◌, ◌<◌, ◌≤◌, ◌*◌, ◌/◌, ℕ, IfOk, OnOk, List, length};
 ghost use Rattle.counted_steps.specs.Steps.{RoseByAtMost};
+ghost use Rattle.failure_patterns.specs.UsedField.{pair_demands};
 ghost use Rattle.cut_witness.specs.Certificate.{AreCertificates, IsCertificate, IsDemand};
 ghost use Rattle.cut_witness.specs.Runs.{AreFirstCertificates};
 ghost use Rattle.link_chains.specs.Wiring.{IsWiring};
@@ -56,7 +57,7 @@ pub fn certify_runs<G: Gate>(
 ) -> Result<Vec<Cert>, AllocError>
     requires wiring { IsWiring net.now.links (length net.now.nodes) wiring.now }
     requires some { 0 < runs }
-    requires few { demand_count net.now ≤ 65536 }
+    requires few { demand_count net.now ≤ pair_demands }
     ensures { IfOk result (λ certs. AreCertificates net.now certs.items) }
 {
     let count = demands(net);
@@ -73,7 +74,7 @@ pub fn certify_runs<G: Gate>(
 // The number of the first demand of a run, among so many demands.
 fn run_start(run: u32, runs: u32, count: u64) -> u64
     requires some { 0 < runs }
-    requires few { count ≤ 65536 }
+    requires few { count ≤ pair_demands }
     ensures { result ≡ run * count / runs }
 {
     run as u64 * count / runs as u64

@@ -2,15 +2,15 @@
 use Rattle.std.proofs.Common.{◌≡◌, ℕ, ◌+◌, ◌-◌, ◌*◌, ◌/◌, ◌%◌, ◌<◌, ◌≤◌, List, get_or, refl, ap, ◌∙◌, arith, inl, inr, bit_xor}
 use Rattle.std.proofs.lemmas.Bool.{cases_lt}
 use Rattle.field_rows.specs.PairSums.{pair_sum}
-use Rattle.field_rows.specs.Parted.{exchanged, place_of_lane, lane_of_place}
+use Rattle.field_rows.specs.Parted.{exchange_eights, place_of_lane, lane_of_place}
 
 -- numbers exchanged twice are as they were
-exchanged_twice : (m : ℕ) → m < 32 → exchanged (exchanged m) ≡ m
-exchanged_twice m l = omega arith
+exchange_eights-twice : (m : ℕ) → m < 32 → exchange_eights (exchange_eights m) ≡ m
+exchange_eights-twice m l = omega arith
 
 -- half a place, exchanged
-exchanged_below : (m : ℕ) → m < 32 → exchanged m < 32
-exchanged_below m l = omega arith
+exchange_eights-below : (m : ℕ) → m < 32 → exchange_eights m < 32
+exchange_eights-below m l = omega arith
 
 -- what the number of a lane is made of, and that of the lane in the other half
 record AreLaneParts (half rest lane : ℕ) : Type 0 where
@@ -23,14 +23,14 @@ lane_parts : (half rest : ℕ) → half < 2 → rest < 32 → AreLaneParts half 
 lane_parts half rest h l = record { is_rest = omega arith; is_half = omega arith; other_rest = omega arith; other_half = omega arith }
 
 module _ (j : ℕ) (l : j < 64) where
-  below : exchanged (j / 2) < 32
-  below = exchanged_below (j / 2) (omega arith)
+  below : exchange_eights (j / 2) < 32
+  below = exchange_eights-below (j / 2) (omega arith)
 
-  back : exchanged (exchanged (j / 2)) ≡ j / 2
-  back = exchanged_twice (j / 2) (omega arith)
+  back : exchange_eights (exchange_eights (j / 2)) ≡ j / 2
+  back = exchange_eights-twice (j / 2) (omega arith)
 
-  parts : AreLaneParts (j % 2) (exchanged (j / 2)) (lane_of_place j)
-  parts = lane_parts (j % 2) (exchanged (j / 2)) (omega arith) below
+  parts : AreLaneParts (j % 2) (exchange_eights (j / 2)) (lane_of_place j)
+  parts = lane_parts (j % 2) (exchange_eights (j / 2)) (omega arith) below
 
   pub lane_below : lane_of_place j < 64
   lane_below = omega (arith, below)
@@ -63,7 +63,7 @@ module _ (low high both wrapped : ℕ → ℕ) (straight crosswise : ℕ → ℕ
   given_at j l =
       let lane = lane_of_place j in
       let below : lane < 64 = lane_below j l in
-      let rest = exchanged_below (j / 2) (omega arith) in
+      let rest = exchange_eights-below (j / 2) (omega arith) in
       let own : get_or bytes lane 0 ≡ get_or from (at + j) 0 = parted lane (omega arith) ∙ ap (λ k. get_or from (at + k) 0) (place_of_lane-own j l) in
       let other : get_or bytes ((lane + 32) % 64) 0 ≡ get_or from (at + (2 * (j / 2) + (1 - j % 2))) 0 =
       parted ((lane + 32) % 64) (omega arith) ∙ ap (λ k. get_or from (at + k) 0) (place_of_lane-other j l)

@@ -102,8 +102,8 @@ Element {A} is_element = (x : A) × ∥ is_element x ∥₁
 
 module _ {A : Type 0} {is_element : A → Type 0} where
   -- an element, from the proof that it is one
-  abbrev element : (x : A) → is_element x → Element is_element
-  element x p = (x, ∣ p ∣₁)
+  abbrev with_proof : (x : A) → is_element x → Element is_element
+  with_proof x p = (x, ∣ p ∣₁)
 
   -- what gives elements, as an operation on them
   abbrev on_elements : (f : A → A → A) → ((x y : A) → is_element x → is_element y → is_element (f x y))
@@ -112,7 +112,7 @@ module _ {A : Type 0} {is_element : A → Type 0} where
 
   -- a pair of elements, from the proofs that they are
   abbrev pair_of_elements : (x : Quad A) → AreElements is_element x → Quad (Element is_element)
-  pair_of_elements x p = pair (element x.low p.0) (element x.high p.1)
+  pair_of_elements x p = pair (with_proof x.low p.0) (with_proof x.high p.1)
 
   -- and back
   abbrev pair_of_values : Quad (Element is_element) → Quad A
@@ -139,7 +139,7 @@ module _ {A : Type 0} {is_element : A → Type 0} {zero one : A} {add mul : A �
       ∥∥₁_elim x.1 once (λ p. ∥∥₁_elim y.1 once (λ q. ∥∥₁_elim z.1 once (h p q)))
 
   -- the elements are a ring
-  elements : IsRing (element zero F.zero_element) (element one F.one_element) (on_elements add F.add_element) (on_elements mul F.mul_element)
+  elements : IsRing (with_proof zero F.zero_element) (with_proof one F.one_element) (on_elements add F.add_element) (on_elements mul F.mul_element)
   elements = record {
     add_comm = λ x y. same_element _ _ (from_elements x y y (λ p q _. F.add_comm x.0 y.0 p q));
     add_assoc = λ x y z. same_element _ _ (from_elements x y z (F.add_assoc x.0 y.0 z.0));
@@ -163,13 +163,13 @@ module _ {A : Type 0} {is_element : A → Type 0} {zero one : A} {add mul : A �
         where
           go : Dec (x.high ≡ zero) → norm add mul root x.low x.high ≢ zero
           go (yes e) =
-              let square = ap (λ w. w.0) (norm-constant elements (element root root_element) (element x.low p.0)) in
+              let square = ap (λ w. w.0) (norm-constant elements (with_proof root root_element) (with_proof x.low p.0)) in
               let low_nonzero : x.low ≢ zero = λ l. n (λ i. pair (l i) (e i)) in
               λ h. F.mul_nonzero x.low x.low p.0 p.0 low_nonzero low_nonzero (sym square ∙ ap (norm add mul root x.low) (sym e) ∙ h)
           go (no m) =
-              let d = element (inv x.high) (F.inv_element x.high p.1 m) in
+              let d = with_proof (inv x.high) (F.inv_element x.high p.1 m) in
               let quotient = same_element _ _ (F.mul_inv x.high p.1 m) in
-              let product = ap (λ w. w.0) (norm-quotient elements (element root root_element) (element x.low p.0) (element x.high p.1) d quotient) in
+              let product = ap (λ w. w.0) (norm-quotient elements (with_proof root root_element) (with_proof x.low p.0) (with_proof x.high p.1) d quotient) in
               let t_element : is_element (mul x.low (inv x.high)) = F.mul_element x.low (inv x.high) p.0 (F.inv_element x.high p.1 m) in
               let square_nonzero = F.mul_nonzero x.high x.high p.1 p.1 m m in
               λ h. F.mul_nonzero _ _ (F.mul_element x.high x.high p.1 p.1) (search (F.add_element, F.mul_element)) square_nonzero (no_root _ t_element) (sym product ∙ h)
@@ -181,9 +181,9 @@ module _ {A : Type 0} {is_element : A → Type 0} {zero one : A} {add mul : A �
       -- the product of a pair and its inverse
       pair_mul-inv : (x : Quad A) → AreElements is_element x → x ≢ pair zero zero → pair_mul add mul root x (pair_inv add mul root inv x) ≡ pair one zero
       pair_mul-inv x p n =
-          let d = element (inv (norm add mul root x.low x.high)) (inverse_element x p n) in
+          let d = with_proof (inv (norm add mul root x.low x.high)) (inverse_element x p n) in
           let quotient = same_element _ _ (F.mul_inv _ (norm_element x.low x.high p.0 p.1) (norm_nonzero x p n)) in
-          ap pair_of_values (mul-inv elements (element root root_element) (pair_of_elements x p) d quotient)
+          ap pair_of_values (mul-inv elements (with_proof root root_element) (pair_of_elements x p) d quotient)
 
       -- the inverse of a pair is one of elements
       pair_inv_element : (x : Quad A) → AreElements is_element x → x ≢ pair zero zero → AreElements is_element (pair_inv add mul root inv x)
@@ -191,7 +191,7 @@ module _ {A : Type 0} {is_element : A → Type 0} {zero one : A} {add mul : A �
 
       -- the pairs of elements are a field
       pub pair_field : IsField (AreElements is_element) (pair zero zero) (pair one zero) (pair_add add) (pair_mul add mul root) (pair_inv add mul root inv)
-      pair_field = let ring = pairs elements (element root root_element) in record {
+      pair_field = let ring = pairs elements (with_proof root root_element) in record {
         zero_element = (F.zero_element, F.zero_element);
         one_element = (F.one_element, F.zero_element);
         add_element = λ x y p q. search (F.add_element);

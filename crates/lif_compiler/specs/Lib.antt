@@ -1,5 +1,6 @@
 pub mod Compiled
 pub mod Refused
+pub mod RefusedLaws
 pub mod RatingLaws
 pub mod Hops
 pub mod InOrderLaws
@@ -26,4 +27,3 @@ pub mod RouteLaws
 pub mod Planning
 pub mod PlanningLaws
 pub mod OriginLaws
-pub mod Butterfly

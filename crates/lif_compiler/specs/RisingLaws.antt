@@ -11,7 +11,7 @@ use Rattle.std.proofs.lemmas.List.Kept.{AllPairs-from_increasing, Contains-dedup
 use Rattle.std.proofs.lemmas.List.Sums.{AllPass-from_list_all, list_all-from_AllPass}
 use Rattle.std.proofs.lemmas.Map.Keys.{IsStrictlyIncreasing-dedup}
 use Rattle.std.proofs.lemmas.Map.Views.{Contains-from_any, list_any-from_Contains}
-use Rattle.net_model.specs.ListLaws.{is_among-from_list_any, list_any-from_is_among}
+use Rattle.net_model.specs.ListLaws.{is_among-from_list_any, list_any-from_is_among, same_truth}
 use Rattle.net_model.specs.Lists.{is_among, is_rising}
 
 -- a rising list has smaller numbers at earlier places
@@ -55,12 +55,6 @@ is_rising-from_increasing xs increasing = is_rising-from_places xs (AllPairs-fro
 -- a sorted list with each number once rises
 pub is_rising-dedup : (xs : List ℕ) → IsSorted nat_cmp xs → is_rising (dedup nat_eq xs) ≡ true
 is_rising-dedup xs sorted = is_rising-from_increasing (dedup nat_eq xs) (IsStrictlyIncreasing-dedup xs sorted)
-
--- tests that pass for each other are one
-same_truth : (p q : Bool) → (p ≡ true → q ≡ true) → (q ≡ true → p ≡ true) → p ≡ q
-same_truth true q there back = sym (there refl)
-same_truth false true there back = back refl
-same_truth false false there back = refl
 
 -- a number is in a list where the test finds it
 pub Contains-from_is_among : (xs : List ℕ) (number : ℕ) → is_among xs number ≡ true → Contains xs number

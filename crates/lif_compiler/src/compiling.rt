@@ -3,10 +3,11 @@ ghost use Rattle.std.specs.Prelude.{◌≡◌, ◌≤◌, ℕ, List, [], IfErr, 
 ghost use Rattle.cut_witness.specs.Certificate.{AreCertificates, IsLeastValue};
 ghost use Rattle.gf_tables.specs.Kind.{IsOfKind};
 ghost use Rattle.net_model.specs.Demands.{demand_count};
+ghost use Rattle.net_model.specs.Renumbering.{HasEachOnce};
 ghost use Rattle.net_model.specs.Walks.{IsAcyclic};
 ghost use Rattle.node_program.specs.Code.{are_in_order, choice_of};
 ghost use Rattle.topo_order.specs.Order.{order_of};
-ghost use Rattle.lif_compiler.specs.Compiled.{IsCompiled, marked_kind};
+ghost use Rattle.lif_compiler.specs.Compiled.{IsCompiled, IsRenumbered, marked_kind};
 ghost use Rattle.lif_compiler.specs.Refused.{IsRefusal};
 ghost use Rattle.lif_compiler.specs.Visits.{AreVisitable, IsFilled};
 
@@ -56,6 +57,14 @@ fn fill<F: Field, L: Ledger>(
     Ok((OperandTable::of(draft.operands), decoders))
 }
 
+// A network with its links in a new order, and with the field named.
+fn in_order<F: Field>(alloc: Global, net: &Net, order: &[u32]) -> Result<Net, AllocError>
+    requires { HasEachOnce (length net.now.links) order.now }
+    ensures { IfOk result (λ new. IsRenumbered order.now (choice_of (marked_kind F.MARK)) net.now new) }
+{
+    Ok(net.renumbered(alloc, order, choice_of(kind_of::<F>()))?)
+}
+
 // A code of a network without a cycle, from the certificates of its demands, of which the least value is the rate.
 fn build<F: Field, L: Ledger>(
     alloc: Global,
@@ -75,12 +84,11 @@ fn build<F: Field, L: Ledger>(
     requires low { rate ≤ 32 }
     ensures { IfOk result (λ code. IsCompiled net.now (marked_kind F.MARK) code certs.now) }
 {
-    let kind = kind_of::<F>();
     let routes = routes_of(alloc, certs, order, rate)?;
     let hops = hops_of(alloc, net.links.len(), &routes)?;
-    let net = net.renumbered(alloc, order, choice_of(kind))?;
+    let net = in_order::<F>(alloc, net, order)?;
     let (operands, decoders) = fill::<F, L>(alloc, &net, rate, &hops, steps)?;
-    Ok(Code::of(net, rate, kind, operands, decoders))
+    Ok(Code::of(net, rate, kind_of::<F>(), operands, decoders))
 }
 
 /// An accepted code over the field `F`, one of the two that codes are over, with the certificates of the network's

@@ -21,6 +21,3 @@ mod visiting;
 pub use compiling::compile;
 pub use hops::{Hop, HopList};
 pub use refusal::CompileRefusal;
-
-#[cfg(test)]
-mod tests;

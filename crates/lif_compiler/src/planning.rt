@@ -1,6 +1,7 @@
 //! The hops over each link.
 ghost use Rattle.std.specs.Prelude.{◌≡◌, ◌<◌, ◌≤◌, ◌^◌, ℕ, List, [], All, IfOk, IsTrue, OnOk, Some, length, map, nat_eq, slice_get};
 ghost use Rattle.std.specs.List.{concat};
+ghost use Rattle.failure_patterns.specs.UsedField.{pair_demands};
 ghost use Rattle.net_model.specs.Lists.{are_distinct};
 ghost use Rattle.lif_compiler.specs.declared.hops.Hop.{Hop};
 ghost use Rattle.lif_compiler.specs.Hops.{AreHops};
@@ -19,7 +20,7 @@ pub(crate) fn hops_of(
 ) -> Result<Vec<HopList>, AllocError>
     requires below { All (All (All (λ link. link < links))) routes.now }
     requires apart { All (λ paths. IsTrue (are_distinct nat_eq (concat paths))) routes.now }
-    requires few_demands { length routes.now ≤ 65536 }
+    requires few_demands { length routes.now ≤ pair_demands }
     requires few_paths { All (λ paths. length paths ≤ 32) routes.now }
     ensures count { IfOk result (λ hops. length hops.items ≡ links) }
     ensures hops { IfOk result (λ hops. (link : ℕ) (at : List Hop) → slice_get hops.items link ≡ Some at → AreHops routes.now link at) }

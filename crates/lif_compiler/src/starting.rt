@@ -3,6 +3,7 @@ ghost use Rattle.std.specs.Prelude.{◌≡◌, ◌≤◌, [], All, IfOk, IsTrue,
 ghost use Rattle.field_vectors.specs.Elements.{identity_of};
 ghost use Rattle.field_vectors.specs.Grid.{grid_of};
 ghost use Rattle.gf_tables.specs.Kind.{IsOfKind};
+ghost use Rattle.failure_patterns.specs.UsedField.{pair_demands};
 ghost use Rattle.net_model.specs.Demands.{demand_count};
 ghost use Rattle.node_program.specs.Code.{are_in_order, choice_of};
 ghost use Rattle.lif_compiler.specs.Compiled.{marked_kind};
@@ -69,7 +70,7 @@ impl<F: Field> Draft<F> {
         requires field { IsOfKind (marked_kind F.MARK) F.SIZE F.BYTES F.MARK F.product }
         requires some { 1 ≤ rate }
         requires low { rate ≤ 32 }
-        requires few { demand_count net.now ≤ 65536 }
+        requires few { demand_count net.now ≤ pair_demands }
         requires order { IsTrue (are_in_order [] net.now.links) }
         requires named { net.now.field ≡ choice_of (marked_kind F.MARK) }
         ensures rate { IfOk result (λ draft. draft.rate ≡ rate) }

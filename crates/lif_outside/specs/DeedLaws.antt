@@ -18,10 +18,10 @@ pub record Accounted (deeds : Deeds) (before after : Outside) : Type 0 where
   pub said : Becomes before.said after.said (Grow deeds.puts)
   pub failed_put : (bytes : List ℕ) → Contains deeds.puts (put_failed bytes) → Rose before.say_faults after.say_faults
 
-pub accounted : {S C : Type 0} (g : StoreGhosts S) (h : SinkGhosts C) (deeds : Deeds) (store_old store_new : S) (say_old say_new : C)
+pub Accounted-from_calls : {S C : Type 0} (g : StoreGhosts S) (h : SinkGhosts C) (deeds : Deeds) (store_old store_new : S) (say_old say_new : C)
     → StoreAccounts g.files g.read_faults g.write_faults g.made deeds.calls store_old store_new → SinkAccounts h.written h.faults deeds.puts say_old say_new
     → Accounted deeds (outside_at g h store_old say_old) (outside_at g h store_new say_new)
-accounted g h deeds store_old store_new say_old say_new store say = record {
+Accounted-from_calls g h deeds store_old store_new say_old say_new store say = record {
   files = store.content;
   failed_read = store.failed_read;
   failed_create = store.failed_create;

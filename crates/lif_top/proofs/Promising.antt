@@ -5,7 +5,7 @@ use Rattle.lif_outside.specs.declared.sink.Sink.{Ghosts as SinkGhosts}
 use Rattle.lif_outside.specs.declared.store.Store.{Ghosts as StoreGhosts}
 use Rattle.lif_outside.specs.Accounts.{StoreAccounts, SinkAccounts}
 use Rattle.lif_outside.specs.Calls.{Deeds, Does, MakesCalls, MakesPuts, outside_at}
-use Rattle.lif_outside.specs.DeedLaws.{Accounted, accounted}
+use Rattle.lif_outside.specs.DeedLaws.{Accounted, Accounted-from_calls}
 use Rattle.lif_outside.specs.Events.{Event}
 use Rattle.lif_outside.specs.Puts.{Put}
 use Rattle.top_tools.specs.Check.{Checks, RunsCheck}
@@ -79,7 +79,7 @@ module _ {S C : Type 0} (g : StoreGhosts S) (h : SinkGhosts C) (words : List (Li
   module _ (store_accounts : (events : List Event) → g.calls events store_old store_new → StoreAccounts g.files g.read_faults g.write_faults g.made events store_old store_new)
       (say_accounts : (puts : List Put) → h.puts puts say_old say_new → SinkAccounts h.written h.faults puts say_old say_new) where
     deeds_accounted : {P : Deeds → Type 0} (does : Does g h store_old store_new say_old say_new P) → Accounted does.deeds (outside_at g h store_old say_old) (outside_at g h store_new say_new)
-    deeds_accounted does = accounted g h does.deeds store_old store_new say_old say_new (store_accounts does.deeds.calls does.on_store) (say_accounts does.deeds.puts does.on_say)
+    deeds_accounted does = Accounted-from_calls g h does.deeds store_old store_new say_old say_new (store_accounts does.deeds.calls does.on_store) (say_accounts does.deeds.puts does.on_say)
 
     -- the words are a command `order`
     pub order_promises : (path : List ℕ) → command_of words ≡ Some (order path) → (outcome : Outcome) → MakesCalls g store_old store_new (RunsOrder path outcome) → MakesPuts h say_old say_new (SaysOutcome outcome status)

@@ -21,18 +21,18 @@ abbrev pub sink_name : Net → ℕ → List ℕ
 sink_name net sink = node_name net (slice_index net.sinks sink)
 
 -- names, each after a space, and each on a line of its own
-abbrev pub spaced : List (List ℕ) → List ℕ
-spaced names = flat_map (λ name. 32 ∷ name) names
+abbrev pub with_spaces : List (List ℕ) → List ℕ
+with_spaces names = flat_map (λ name. 32 ∷ name) names
 
 abbrev pub on_lines : List (List ℕ) → List ℕ
 on_lines names = flat_map (λ name. name ++ 10 ∷ []) names
 
 -- links, and the nodes of a side in rising order, each after a space
 abbrev pub links_text : Net → List ℕ → List ℕ
-links_text net links = spaced (map (link_name net) links)
+links_text net links = with_spaces (map (link_name net) links)
 
 abbrev pub side_text : Net → List Bool → List ℕ
-side_text net side = spaced (map (node_name net) (filter (is_on side) (range_with_len 0 (length net.nodes))))
+side_text net side = with_spaces (map (node_name net) (filter (is_on side) (range_with_len 0 (length net.nodes))))
 
 -- a demand: its sink and its pattern
 abbrev pub demand_text : Net → Demand → List ℕ

@@ -11,7 +11,7 @@ use Rattle.net_model.specs.Flows.{is_on}
 use Rattle.net_model.specs.Name.{is_name}
 use Rattle.net_model.specs.declared.Demand.{Demand}
 use Rattle.net_model.specs.declared.net.Net.{Net}
-use Rattle.name_texts.specs.Names.{node_name, link_name, pattern_name, sink_name, spaced, on_lines, links_text, side_text, demand_text}
+use Rattle.name_texts.specs.Names.{node_name, link_name, pattern_name, sink_name, with_spaces, on_lines, links_text, side_text, demand_text}
 
 -- what passes for a name has at most 32 bytes
 name-short : (name : List ℕ) → is_name name ≡ true → length name ≤ 32
@@ -39,9 +39,9 @@ pub pattern_name-short : (net : Net) (pattern : ℕ) → length (pattern_name ne
 pattern_name-short net pattern = item_name-short (λ p. p.name) net.patterns pattern (and_parts _ _ net.network.pattern_names).0
 
 module _ {X : Type 0} (name : X → List ℕ) (short : (item : X) → length (name item) ≤ 32) where
-  spaced-short : (items : List X) → length (spaced (map name items)) ≤ 33 * length items
-  spaced-short [] = omega arith
-  spaced-short (item ∷ items) = omega (arith, short item, spaced-short items, length-append (name item) (spaced (map name items)))
+  with_spaces-short : (items : List X) → length (with_spaces (map name items)) ≤ 33 * length items
+  with_spaces-short [] = omega arith
+  with_spaces-short (item ∷ items) = omega (arith, short item, with_spaces-short items, length-append (name item) (with_spaces (map name items)))
 
   on_lines-short : (items : List X) → length (on_lines (map name items)) ≤ 33 * length items
   on_lines-short [] = omega arith
@@ -49,7 +49,7 @@ module _ {X : Type 0} (name : X → List ℕ) (short : (item : X) → length (na
 
 -- each link takes at most 33 bytes, each node of a network too
 pub links_text-short : (net : Net) (links : List ℕ) → length (links_text net links) ≤ 33 * length links
-links_text-short net links = spaced-short (link_name net) (link_name-short net) links
+links_text-short net links = with_spaces-short (link_name net) (link_name-short net) links
 
 pub link_lines-short : (net : Net) (links : List ℕ) → length (on_lines (map (link_name net) links)) ≤ 33 * length links
 link_lines-short net links = on_lines-short (link_name net) (link_name-short net) links
@@ -57,7 +57,7 @@ link_lines-short net links = on_lines-short (link_name net) (link_name-short net
 pub side_text-short : (net : Net) (side : List Bool) → length (side_text net side) ≤ 33 * length net.nodes
 side_text-short net side =
     let nodes = range_with_len 0 (length net.nodes) in
-    omega (arith, spaced-short (node_name net) (node_name-short net) (filter (is_on side) nodes), length-filter (is_on side) nodes, count_by-le-length (is_on side) nodes, length-range_with_len 0 (length net.nodes))
+    omega (arith, with_spaces-short (node_name net) (node_name-short net) (filter (is_on side) nodes), length-filter (is_on side) nodes, count_by-le-length (is_on side) nodes, length-range_with_len 0 (length net.nodes))
 
 pub demand_text-short : (net : Net) (demand : Demand) → length (demand_text net demand) ≤ 65
 demand_text-short net demand =

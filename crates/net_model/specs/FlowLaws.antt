@@ -3,11 +3,11 @@ use Rattle.std.specs.Prelude.{◌≡◌, ◌↔◌, ℕ, zero, suc, ◌<◌, ◌
 use Rattle.std.specs.List.{list_any, range_with_len, concat}
 use Rattle.std.proofs.Common.{sym, ◌∙◌, ap, arith, inl, inr}
 use Rattle.std.proofs.lemmas.Bool.{and_parts, and_from, or_left, or_right, cases_Bool, cond_both, lt-ltb, ltb-true, not_from_false}
-use Rattle.std.proofs.lemmas.List.{length-append}
+use Rattle.std.proofs.lemmas.List.{ext_get_or, length-append}
 use Rattle.std.proofs.lemmas.List.Elements.{All-filter, All-head, All-tail, filter-append}
 use Rattle.std.proofs.lemmas.List.FromFn.{length-range_with_len, get_or-range_with_len}
-use Rattle.net_model.specs.Flows.{FlowNetwork, IsFlow, IsGreatestFlow, IsCut, IsLeastCut, IsSide, IsLeastCrossed, is_on, leaves, crossing}
-use Rattle.net_model.specs.ListLaws.{are_distinct-filter, is_among-filter, is_among-range_with_len, is_rising-filter, is_rising-range_with_len, length-le_from_is_among, is_among-from_length}
+use Rattle.net_model.specs.Flows.{FlowNetwork, IsFlow, IsGreatestFlow, IsCut, IsLeastCut, IsSide, IsLeastCrossed, IsLeastSide, is_on, leaves, crossing}
+use Rattle.net_model.specs.ListLaws.{are_distinct-filter, is_among-filter, is_among-range_with_len, is_rising-filter, is_rising-range_with_len, length-le_from_is_among, is_among-from_length, same_truth}
 use Rattle.net_model.specs.Lists.{are_distinct, is_among, is_rising}
 use Rattle.net_model.specs.Walks.{IsWalk, head_of, tail_of}
 
@@ -113,3 +113,9 @@ IsLeastCut-same_size network cut other is other_is = omega (arith, is.least othe
 -- two greatest flows have as many paths
 pub IsGreatestFlow-size : (network : FlowNetwork) (paths others : List (List ℕ)) → IsGreatestFlow network paths → IsGreatestFlow network others → length paths ≡ length others
 IsGreatestFlow-size network paths others is other_is = omega (arith, is.greatest others other_is.flow, other_is.greatest paths is.flow)
+
+-- a network has one least side
+pub IsLeastSide-unique : (network : FlowNetwork) (side other : List Bool) → IsLeastSide network side → IsLeastSide network other → side ≡ other
+IsLeastSide-unique network side other one two =
+    ext_get_or false side other (one.crossed.is_side.whole ∙ sym two.crossed.is_side.whole)
+    (λ node within. same_truth (is_on side node) (is_on other node) (one.inside other two.crossed node) (two.inside side one.crossed node))

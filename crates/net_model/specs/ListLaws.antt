@@ -1,7 +1,8 @@
 -- Laws of the tests on lists: distinct and rising items, items that all pass a test, numbers among others, and the first
 -- number of a range that passes a test.
-use Rattle.std.specs.Prelude.{◌≡◌, ℕ, zero, suc, ◌+◌, ◌<◌, ◌≤◌, Bool, true, false, ◌&&◌, ◌||◌, ◌==◌, nat_eq, nat_lt, IsTrue, List, [], ◌∷◌, length, filter, cond, ◌++◌, find, Some, None}
+use Rattle.std.specs.Prelude.{◌≡◌, ℕ, zero, suc, ◌+◌, ◌<◌, ◌≤◌, Bool, true, false, ◌&&◌, ◌||◌, ◌==◌, nat_eq, nat_lt, IsTrue, List, [], ◌∷◌, length, map, filter, cond, ◌++◌, find, Some, None}
 use Rattle.std.specs.List.{list_any, list_all, range_with_len, AllByRecursion, IsDistinct}
+use Rattle.std.specs.Str.{bytes_eq}
 use Rattle.std.proofs.Common.{refl, sym, ◌∙◌, ap, arith, inl, inr}
 use Rattle.std.proofs.lemmas.Bool.{and_parts, and_from, or_cases, cases_lt, cond_both, eqb-true, eq-eqb, ne_eqb, ltb-true, lt-ltb, le-ltb, not-true, not_from_false, true_from_ne_false, both_ways, cases_eq, false_from_ne_true, or_from, or_left, or_right}
 use Rattle.std.proofs.lemmas.Cmp.{nat_eq_equiv}
@@ -12,6 +13,7 @@ use Rattle.std.proofs.lemmas.List.Sums.{AllPass-from_list_all, list_all-from_All
 use Rattle.std.proofs.lemmas.Map.Made.{length-le_from_is_member}
 use Rattle.std.proofs.lemmas.Map.Steps.{length-le_from_distinct_below}
 use Rattle.std.proofs.lemmas.Map.Views.{any-filter_same}
+use Rattle.std.proofs.lemmas.Slice.Eq.{bytes_eq-Decides}
 use Rattle.net_model.specs.Lists.{are_distinct, is_among, is_rising}
 
 -- a test that no item passes fails at each
@@ -193,3 +195,26 @@ find_least test a (suc n) x l found above below passes = at (test a) refl found 
       | inl same ↦ absurd (both_ways (test a) is (ap test same ∙ passes))
       | inr other ↦ rest found (omega arith)
     ]
+
+-- a test of a part of each item is one of the parts
+pub list_any-map : {X Y : Type 0} (part : X → Y) (test : Y → Bool) (xs : List X) → list_any test (map part xs) ≡ list_any (λ x. test (part x)) xs
+list_any-map part test [] = refl
+list_any-map part test (x ∷ xs) = ap (λ (b : Bool). test (part x) || b) (list_any-map part test xs)
+
+-- ---- tests that don't depend on the order of their two sides
+
+-- tests that pass together
+pub same_truth : (p q : Bool) → (p ≡ true → q ≡ true) → (q ≡ true → p ≡ true) → p ≡ q
+same_truth true true there back = refl
+same_truth true false there back = sym (there refl)
+same_truth false true there back = back refl
+same_truth false false there back = refl
+
+-- numbers
+pub nat_eq-swap : (a b : ℕ) → nat_eq a b ≡ nat_eq b a
+nat_eq-swap a b = same_truth (nat_eq a b) (nat_eq b a) (λ h. eq-eqb b a (sym (eqb-true a b h))) (λ h. eq-eqb a b (sym (eqb-true b a h)))
+
+-- texts
+pub bytes_eq-swap : (a b : List ℕ) → bytes_eq a b ≡ bytes_eq b a
+bytes_eq-swap a b =
+    same_truth (bytes_eq a b) (bytes_eq b a) (λ h. (bytes_eq-Decides b a).1 (sym ((bytes_eq-Decides a b).0 h))) (λ h. (bytes_eq-Decides a b).1 (sym ((bytes_eq-Decides b a).0 h)))

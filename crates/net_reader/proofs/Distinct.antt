@@ -2,11 +2,10 @@
 use Rattle.std.proofs.Common.{◌≡◌, ℕ, Bool, true, false, not, ◌||◌, ◌&&◌, List, [], ◌∷◌, ◌++◌, refl, ap, sym, ◌∙◌}
 use Rattle.std.specs.List.{list_all, list_any}
 use Rattle.std.specs.Str.{bytes_eq}
-use Rattle.std.proofs.lemmas.Bool.Decides.{same_from_decides}
-use Rattle.std.proofs.lemmas.Slice.Eq.{bytes_eq-Decides}
 use Rattle.std.proofs.lemmas.List.Folds.{list_any-append}
 use Rattle.net_model.specs.Lists.{are_distinct}
-use Rattle.net_reader.specs.Statements.{has}
+use Rattle.net_model.specs.ListLaws.{bytes_eq-swap}
+use Rattle.name_index.specs.Seen.{has}
 
 -- none of the names has been seen
 abbrev pub are_new : List (List ℕ) → List (List ℕ) → Bool
@@ -23,9 +22,6 @@ none_seen (name ∷ names) = none_seen names
 pub left_first : (names : List (List ℕ)) → are_left [] names ≡ are_distinct bytes_eq names
 left_first names = ap (λ b. b && are_distinct bytes_eq names) (none_seen names)
 
-flipped : (x y : List ℕ) → bytes_eq y x ≡ bytes_eq x y
-flipped x y = same_from_decides (bytes_eq y x) (bytes_eq x y) (bytes_eq-Decides y x) (λ e. sym ((bytes_eq-Decides x y).0 e), λ e. (bytes_eq-Decides x y).1 (sym e))
-
 four : (h q a n : Bool) → (not (h || (q || false)) && (a && not n)) ≡ ((not h && a) && not (q || n))
 four true q a n = refl
 four false true true n = refl
@@ -36,7 +32,7 @@ new_more : (seen : List (List ℕ)) (x : List ℕ) (rest : List (List ℕ)) → 
 new_more seen x [] = refl
 new_more seen x (y ∷ rest) =
     (λ i. not (list_any-append (bytes_eq y) seen (x ∷ []) i) && new_more seen x rest i)
-    ∙ (λ i. not (has seen y || (flipped x y i || false)) && (are_new seen rest && not (list_any (bytes_eq x) rest)))
+    ∙ (λ i. not (has seen y || (bytes_eq-swap y x i || false)) && (are_new seen rest && not (list_any (bytes_eq x) rest)))
     ∙ four (has seen y) (bytes_eq x y) (are_new seen rest) (list_any (bytes_eq x) rest)
 
 three : (a n d : Bool) → (a && (n && d)) ≡ ((a && n) && d)

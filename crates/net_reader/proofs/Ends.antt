@@ -1,7 +1,8 @@
 -- What statements stand for, by their sources and sinks.
 use Rattle.std.proofs.Common.{◌≡◌, ℕ, true, false, List, [], ◌∷◌, length, Ok, Err, refl, ap, sym, arith, ◌∙◌}
 use Rattle.net_reader.specs.declared.refusal.ReadRefusal.TheVariants.{NoSource, NoSink, SinkIsSource}
-use Rattle.net_reader.specs.Statements.{Statement, has, nodes_of}
+use Rattle.name_index.specs.Seen.{has}
+use Rattle.net_reader.specs.Statements.{Statement, nodes_of}
 use Rattle.net_reader.specs.Text.{number_in, parts_in, whole_of}
 
 module _ (statements : List Statement) (sources sinks : List (List ℕ)) where

@@ -1,6 +1,6 @@
 -- Names that are marked.
-use Rattle.std.proofs.Common.{◌≡◌, ◌≢◌, ℕ, ◌<◌, Bool, true, false, not, ◌||◌, cond, nat_lt, List, [], ◌∷◌, ◌++◌, length, map, set, get_or, None, Some, refl, ap, sym, ◌∙◌, arith, rules, tests}
-use Rattle.std.specs.List.{IsDistinct, AllByRecursion, position, position_or_len}
+use Rattle.std.proofs.Common.{◌≡◌, ◌≢◌, ℕ, ◌<◌, Bool, true, false, not, ◌||◌, cond, nat_lt, List, [], ◌∷◌, ◌++◌, length, set, get_or, None, Some, refl, ap, sym, ◌∙◌, arith, rules, tests}
+use Rattle.std.specs.List.{IsDistinct, position, position_or_len}
 use Rattle.std.specs.Str.{bytes_eq}
 use Rattle.std.proofs.lemmas.List.{get_or-set_same, get_or-set_other, length-set}
 use Rattle.std.proofs.lemmas.List.Folds.{list_any-append}
@@ -8,7 +8,7 @@ use Rattle.std.proofs.lemmas.List.Sums.{position_or_len_is, prefix_len_stops}
 use Rattle.std.proofs.lemmas.Map.Made.{AllPairs-from_IsDistinct}
 use Rattle.std.proofs.lemmas.Slice.Eq.{bytes_eq-Decides}
 use Rattle.net_reader.specs.Marks.{AreMarks}
-use Rattle.net_reader.specs.Statements.{has}
+use Rattle.name_index.specs.Seen.{has}
 
 module _ (p : List ℕ → Bool) (names : List (List ℕ)) where
   position_is : (n : ℕ) (b : Bool) → nat_lt (position_or_len p names) (length names) ≡ b → cond b (Some (position_or_len p names)) None ≡ Some n → (position_or_len p names ≡ n) × (position_or_len p names < length names)
@@ -18,15 +18,6 @@ module _ (p : List ℕ → Bool) (names : List (List ℕ)) where
   position_some : (b : Bool) → nat_lt (position_or_len p names) (length names) ≡ b → position_or_len p names < length names → cond b (Some (position_or_len p names)) None ≡ None → ⊥
   position_some true e lt f = absurd cc
   position_some false e lt f = let told : nat_lt (position_or_len p names) (length names) ≡ true = search (rules, tests) in absurd cc
-
-all_map : {X : Type 0} (f : X → List ℕ) (x : X) (keys : List X) → AllByRecursion (λ y. bytes_eq (f x) (f y) ≡ false) keys → AllByRecursion (λ y. bytes_eq (f x) y ≡ false) (map f keys)
-all_map f x [] all = all
-all_map f x (y ∷ keys) all = (all.0, all_map f x keys all.1)
-
-pub distinct_map : {X : Type 0} (f : X → List ℕ) (keys : List X) → IsDistinct (λ x y. bytes_eq (f x) (f y)) keys → IsDistinct bytes_eq (map f keys)
-unfolding IsDistinct
-distinct_map f [] all = all
-distinct_map f (x ∷ keys) all = (all_map f x keys all.0, distinct_map f keys all.1)
 
 module _ (names : List (List ℕ)) (distinct : IsDistinct bytes_eq names) (word : List ℕ) where
   -- a name that is the word is at its first place

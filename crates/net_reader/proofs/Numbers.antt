@@ -6,7 +6,7 @@ use Rattle.std.proofs.lemmas.List.Elements.{filter-append}
 use Rattle.std.proofs.lemmas.List.FromFn.{map-range_with_len_more}
 use Rattle.net_reader.specs.Marks.{AreMarks}
 use Rattle.net_reader.specs.Parts.{failed_in}
-use Rattle.net_reader.specs.Statements.{has}
+use Rattle.name_index.specs.Seen.{has}
 
 same_map : (l : List ℕ) → map (λ n. n) l ≡ l
 same_map [] = refl

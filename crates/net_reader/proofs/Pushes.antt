@@ -3,7 +3,8 @@ use Rattle.std.proofs.Common.{◌≡◌, ℕ, List, [], ◌∷◌, ◌++◌, if�
 use Rattle.std.specs.List.{flat_map}
 use Rattle.std.proofs.lemmas.List.{append-nil}
 use Rattle.std.proofs.lemmas.Grind.{flat_map-append}
-use Rattle.net_reader.specs.Statements.{Statement, field_is, source_is, sink_is, link_is, pattern_is, nodes_in, field_bits, source_names, sink_names, link_names, pattern_names, has, distinct_from, nodes_of}
+use Rattle.name_index.specs.Seen.{has, distinct_from}
+use Rattle.net_reader.specs.Statements.{Statement, field_is, source_is, sink_is, link_is, pattern_is, nodes_in, field_bits, source_names, sink_names, link_names, pattern_names, nodes_of}
 
 pub field_bits-push : (statements : List Statement) (more : Statement) → field_bits (statements ++ more ∷ []) ≡ field_bits statements ++ field_bits (more ∷ [])
 field_bits-push [] more = refl

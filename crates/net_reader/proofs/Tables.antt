@@ -4,7 +4,8 @@ use Rattle.std.specs.Prelude.{is_some, option_to_list}
 use Rattle.std.proofs.lemmas.List.{length_push}
 use Rattle.net_reader.specs.declared.state.State.{State}
 use Rattle.net_reader.specs.State.{AreTables}
-use Rattle.net_reader.specs.Statements.{Statement, nodes_in, field_bits, source_names, sink_names, link_names, pattern_names, distinct_from, has, too_many_nodes}
+use Rattle.name_index.specs.Seen.{distinct_from, has}
+use Rattle.net_reader.specs.Statements.{Statement, nodes_in, field_bits, source_names, sink_names, link_names, pattern_names, too_many_nodes}
 use Rattle.net_reader.proofs.Pushes.{field_bits-push, source_names-push, sink_names-push, link_names-push, pattern_names-push, nodes_of-push}
 
 module _ (earlier : List Statement) (more : Statement) (old : State) (tables : AreTables earlier old) where

@@ -12,7 +12,8 @@ use Rattle.net_model.specs.Name.{is_name}
 use Rattle.net_model.specs.Network.{are_names}
 use Rattle.net_reader.specs.Lines.{content_of, is_text, words_of}
 use Rattle.net_reader.specs.NameLaws.{are_distinct-more, are_names-more, all_have-more}
-use Rattle.net_reader.specs.Statements.{Statement, field_is, source_is, sink_is, link_is, pattern_is, field_of, source_of, sink_of, link_of, pattern_of, statement_of, nodes_in, link_names, pattern_names, sink_names, has, distinct_from, nodes_of, faults_of, refused_first, read_words, read_line}
+use Rattle.name_index.specs.Seen.{has, distinct_from}
+use Rattle.net_reader.specs.Statements.{Statement, field_is, source_is, sink_is, link_is, pattern_is, field_of, source_of, sink_of, link_of, pattern_of, statement_of, nodes_in, link_names, pattern_names, sink_names, nodes_of, faults_of, refused_first, read_words, read_line}
 use Rattle.net_reader.specs.Text.{and_then, read_lines}
 use Rattle.net_reader.specs.declared.refusal.ReadRefusal.{ReadRefusal}
 use Rattle.net_reader.specs.declared.refusal.ReadRefusal.TheVariants.{BadByte, BadLine}

@@ -1,6 +1,6 @@
 -- A table that says of each name of a list whether it stands among words.
 use Rattle.std.specs.Prelude.{◌≡◌, ℕ, ◌<◌, Bool, false, List, [], length, slice_index_or}
-use Rattle.net_reader.specs.Statements.{has}
+use Rattle.name_index.specs.Seen.{has}
 
 pub record AreMarks (names words : List (List ℕ)) (marks : List Bool) : Type 0 where
   pub size : length marks ≡ length names

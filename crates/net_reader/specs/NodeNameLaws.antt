@@ -9,7 +9,8 @@ use Rattle.net_model.specs.NetworkLaws.{node_name}
 use Rattle.net_reader.specs.GoodLaws.{AreGood, AreGood-none, read_lines-good}
 use Rattle.net_reader.specs.Lines.{content_of, is_text, lines_of, words_of}
 use Rattle.net_reader.specs.NameLaws.{distinct_from-are_names, number_below}
-use Rattle.net_reader.specs.Statements.{Statement, field_is, source_is, sink_is, link_is, pattern_is, faults_of, has, nodes_in, nodes_of, read_line, read_words, refused_first, sink_names, source_names, statement_of}
+use Rattle.name_index.specs.Seen.{has}
+use Rattle.net_reader.specs.Statements.{Statement, field_is, source_is, sink_is, link_is, pattern_is, faults_of, nodes_in, nodes_of, read_line, read_words, refused_first, sink_names, source_names, statement_of}
 use Rattle.net_reader.specs.Text.{and_then, names_read, network_of, node_names_of, number_in, parts_in, read_lines, whole_in, whole_of}
 use Rattle.net_reader.specs.TextLaws.{source_among}
 use Rattle.net_reader.specs.declared.refusal.ReadRefusal.{ReadRefusal}

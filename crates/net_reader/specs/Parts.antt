@@ -2,7 +2,7 @@
 use Rattle.std.specs.Prelude.{ℕ, List, [], length, filter, slice_index_or}
 use Rattle.std.specs.List.{range_with_len}
 use Rattle.net_reader.specs.declared.parts.Parts as rust
-use Rattle.net_reader.specs.Statements.{has}
+use Rattle.name_index.specs.Seen.{has}
 use Rattle.net_reader.specs.Text.{Parts}
 
 -- the parts, as a text gives them

@@ -26,8 +26,8 @@ abbrev pub IsState : State → Type 0
 IsState state = AreTables (said_in state) state
 
 -- the statement, if it is good after earlier ones
-abbrev pub checked : List Statement → ℕ → Statement → Result (List Statement) ReadRefusal
-checked earlier line statement = refused_first (faults_of earlier line statement) statement
+abbrev pub check_statement : List Statement → ℕ → Statement → Result (List Statement) ReadRefusal
+check_statement earlier line statement = refused_first (faults_of earlier line statement) statement
 
 -- the statements with what words say
 abbrev pub with_words : List Statement → ℕ → List (List ℕ) → Result (List Statement) ReadRefusal

@@ -1,7 +1,8 @@
 -- What a line of a network text says, and what is wrong with it in view of the lines before.
 use Rattle.std.specs.Prelude.{ℕ, Bool, not, ◌||◌, nat_lt, List, [], ◌∷◌, ◌++◌, length, codes, Option, Some, None, Result, Ok, Err, if◌then◌else◌}
-use Rattle.std.specs.List.{flat_map, list_all, list_any}
+use Rattle.std.specs.List.{flat_map, list_all}
 use Rattle.std.specs.Str.{bytes_eq}
+use Rattle.name_index.specs.Seen.{has, distinct_from}
 use Rattle.net_model.specs.Lists.{are_distinct}
 use Rattle.net_model.specs.Name.{is_name}
 use Rattle.net_reader.specs.Lines.{content_of, is_text, words_of}
@@ -88,15 +89,6 @@ abbrev pub field_bits : List Statement → List ℕ
 field_bits [] = []
 field_bits (field_is bits ∷ statements) = bits ∷ field_bits statements
 field_bits (statement ∷ statements) = field_bits statements
-
--- a name stands among names
-abbrev pub has : List (List ℕ) → List ℕ → Bool
-has names name = list_any (bytes_eq name) names
-
--- names in order, each where it stands first
-abbrev pub distinct_from : List (List ℕ) → List (List ℕ) → List (List ℕ)
-distinct_from seen [] = seen
-distinct_from seen (name ∷ names) = distinct_from (if has seen name then seen else seen ++ name ∷ []) names
 
 -- the nodes of statements, in the order in which their names first appear
 abbrev pub nodes_of : List Statement → List (List ℕ)

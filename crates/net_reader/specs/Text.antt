@@ -8,9 +8,14 @@ use Rattle.net_model.specs.declared.net.FieldChoice.{FieldChoice}
 use Rattle.net_model.specs.declared.net.FieldChoice.TheVariants as choice
 use Rattle.net_model.specs.declared.net.Net.{Net}
 use Rattle.net_reader.specs.Lines.{lines_of}
-use Rattle.net_reader.specs.Statements.{Statement, link_is, pattern_is, field_bits, has, link_names, nodes_of, read_line, sink_names, source_names}
+use Rattle.name_index.specs.Seen.{has}
+use Rattle.net_reader.specs.Statements.{Statement, link_is, pattern_is, field_bits, link_names, nodes_of, read_line, sink_names, source_names}
 use Rattle.net_reader.specs.declared.refusal.ReadRefusal.{ReadRefusal}
 use Rattle.net_reader.specs.declared.refusal.ReadRefusal.TheVariants.{NoSource, NoSink, SinkIsSource}
+
+-- the greatest length of a network text
+abbrev pub net_limit : ℕ
+net_limit = 4194304
 
 -- what is done with what was said, if it was good
 abbrev pub and_then : Result (List Statement) ReadRefusal → (List Statement → Result (List Statement) ReadRefusal) → Result (List Statement) ReadRefusal

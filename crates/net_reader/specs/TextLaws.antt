@@ -12,7 +12,8 @@ use Rattle.net_model.specs.declared.Pattern.{Pattern}
 use Rattle.net_reader.specs.GoodLaws.{AreGood, AreGood-none, is_whole, read_lines-good}
 use Rattle.net_reader.specs.Lines.{lines_of}
 use Rattle.net_reader.specs.NameLaws.{distinct_from-are_names, distinct_from-has, number_below, name_at, numbers_apart, sinks_among, distinct_numbers, is_rising-filter, all_below-filter, some-filter}
-use Rattle.net_reader.specs.Statements.{Statement, field_is, source_is, sink_is, link_is, pattern_is, nodes_in, link_names, pattern_names, sink_names, source_names, has, nodes_of}
+use Rattle.name_index.specs.Seen.{has}
+use Rattle.net_reader.specs.Statements.{Statement, field_is, source_is, sink_is, link_is, pattern_is, nodes_in, link_names, pattern_names, sink_names, source_names, nodes_of}
 use Rattle.net_reader.specs.Text.{number_in, links_of, patterns_of, read_lines, Parts, parts_in, whole_of, whole_in, network_of}
 use Rattle.net_reader.specs.declared.refusal.ReadRefusal.{ReadRefusal}
 use Rattle.net_reader.specs.declared.refusal.ReadRefusal.TheVariants.{SinkIsSource}

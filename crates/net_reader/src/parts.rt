@@ -8,9 +8,9 @@ ghost use Rattle.net_reader.specs.Said.{statement_in};
 ghost use Rattle.net_reader.specs.Text.{choice_in, links_of, number_in, patterns_of};
 
 use crate::ReadRefusal;
-use crate::names::Names;
 use crate::state::NONE;
 use crate::statements::Said;
+use name_index::Names;
 use net_model::{
     FieldChoice, Link, LinkList, LinkTable, Name, NameList, NodeList, Pattern, PatternList,
 };

@@ -2,7 +2,7 @@
 ghost use Rattle.std.specs.Prelude.{◌≡◌, ◌++◌, ◌∷◌, ◌+◌, [], map, Ok, OnOk, IfOk};
 ghost use Rattle.net_reader.specs.Gives.{Gives};
 ghost use Rattle.net_reader.specs.Said.{statement_in};
-ghost use Rattle.net_reader.specs.State.{said_in, AreTables, IsState, checked, with_words, with_line};
+ghost use Rattle.net_reader.specs.State.{said_in, AreTables, IsState, check_statement, with_words, with_line};
 ghost use Rattle.net_reader.specs.Text.{read_lines};
 
 use crate::ReadRefusal;
@@ -19,7 +19,7 @@ fn note<'a>(
     said: &Said<'a>,
 ) -> Result<(), ReadRefusal>
     requires { IsState state.old }
-    ensures gives { Gives (λ _. statement_in said.now ∷ []) result (checked (said_in state.old) line (statement_in said.now)) }
+    ensures gives { Gives (λ _. statement_in said.now ∷ []) result (check_statement (said_in state.old) line (statement_in said.now)) }
     ensures noted { OnOk result (AreTables (said_in state.old ++ statement_in said.now ∷ []) state.new) }
     ensures kept { OnOk result (state.new.said ≡ state.old.said) }
 {
@@ -40,7 +40,7 @@ fn add<'a>(
     said: Said<'a>,
 ) -> Result<(), ReadRefusal>
     requires { IsState state.old }
-    ensures gives { Gives (λ _. statement_in said.entry ∷ []) result (checked (said_in state.old) line (statement_in said.entry)) }
+    ensures gives { Gives (λ _. statement_in said.entry ∷ []) result (check_statement (said_in state.old) line (statement_in said.entry)) }
     ensures added { OnOk result (said_in state.new ≡ said_in state.old ++ statement_in said.entry ∷ []) }
     ensures tables { OnOk result (IsState state.new) }
 {

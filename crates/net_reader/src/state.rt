@@ -4,12 +4,13 @@ ghost use Rattle.std.specs.List.{list_all};
 ghost use Rattle.net_model.specs.Name.{is_name};
 ghost use Rattle.net_reader.specs.Gives.{Gives};
 ghost use Rattle.net_reader.specs.Said.{statement_in};
-ghost use Rattle.net_reader.specs.State.{said_in, AreTables, IsState, checked};
+ghost use Rattle.net_reader.specs.State.{said_in, AreTables, IsState, check_statement};
 ghost use Rattle.net_reader.specs.Statements.{field_is, source_is, sink_is, link_is, pattern_is};
 
-use crate::names::{Names, are_distinct, are_names, has_all};
+use crate::names::{are_distinct, are_names, has_all};
 use crate::statements::Said;
 use crate::{ReadRefusal, What};
+use name_index::Names;
 use net_model::is_name;
 use std::alloc::Global;
 
@@ -49,7 +50,7 @@ impl<'a> State<'a> {
 /// A field, which is the only one.
 pub(crate) fn note_field<'a>(state: &mut State<'a>, line: u64, bits: u32) -> Result<(), ReadRefusal>
     requires { IsState state.old }
-    ensures gives { Gives (λ _. field_is bits ∷ []) result (checked (said_in state.old) line (field_is bits)) }
+    ensures gives { Gives (λ _. field_is bits ∷ []) result (check_statement (said_in state.old) line (field_is bits)) }
     ensures noted { OnOk result (AreTables (said_in state.old ++ field_is bits ∷ []) state.new) }
     ensures kept { OnOk result (state.new.said ≡ state.old.said) }
 {
@@ -67,7 +68,7 @@ pub(crate) fn note_source<'a>(
     node: &'a [u8],
 ) -> Result<(), ReadRefusal>
     requires { IsState state.old }
-    ensures gives { Gives (λ _. source_is node.now ∷ []) result (checked (said_in state.old) line (source_is node.now)) }
+    ensures gives { Gives (λ _. source_is node.now ∷ []) result (check_statement (said_in state.old) line (source_is node.now)) }
     ensures noted { OnOk result (AreTables (said_in state.old ++ source_is node.now ∷ []) state.new) }
     ensures kept { OnOk result (state.new.said ≡ state.old.said) }
 {
@@ -95,7 +96,7 @@ pub(crate) fn note_sink<'a>(
     node: &'a [u8],
 ) -> Result<(), ReadRefusal>
     requires { IsState state.old }
-    ensures gives { Gives (λ _. sink_is node.now ∷ []) result (checked (said_in state.old) line (sink_is node.now)) }
+    ensures gives { Gives (λ _. sink_is node.now ∷ []) result (check_statement (said_in state.old) line (sink_is node.now)) }
     ensures noted { OnOk result (AreTables (said_in state.old ++ sink_is node.now ∷ []) state.new) }
     ensures kept { OnOk result (state.new.said ≡ state.old.said) }
 {
@@ -132,7 +133,7 @@ pub(crate) fn note_link<'a>(
     head: &'a [u8],
 ) -> Result<(), ReadRefusal>
     requires { IsState state.old }
-    ensures gives { Gives (λ _. link_is name.now tail.now head.now ∷ []) result (checked (said_in state.old) line (link_is name.now tail.now head.now)) }
+    ensures gives { Gives (λ _. link_is name.now tail.now head.now ∷ []) result (check_statement (said_in state.old) line (link_is name.now tail.now head.now)) }
     ensures noted { OnOk result (AreTables (said_in state.old ++ link_is name.now tail.now head.now ∷ []) state.new) }
     ensures kept { OnOk result (state.new.said ≡ state.old.said) }
 {
@@ -172,7 +173,7 @@ pub(crate) fn note_pattern<'a>(
     links: &[&'a [u8]],
 ) -> Result<(), ReadRefusal>
     requires { IsState state.old }
-    ensures gives { Gives (λ _. pattern_is name.now (map (λ link. link.now) links.now) ∷ []) result (checked (said_in state.old) line (pattern_is name.now (map (λ link. link.now) links.now))) }
+    ensures gives { Gives (λ _. pattern_is name.now (map (λ link. link.now) links.now) ∷ []) result (check_statement (said_in state.old) line (pattern_is name.now (map (λ link. link.now) links.now))) }
     ensures noted { OnOk result (AreTables (said_in state.old ++ pattern_is name.now (map (λ link. link.now) links.now) ∷ []) state.new) }
     ensures kept { OnOk result (state.new.said ≡ state.old.said) }
 {

@@ -5,7 +5,7 @@ ghost use Rattle.net_reader.specs.Gives.{Gives};
 ghost use Rattle.net_reader.specs.Parts.{parts_seen};
 ghost use Rattle.net_reader.specs.State.{said_in, IsState};
 ghost use Rattle.net_reader.specs.Statements.{sink_names, source_names};
-ghost use Rattle.net_reader.specs.Text.{network_of, parts_in, parts_of, whole_of};
+ghost use Rattle.net_reader.specs.Text.{net_limit, network_of, parts_in, parts_of, whole_of};
 
 use crate::ReadRefusal;
 use crate::lines::lines_of;
@@ -81,7 +81,7 @@ fn net_of(parts: Parts) -> Net
 
 /// The network that a text stands for. A refusal is that of the first line that isn't good, or of the text as a whole.
 pub fn read_net(alloc: Global, text: &[u8]) -> Result<Net, ReadRefusal>
-    requires { length text.now ≤ 4194304 }
+    requires { length text.now ≤ net_limit }
     ensures ok { IfOk result (λ net. network_of text.now ≡ Ok (parts_of net)) }
     ensures refused { IfErr result (λ why. why ≢ ReadRefusal.OutOfMemory → network_of text.now ≡ Err why) }
 {

@@ -2,6 +2,7 @@
 use Rattle.std.specs.Prelude.{◌≡◌, ℕ, Bool, true, false, not, ◌≤◌, ◌*◌, ◌&&◌, ◌==◌, nat_lt, IsTrue, List, [], ◌∷◌, length, map, slice_get, if◌then◌else◌}
 use Rattle.std.specs.List.{list_all, list_any}
 use Rattle.std.specs.Option.{option_map_or}
+use Rattle.failure_patterns.specs.UsedField.{pair_demands}
 use Rattle.net_model.specs.Lists.{is_rising}
 use Rattle.net_model.specs.declared.Link.{Link}
 use Rattle.net_model.specs.declared.net.Net.{Net}
@@ -65,7 +66,7 @@ are_decoders net rate field (sink ∷ sinks) [] = false
 pub record IsDraft (net : Net) (rate : ℕ) (field : FieldKind) (operands : List (List Operand)) : Type 0 where
   pub some_rate : 1 ≤ rate
   pub low_rate : rate ≤ 32
-  pub few_demands : demand_count net ≤ 65536
+  pub few_demands : demand_count net ≤ pair_demands
   pub link_order : IsTrue (are_in_order [] net.links)
   pub link_operands : IsTrue (are_operands_of net rate field net.links operands)
   pub named_field : net.field ≡ choice_of field

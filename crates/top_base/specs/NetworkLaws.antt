@@ -5,7 +5,8 @@ use Rattle.net_model.specs.Walks.{IsAcyclic}
 use Rattle.net_model.specs.declared.net.Net.{Net}
 use Rattle.top_base.specs.InputLaws.{IsInput}
 use Rattle.top_base.specs.Inputs.{is_refusal}
-use Rattle.top_base.specs.Networks.{IsNetOf, RefusesNet, net_limit}
+use Rattle.net_reader.specs.Text.{net_limit}
+use Rattle.top_base.specs.Networks.{IsNetOf, RefusesNet}
 use Rattle.top_base.specs.Outcome.{AreAlike}
 use Rattle.top_base.specs.SameNet.{same_net}
 use Rattle.top_base.specs.declared.status.NetWhy.TheVariants.{Text, Cycle}

@@ -3,7 +3,7 @@ use Rattle.std.specs.Prelude.{◌≡◌, ◌⊎◌, ℕ, List, Option, Result, O
 use Rattle.lif_outside.specs.Events.{Event}
 use Rattle.net_model.specs.Walks.{IsAcyclic}
 use Rattle.net_model.specs.declared.net.Net.{Net}
-use Rattle.net_reader.specs.Text.{network_of, parts_of}
+use Rattle.net_reader.specs.Text.{net_limit, network_of, parts_of}
 use Rattle.topo_order.specs.Order.{IsShownCycle}
 use Rattle.top_base.specs.Inputs.{HoldsInput, IsNoMemory, Reads}
 use Rattle.top_base.specs.Lines.{cycle_line, net_refused_line, refused_name}
@@ -11,10 +11,6 @@ use Rattle.top_base.specs.declared.outcome.Outcome.{Outcome}
 use Rattle.top_base.specs.declared.status.NetWhy.TheVariants.{Text, Cycle}
 use Rattle.top_base.specs.declared.status.Status.{Status}
 use Rattle.top_base.specs.declared.status.Status.TheVariants.{NetRefused}
-
--- the greatest length of a network text
-abbrev pub net_limit : ℕ
-net_limit = 4194304
 
 -- the text stands for this network, which has no cycle
 pub record IsNetOf (text : List ℕ) (net : Net) : Type 0 where

@@ -43,8 +43,8 @@ code_as contents beside = record {
   code = beside.code;
 }
 
-abbrev as_code : (code : Code) → AsCode (contents_in code)
-as_code code = record { choice = code.net.field; network = code.net.network; code = code.code }
+abbrev code_parts : (code : Code) → AsCode (contents_in code)
+code_parts code = record { choice = code.net.field; network = code.net.network; code = code.code }
 
 -- codes of the same contents are equal
 same_law : (contents : Contents) (one other : AsCode contents) → one.choice ≡ other.choice → code_as contents one ≡ code_as contents other
@@ -63,5 +63,5 @@ same_as contents one other = same_law contents one other (one.code.draft.named_f
 -- codes with one file are equal
 pub same_code : (one other : Code) → bytes_of one ≡ bytes_of other → one ≡ other
 same_code one other same =
-    subst (λ (contents : Contents). (beside : AsCode contents) → code_as (contents_in one) (as_code one) ≡ code_as contents beside)
-    (contents_in-same one other same) (same_as (contents_in one) (as_code one)) (as_code other)
+    subst (λ (contents : Contents). (beside : AsCode contents) → code_as (contents_in one) (code_parts one) ≡ code_as contents beside)
+    (contents_in-same one other same) (same_as (contents_in one) (code_parts one)) (code_parts other)

@@ -1,7 +1,7 @@
 //! A network that is read from its text and put in order.
 ghost use Rattle.std.specs.Prelude.{◌≡◌, ◌≢◌, ◌≤◌, ℕ, List, Ok, Err, IfOk, IfErr, length};
 ghost use Rattle.lif_outside.specs.Calls.{MakesCalls};
-ghost use Rattle.net_reader.specs.Text.{network_of, parts_of};
+ghost use Rattle.net_reader.specs.Text.{net_limit, network_of, parts_of};
 ghost use Rattle.topo_order.specs.Order.{IsShownCycle, order_of};
 ghost use Rattle.top_base.specs.Lines.{refused_name};
 ghost use Rattle.top_base.specs.Networks.{IsNetOf, ReadsNet, RefusesNetOrLosesIt};
@@ -74,7 +74,7 @@ fn cyclic<'a>(alloc: Global, net: &Net, links: LinkList) -> Outcome<'a>
 
 // The network that a text stands for, with its links in order.
 fn parse<'a>(alloc: Global, text: &[u8]) -> Result<Ordered, Outcome<'a>>
-    requires { length text.now ≤ 4194304 }
+    requires { length text.now ≤ net_limit }
     ensures net { IfOk result (λ ordered. IsNetOf text.now ordered.net) }
     ensures order { IfOk result (λ ordered. ordered.order.items ≡ order_of ordered.net.links) }
     ensures refused { IfErr result (λ outcome. RefusesNetOrLosesIt text.now outcome) }

@@ -21,7 +21,8 @@ use Rattle.top_base.specs.InputLaws.{AreAlikeResults, IsOfInputs, alike_results,
 use Rattle.top_base.specs.LeavingLaws.{KeepAll, follow_later, happen_parts, keep_files, later_among, none_keep, told_at}
 use Rattle.top_base.specs.Lines.{same_path_line}
 use Rattle.top_base.specs.NetworkLaws.{net_input}
-use Rattle.top_base.specs.Networks.{HoldsNet, IsNetOf, ReadsNet, RefusesNet, net_limit}
+use Rattle.net_reader.specs.Text.{net_limit}
+use Rattle.top_base.specs.Networks.{HoldsNet, IsNetOf, ReadsNet, RefusesNet}
 use Rattle.top_base.specs.Outcome.{AreAlike, any_cycle, fault_line, is_of_inputs}
 use Rattle.top_base.specs.PathLaws.{clear_distinct}
 use Rattle.top_base.specs.PerformingLaws.{IsKnown, is_read_fault, is_write_fault}

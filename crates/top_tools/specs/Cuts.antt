@@ -12,7 +12,8 @@ use Rattle.cut_witness.specs.declared.cert.Cert.{Cert}
 use Rattle.report_text.specs.Report.{report_of}
 use Rattle.top_base.specs.Inspecting.{Inspects, Runs}
 use Rattle.top_base.specs.Lines.{too_many_demands_line}
-use Rattle.top_base.specs.Networks.{IsNetOf, RefusesNet, net_limit}
+use Rattle.net_reader.specs.Text.{net_limit}
+use Rattle.top_base.specs.Networks.{IsNetOf, RefusesNet}
 use Rattle.top_base.specs.declared.outcome.Outcome.{Outcome}
 use Rattle.top_base.specs.declared.status.Status.{Status}
 use Rattle.top_base.specs.declared.status.Status.TheVariants.{Done, TooManyDemands}

@@ -7,7 +7,8 @@ use Rattle.net_model.specs.declared.net.Net.{Net}
 use Rattle.topo_order.specs.Order.{order_of}
 use Rattle.top_base.specs.Inspecting.{Inspects, Runs}
 use Rattle.top_base.specs.Lines.{order_text}
-use Rattle.top_base.specs.Networks.{IsNetOf, RefusesNet, net_limit}
+use Rattle.net_reader.specs.Text.{net_limit}
+use Rattle.top_base.specs.Networks.{IsNetOf, RefusesNet}
 use Rattle.top_base.specs.declared.outcome.Outcome.{Outcome}
 use Rattle.top_base.specs.declared.status.Status.{Status}
 use Rattle.top_base.specs.declared.status.Status.TheVariants.{Done}

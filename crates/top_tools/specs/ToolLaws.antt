@@ -11,7 +11,8 @@ use Rattle.top_base.specs.Inspecting.{ChangesNone, Due, ReadsWell}
 use Rattle.top_base.specs.InspectingLaws.{EndsWell, inspects_known, inspects_used}
 use Rattle.top_base.specs.Lines.{accepted_line, order_text}
 use Rattle.top_base.specs.NetworkLaws.{net_input}
-use Rattle.top_base.specs.Networks.{IsNetOf, RefusesNet, net_limit}
+use Rattle.net_reader.specs.Text.{net_limit}
+use Rattle.top_base.specs.Networks.{IsNetOf, RefusesNet}
 use Rattle.top_base.specs.Outcome.{any_cycle, is_of_inputs}
 use Rattle.top_base.specs.PerformingLaws.{IsKnown}
 use Rattle.top_base.specs.declared.outcome.Outcome.{Outcome}

@@ -1,6 +1,7 @@
 //! The command `cuts`.
 ghost use Rattle.std.specs.Prelude.{◌⊎◌, ◌≤◌, IfOk, IsNone};
 ghost use Rattle.lif_outside.specs.Calls.{MakesCalls};
+ghost use Rattle.failure_patterns.specs.UsedField.{pair_demands};
 ghost use Rattle.net_model.specs.Demands.{demand_count};
 ghost use Rattle.top_base.specs.Inputs.{IsNoMemory};
 ghost use Rattle.top_tools.specs.Cuts.{IsCrowded, IsReport, IsWitnessed, RunsCuts, field_of};
@@ -36,7 +37,7 @@ fn report<G: Gate + Sync, R: Threads + Sync>(
     net: &Net,
     gate: &G,
 ) -> Result<Vec<u8>, AllocError>
-    requires { demand_count net.now ≤ 65536 }
+    requires { demand_count net.now ≤ pair_demands }
     ensures { IfOk result (λ text. IsReport net.now text.items) }
 {
     let certs = certify_all(rt, alloc, net, WORKERS, gate)?;

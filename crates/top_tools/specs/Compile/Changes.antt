@@ -7,7 +7,8 @@ use Rattle.lif_outside.specs.Told.{Told, Becomes}
 use Rattle.lif_outside.specs.Writes.{Written, WritesFiles, WritesPart}
 use Rattle.net_model.specs.declared.net.Net.{Net}
 use Rattle.top_base.specs.Inputs.{HoldsLong}
-use Rattle.top_base.specs.Networks.{HoldsNet, net_limit}
+use Rattle.net_reader.specs.Text.{net_limit}
+use Rattle.top_base.specs.Networks.{HoldsNet}
 use Rattle.top_base.specs.Words.{Compile}
 use Rattle.top_base.specs.declared.outcome.Outcome.{Outcome}
 use Rattle.top_base.specs.declared.status.Status.{Status}

@@ -1,6 +1,6 @@
 use Rattle.std.proofs.Common.{◌≡◌, ◌+◌, map, List, ℕ, [], ◌∷◌, drop, get_or, Bor, true, false, refl, ap, sym, ◌∙◌, arith}
 use Rattle.std.proofs.lemmas.List.{drop_more}
-use Rattle.net_reader.specs.Statements.{has}
+use Rattle.name_index.specs.Seen.{has}
 use Rattle.net_reader.proofs.Distinct.{are_left, left_first, left_more, left_none}
 use Rattle.net_reader.proofs.Tables.{is_there, is_new}
 use Rattle.net_reader.proofs.names.are_distinct.Goals as goal

@@ -2,7 +2,7 @@ use Rattle.std.proofs.Common.{rules, tests, Bor, List, ℕ}
 use Rattle.std.proofs.lemmas.List.Folds.{list_all-map}
 use Rattle.std.proofs.lemmas.Iterator.Search.{all_from_yields_List}
 use Rattle.std.proofs.lemmas.Iterator.{YieldsList-from_slice}
-use Rattle.net_reader.specs.Statements.{has}
+use Rattle.name_index.specs.Seen.{has}
 use Rattle.net_reader.proofs.names.has_all.Goals as goal
 
 pub returns : goal.returns

@@ -4,7 +4,8 @@ use Rattle.std.specs.Str.{bytes_eq}
 use Rattle.std.proofs.lemmas.List.{append-nil}
 use Rattle.net_model.specs.Name.{is_name}
 use Rattle.net_reader.specs.State.{said_in}
-use Rattle.net_reader.specs.Statements.{link_is, link_names, has, distinct_from, too_many_nodes}
+use Rattle.name_index.specs.Seen.{has, distinct_from}
+use Rattle.net_reader.specs.Statements.{link_is, link_names, too_many_nodes}
 use Rattle.net_reader.proofs.Faults.{link_checked}
 use Rattle.net_reader.proofs.Tables.{noted, too_many_is, is_over, is_within, is_over_one, is_within_one, is_new}
 use Rattle.net_reader.proofs.state.note_link.Goals as goal

@@ -2,7 +2,8 @@ use Rattle.std.proofs.Common.{true, false, rules, tests, sym, ◌∙◌, ◌≡�
 use Rattle.std.proofs.lemmas.List.{append-nil}
 use Rattle.net_model.specs.Name.{is_name}
 use Rattle.net_reader.specs.State.{said_in}
-use Rattle.net_reader.specs.Statements.{sink_is, sink_names, has, too_many_nodes}
+use Rattle.name_index.specs.Seen.{has}
+use Rattle.net_reader.specs.Statements.{sink_is, sink_names, too_many_nodes}
 use Rattle.net_reader.proofs.Faults.{sink_checked}
 use Rattle.net_reader.proofs.Tables.{noted, too_many_is, is_over, is_within, is_new}
 use Rattle.net_reader.proofs.state.note_sink.Goals as goal

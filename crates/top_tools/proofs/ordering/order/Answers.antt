@@ -1,7 +1,8 @@
 use Rattle.std.proofs.Common.{Ok, Err, refl, ⊎_elim}
 use Rattle.lif_outside.specs.CallLaws.{calls_weaker}
 use Rattle.top_base.specs.InputLaws.{forgotten}
-use Rattle.top_base.specs.Networks.{IsNetOf, RefusesNet, net_limit}
+use Rattle.net_reader.specs.Text.{net_limit}
+use Rattle.top_base.specs.Networks.{IsNetOf, RefusesNet}
 use Rattle.top_tools.proofs.ordering.order.Goals as goal
 
 pub returns-in-Ok : goal.returns-in-Ok

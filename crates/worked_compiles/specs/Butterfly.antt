@@ -1,4 +1,4 @@
--- The butterfly of the tests: two sinks, and paths of each.
+-- The butterfly, two of whose links change places: two sinks, and two paths of each.
 use Rattle.std.specs.Prelude.{ℕ, List, [], ◌∷◌}
 use Rattle.cut_witness.specs.declared.cert.Cert.{Cert}
 
@@ -12,3 +12,10 @@ butterfly_certs =
 -- links 2 and 3 change places
 abbrev pub butterfly_order : List ℕ
 butterfly_order = 0 ∷ 1 ∷ 3 ∷ 2 ∷ 4 ∷ 5 ∷ 6 ∷ 7 ∷ 8 ∷ []
+
+-- the routes of the two demands, with the new numbers of the links
+abbrev pub butterfly_routes : List (List (List ℕ))
+butterfly_routes =
+    ((0 ∷ 3 ∷ []) ∷ (1 ∷ 4 ∷ 6 ∷ 7 ∷ []) ∷ [])
+    ∷ ((0 ∷ 2 ∷ 6 ∷ 8 ∷ []) ∷ (1 ∷ 5 ∷ []) ∷ [])
+    ∷ []

@@ -1,8 +1,8 @@
 use Rattle.std.proofs.Common.{ap, ◌∙◌, Bor, List, ℕ}
 use Rattle.std.specs.List.{position}
 use Rattle.std.specs.Str.{bytes_eq}
-use Rattle.net_reader.proofs.Texts.{position_map}
-use Rattle.net_reader.proofs.names.Names.number_of.Goals as goal
+use Rattle.name_index.proofs.Keys.{position_map}
+use Rattle.name_index.proofs.names.Names.number_of.Goals as goal
 
 pub returns-clause-value : goal.returns-clause-value
 returns-clause-value c = c.get_index_of.ensures.index ∙ (position_map (bytes_eq c.args.name.now) (λ (name : Bor (List ℕ)). name.now) c.self.inside.seen.keys ∙ ap (position (bytes_eq c.args.name.now)) c.self.view_is)

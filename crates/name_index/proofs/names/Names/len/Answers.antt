@@ -1,8 +1,8 @@
 use Rattle.std.proofs.Common.{List, ℕ, Bor, subst}
 use Rattle.std.specs.List.{IsDistinct}
 use Rattle.std.specs.Str.{bytes_eq}
-use Rattle.net_reader.proofs.Marked.{distinct_map}
-use Rattle.net_reader.proofs.names.Names.len.Goals as goal
+use Rattle.name_index.proofs.Keys.{distinct_map}
+use Rattle.name_index.proofs.names.Names.len.Goals as goal
 
 pub returns-clause-distinct : goal.returns-clause-distinct
 returns-clause-distinct c =

@@ -1,0 +1,87 @@
+//! Names, each of which stands only once in its kind.
+ghost use Rattle.std.specs.Prelude.{◌≡◌, ◌++◌, ◌∷◌, ◌<◌, [], true, not, length, map, option_map, slice_get, position, IfOk, IfSome, IsTrue, ◌↔◌};
+ghost use Rattle.std.specs.List.{IsDistinct};
+ghost use Rattle.std.specs.Str.{bytes_eq};
+ghost use Rattle.name_index.specs.Seen.{has, distinct_from};
+
+use indexmap::IndexSet;
+use std::alloc::{AllocError, Global};
+use std::marker::Model;
+
+/// The names of a kind so far, in order. A name's number is its place, from 0 on.
+#[derive(Drop)]
+pub struct Names<'a> {
+    seen: IndexSet<&'a [u8]>,
+}
+
+impl<'a> Model for Names<'a> {
+    ghost use Rattle.std.specs.Prelude.{List, ℕ, map};
+
+    ghost Value = { List (List ℕ) };
+
+    ghost view = { λ names. map (λ name. name.now) names.seen.keys };
+}
+
+impl<'a> Names<'a> {
+    /// No names.
+    pub fn new(alloc: Global) -> Names<'a>
+        ensures { result ≡ [] }
+    {
+        Names {
+            seen: IndexSet::new(alloc),
+        }
+    }
+
+    /// Adds a name, unless it is there: then the answer is `false`.
+    pub fn add(&mut self, name: &'a [u8]) -> Result<bool, AllocError>
+        ensures fresh { IfOk result (λ fresh. fresh ≡ not (has self.old name.now)) }
+        ensures added { IfOk result (λ fresh. fresh ≡ true → self.new ≡ self.old ++ name.now ∷ []) }
+        ensures names { IfOk result (λ _. self.new ≡ distinct_from self.old (name.now ∷ [])) }
+    {
+        Ok(self.seen.insert(name)?)
+    }
+
+    /// Whether a name is there.
+    pub fn has(&self, name: &[u8]) -> bool
+        ensures { result ≡ has self.now name.now }
+    {
+        self.seen.contains(name)
+    }
+
+    /// How many names there are.
+    pub fn len(&self) -> usize
+        ensures len { result ≡ length self.now }
+        ensures distinct { IsDistinct bytes_eq self.now }
+    {
+        self.seen.len()
+    }
+
+    /// All names, in order.
+    pub fn as_slice(&self) -> &[&'a [u8]]
+        ensures { map (λ name. name.now) result.now ≡ self.now }
+    {
+        self.seen.as_slice()
+    }
+
+    /// The name of a number.
+    pub fn get(&self, number: usize) -> Option<&'a [u8]>
+        ensures { option_map (λ name. name.now) result ≡ slice_get self.now number }
+    {
+        self.seen.as_slice().get(number).copied()
+    }
+
+    /// Whether there is no name.
+    pub fn is_empty(&self) -> bool
+        ensures { IsTrue result ↔ (length self.now ≡ 0) }
+    {
+        self.seen.len() == 0
+    }
+
+    /// The number of a name.
+    pub fn number_of(&self, name: &[u8]) -> Option<usize>
+        ensures value { result ≡ position (bytes_eq name.now) self.now }
+        ensures within { IfSome result (λ number. number < length self.now) }
+    {
+        self.seen.get_index_of(name)
+    }
+}
