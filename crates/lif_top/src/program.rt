@@ -1,7 +1,8 @@
 //! The top call: words to a command, and what it does.
 ghost use Rattle.std.specs.Prelude.{◌≤◌, map, string_bytes};
-ghost use Rattle.lif_outside.specs.Calls.{KeepsStore};
-ghost use Rattle.lif_top.specs.Promises.{Promises};
+ghost use Rattle.lif_outside.specs.Calls.{KeepsStore, MakesCalls};
+ghost use Rattle.top_base.specs.Words.{command_of};
+ghost use Rattle.lif_top.specs.Promises.{Promises, RunsForm};
 
 use crate::sending::send;
 use lif_outside::{Gate, Sink, Store};
@@ -9,6 +10,28 @@ use std::alloc::Global;
 use std::thread::Threads;
 use top_base::{Command, Outcome, Status, command_of, conclude};
 use top_tools::{check, compile, cuts, order};
+
+// What the words come to: the command that they are, or the usage.
+fn carry_out<'a, S: Store, G: Gate + Sync, R: Threads + Sync>(
+    rt: &R,
+    alloc: Global,
+    words: &'a [String],
+    store: &mut S,
+    gate: &G,
+) -> Outcome<'a>
+    ensures { MakesCalls S.Store store.old store.new (RunsForm (command_of (map string_bytes words.now)) result) }
+{
+    let Some(command) = command_of(words) else {
+        return Outcome::usage();
+    };
+    match command {
+        Command::Order(path) => order(alloc, path, store),
+        Command::Cuts(path) => cuts(rt, alloc, path, store, gate),
+        Command::Compile(given) => compile(rt, alloc, &given, store, gate),
+        Command::Check(path) => check(rt, alloc, path, store, gate),
+        Command::Send(given) => send(rt, alloc, &given, store, gate),
+    }
+}
 
 /// Does what the words say, over a store of files and a sink for what is said, and tells how it ended. The words
 /// are those after the program's name:
@@ -37,30 +60,6 @@ pub fn lif<S: Store, C: Sink, G: Gate + Sync, R: Threads + Sync>(
     ensures counts { KeepsStore S.Store store.old store.new }
     ensures say_count { C.faults say.old ≤ C.faults say.new }
 {
-    match command_of(words) {
-        Some(Command::Order(path)) => {
-            let Outcome { status, line } = order(alloc, path, store);
-            conclude(status, &line, say)
-        }
-        Some(Command::Cuts(path)) => {
-            let Outcome { status, line } = cuts(rt, alloc, path, store, gate);
-            conclude(status, &line, say)
-        }
-        Some(Command::Compile(given)) => {
-            let Outcome { status, line } = compile(rt, alloc, &given, store, gate);
-            conclude(status, &line, say)
-        }
-        Some(Command::Check(path)) => {
-            let Outcome { status, line } = check(rt, alloc, path, store, gate);
-            conclude(status, &line, say)
-        }
-        Some(Command::Send(given)) => {
-            let Outcome { status, line } = send(rt, alloc, &given, store, gate);
-            conclude(status, &line, say)
-        }
-        None => {
-            let Outcome { status, line } = Outcome::usage();
-            conclude(status, &line, say)
-        }
-    }
+    let Outcome { status, line } = carry_out(rt, alloc, words, store, gate);
+    conclude(status, &line, say)
 }
