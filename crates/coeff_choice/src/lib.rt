@@ -4,6 +4,3 @@
 mod choosing;
 
 pub use choosing::choose;
-
-#[cfg(test)]
-mod tests;

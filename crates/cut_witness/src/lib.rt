@@ -5,9 +5,7 @@ mod cert;
 mod certifying;
 mod crossing;
 mod runs;
+mod sharing;
 
 pub use cert::Cert;
 pub use certifying::{certify, certify_all, rate};
-
-#[cfg(test)]
-mod tests;

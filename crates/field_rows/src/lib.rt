@@ -5,8 +5,6 @@ mod lanes;
 mod nibbles;
 mod pairs;
 mod row_tables;
+mod sharing;
 
 pub use row_tables::RowTables;
-
-#[cfg(test)]
-mod tests;

@@ -7,12 +7,10 @@ mod parts;
 mod product;
 mod refusal;
 mod rows;
+mod sharing;
 
 pub use inverse::invert;
 pub use matrix::Matrix;
 pub use product::{Entry, is_identity_product};
 pub use refusal::InvertRefusal;
 pub use rows::{Row, add_scaled, dot, scale};
-
-#[cfg(test)]
-mod tests;

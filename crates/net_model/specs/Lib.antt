@@ -12,4 +12,3 @@ pub mod FlowLaws
 pub mod Renumbering
 pub mod RenumberingLaws
 pub mod RenumberedParts
-pub mod SmallNetwork

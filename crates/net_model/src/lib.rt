@@ -5,13 +5,11 @@ mod lists;
 mod name;
 mod net;
 mod renumbering;
+mod sharing;
 
 pub use lists::{LinkList, LinkTable, NameList, NodeList, Paths, PatternList, Side};
 pub use name::{Name, NameFault, is_name};
 pub use net::{FieldChoice, Net};
-
-#[cfg(test)]
-mod tests;
 
 /// A directed link between two nodes, by their numbers. It carries one symbol per use.
 #[derive(Drop)]

@@ -5,6 +5,3 @@ mod report;
 mod room;
 
 pub use report::{entry, head};
-
-#[cfg(test)]
-mod tests;

@@ -5,6 +5,3 @@ mod basis;
 mod renewal;
 
 pub use basis::{Basis, Frontier};
-
-#[cfg(test)]
-mod tests;

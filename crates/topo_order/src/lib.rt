@@ -6,9 +6,7 @@ mod ordering;
 mod placing;
 mod queue;
 mod refusal;
+mod sharing;
 
 pub use ordering::order;
 pub use refusal::OrderRefusal;
-
-#[cfg(test)]
-mod tests;

@@ -5,10 +5,8 @@ mod flow;
 mod growing;
 mod residual;
 mod search;
+mod sharing;
 mod splitting;
 
 pub use flow::{Flow, max_flow, max_flow_along};
 pub use residual::{LinkState, Residual};
-
-#[cfg(test)]
-mod tests;

@@ -4,7 +4,7 @@ use Rattle.std.proofs.Common.{refl, lit<, lit≤}
 use Rattle.gf_tables.specs.declared.kind.FieldKind.TheVariants.{Eight}
 use Rattle.net_model.specs.declared.net.Net.{Net}
 use Rattle.net_model.specs.declared.net.FieldChoice.TheVariants as choice
-use Rattle.node_program.specs.ButterflyCode.{butterfly_nodes, butterfly_links, butterfly_sinks, pattern_none, butterfly_operands, first_decoder, second_decoder}
+use Rattle.worked_rows.specs.ButterflyCode.{butterfly_nodes, butterfly_links, butterfly_sinks, pattern_none, butterfly_operands, first_decoder, second_decoder}
 use Rattle.node_program.specs.declared.code.Code.{Code}
 
 -- no link is listed as one that fails

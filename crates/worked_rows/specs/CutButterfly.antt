@@ -4,7 +4,7 @@ use Rattle.gf_tables.specs.declared.kind.FieldKind.TheVariants.{Eight}
 use Rattle.net_model.specs.declared.net.Net.{Net}
 use Rattle.net_model.specs.declared.net.FieldChoice.TheVariants as choice
 use Rattle.node_program.specs.declared.code.Code.{Code}
-use Rattle.node_program.specs.ButterflyCode.{butterfly_nodes, butterfly_links, butterfly_sinks, cut_patterns, butterfly_operands, cut_decoders}
+use Rattle.worked_rows.specs.ButterflyCode.{butterfly_nodes, butterfly_links, butterfly_sinks, cut_patterns, butterfly_operands, cut_decoders}
 
 abbrev network : Net
 network = record {

@@ -1,3 +1,4 @@
+pub mod ButterflyCode
 pub mod OneLink
 pub mod Butterfly
 pub mod CutButterfly

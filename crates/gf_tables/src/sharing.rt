@@ -1,0 +1,18 @@
+//! That threads can take values of every type of this crate, and share them: it is shown by being proved.
+use crate::{FieldKind, Generates, Gf8, Gf16, NoRoot, Octet, Poly11D, Quad};
+
+// Threads can share values of the type, copy and compare them.
+fn shared<T: Copy + Eq + Send + Sync>() {}
+
+fn share_over<T: Generates + Send + Sync, F: NoRoot + Send + Sync>() {
+    shared::<Octet<T>>();
+    shared::<Quad<F>>();
+}
+
+fn share_every_type() {
+    shared::<Poly11D>();
+    shared::<Gf8>();
+    shared::<Gf16>();
+    shared::<FieldKind>();
+    share_over::<Poly11D, Gf8>();
+}
