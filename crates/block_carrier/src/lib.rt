@@ -3,9 +3,7 @@
 
 mod carrier;
 mod links;
+mod sharing;
 mod sums;
 
 pub use carrier::Carrier;
-
-#[cfg(test)]
-mod tests;

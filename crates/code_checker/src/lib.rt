@@ -7,9 +7,7 @@
 mod checked;
 mod checking;
 mod products;
+mod sharing;
 
 pub use checked::{CheckRefusal, Checked, Refused};
 pub use checking::check;
-
-#[cfg(test)]
-mod tests;

@@ -22,6 +22,3 @@ mod writing;
 pub use reading::read_code;
 pub use refusal::CodeRefusal;
 pub use writing::write_code;
-
-#[cfg(test)]
-mod tests;

@@ -7,6 +7,7 @@ mod node_names;
 mod parts;
 mod reading;
 mod refusal;
+mod sharing;
 mod state;
 mod statements;
 mod whole;
@@ -14,6 +15,3 @@ mod whole;
 pub use node_names::node_name;
 pub use refusal::{ReadRefusal, What};
 pub use whole::read_net;
-
-#[cfg(test)]
-mod tests;

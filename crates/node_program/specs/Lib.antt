@@ -11,12 +11,7 @@ pub mod Carried
 pub mod Vectors
 pub mod DecodingLaws
 pub mod LiveLaws
-pub mod SmallCode
-pub mod SmallCodeLaws
 pub mod ButterflyCode
-pub mod ButterflyCodeLaws
-pub mod WideCode
-pub mod WideCodeLaws
 pub use Rattle.net_model.specs.Demands
 pub use Rattle.net_model.specs.Name
 pub use Rattle.net_model.specs.Lists

@@ -8,6 +8,7 @@ mod link_vectors;
 mod lists;
 mod live_table;
 mod liveness;
+mod sharing;
 
 pub use carrying::carry;
 pub use choice::choice_of;
@@ -18,9 +19,6 @@ pub use lists::{DecoderTable, Entries, LiveLinks, OperandList, OperandTable};
 pub use live_table::live_links;
 pub use liveness::live;
 use net_model::LinkList;
-
-#[cfg(test)]
-mod tests;
 
 /// A summand of what a link carries: `times` times a row of the source or what another link carries.
 #[derive(Clone, Copy, Debug, PartialEq, Eq)]
