@@ -1,22 +1,36 @@
 //! Worked examples that are run.
 mod beginnings;
+mod carrying;
 mod checks;
+mod code_files;
+mod codes;
+mod live_links;
+mod many_lines;
+mod network_texts;
+mod networks;
+mod vectors;
 
 use net_model::{Name, NameFault};
-use std::test;
+use std::alloc::Global;
 
-#[test]
-fn names_are_kept(rt: HostRuntime) -> Result<(), test::Fail> {
-    let alloc = rt.alloc();
-    let kept = match Name::of(alloc, "t".as_bytes()) {
-        Ok(name) => name.bytes() == "t".as_bytes(),
+// Whether a name is taken and kept.
+fn is_kept(alloc: Global, name: &[u8]) -> bool {
+    match Name::of(alloc, name) {
+        Ok(kept) => kept.bytes() == name,
         Err(_) => false,
-    };
-    assert!(rt; kept, "a name is refused, or kept otherwise");
-    let refused = match Name::of(alloc, "a/b".as_bytes()) {
+    }
+}
+
+// Whether a name is refused as none.
+fn is_refused(alloc: Global, name: &[u8]) -> bool {
+    match Name::of(alloc, name) {
         Err(NameFault::BadName) => true,
         _ => false,
-    };
-    assert!(rt; refused, "a slash is taken");
-    Ok(())
+    }
+}
+
+#[test]
+fn names_are_kept(rt: HostRuntime) {
+    let is_so = is_kept(rt.alloc(), b"t") && is_refused(rt.alloc(), b"a/b");
+    assert!(rt; is_so);
 }

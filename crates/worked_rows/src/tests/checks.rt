@@ -1,104 +1,108 @@
 //! The check of the examples, read from their files.
-ghost use Rattle.std.specs.Prelude.{◌≤◌, ◌<◌, length};
-
+use super::codes::{TWO_WAYS, WIDE_ROWS, changed, checked_of, is_file_of};
 use crate::files::{BUTTERFLY, CUT_BUTTERFLY, DOUBLED_ONE_LINK, ONE_LINK, WIDE_ONE_LINK};
-use code_checker::{CheckRefusal, check};
-use code_file::{read_code, write_code};
-use lif_outside::NoGate;
+use code_checker::CheckRefusal;
+use code_checker::CheckRefusal::NotIdentity;
 use std::alloc::Global;
-use std::test;
 use std::thread::Threads;
 
-// What the check of a code says, given its file.
-fn refusal<R: Threads + Sync>(
-    rt: &R,
-    alloc: Global,
-    bytes: &[u8],
-) -> Result<Option<CheckRefusal>, test::Fail>
-    requires { length bytes.now ≤ 1000 }
-{
-    let code = read_code(alloc, bytes)?;
-    match check(rt, alloc, code, &NoGate) {
-        Ok(_) => Ok(None),
-        Err(refused) => Ok(Some(refused.why)),
-    }
-}
+const ACCEPTED: &[&[u8]] = &[
+    ONE_LINK,
+    DOUBLED_ONE_LINK,
+    WIDE_ONE_LINK,
+    BUTTERFLY,
+    TWO_WAYS,
+    WIDE_ROWS,
+];
 
-// The same with another byte at a place.
-fn changed_refusal<R: Threads + Sync>(
-    rt: &R,
-    alloc: Global,
-    bytes: &[u8],
-    place: usize,
-    byte: u8,
-) -> Result<Option<CheckRefusal>, test::Fail>
-    requires short { length bytes.now ≤ 1000 }
-    requires inside { place < length bytes.now }
-{
-    let mut changed = Vec::from_slice(alloc, bytes)?;
-    changed[place] = byte;
-    refusal(rt, alloc, changed.as_slice())
-}
-
-#[test]
-fn codes_that_decode_are_accepted(rt: HostRuntime) -> Result<(), test::Fail> {
-    for &bytes in &[ONE_LINK, DOUBLED_ONE_LINK, WIDE_ONE_LINK, BUTTERFLY] {
-        let code = read_code(rt.alloc(), bytes)?;
-        match check(&rt, rt.alloc(), code, &NoGate) {
-            Ok(checked) => {
-                let written = write_code(rt.alloc(), checked.code())?;
-                assert_eq!(rt; written.as_slice(), bytes);
-                let written = write_code(rt.alloc(), &checked.into_code())?;
-                assert_eq!(rt; written.as_slice(), bytes);
-            }
-            Err(refused) => assert!(rt; false, "{:?}", refused.why),
+// Whether the code of a file is accepted, and is the same afterwards.
+fn is_accepted<R: Threads + Sync>(rt: &R, alloc: Global, file: &[u8]) -> bool {
+    match checked_of(rt, alloc, file) {
+        Ok(checked) => {
+            let is_kept = is_file_of(alloc, file, checked.code());
+            is_file_of(alloc, file, &checked.into_code()) && is_kept
         }
+        Err(_) => false,
     }
-    Ok(())
 }
 
 #[test]
-fn the_first_demand_that_fails_is_named(rt: HostRuntime) -> Result<(), test::Fail> {
-    let alloc = rt.alloc();
+fn codes_that_decode_are_accepted(rt: HostRuntime) {
+    for (row, &file) in ACCEPTED.iter().enumerate() {
+        assert!(rt; is_accepted(&rt, rt.alloc(), file), "row {row}");
+    }
+}
+
+// A code's file, bytes of it that are others, and what the check says.
+type Row = (&'static [u8], &'static [(usize, u8)], CheckRefusal);
+
+// No link carries the first row.
+const CUT: CheckRefusal = NotIdentity {
+    demand: 1,
+    row: 0,
+    column: 0,
+    found: 0,
+};
+
+const REFUSED: &[Row] = &[
     // The second sink takes twice its first row.
-    assert_eq!(rt;
-        changed_refusal(&rt, alloc, BUTTERFLY, 173, 2)?,
-        Some(CheckRefusal::NotIdentity {
+    (
+        BUTTERFLY,
+        &[(173, 2)],
+        NotIdentity {
             demand: 1,
             row: 0,
             column: 1,
-            found: 3
-        })
-    );
-    // No link carries the first row.
-    let cut = Some(CheckRefusal::NotIdentity {
-        demand: 1,
-        row: 0,
-        column: 0,
-        found: 0,
-    });
-    assert_eq!(rt; refusal(&rt, alloc, CUT_BUTTERFLY)?, cut);
+            found: 3,
+        },
+    ),
+    (CUT_BUTTERFLY, &[], CUT),
     // The second sink fails where no link does, and is gone through first.
-    assert_eq!(rt; changed_refusal(&rt, alloc, CUT_BUTTERFLY, 190, 2)?, cut);
+    (CUT_BUTTERFLY, &[(190, 2)], CUT),
     // The first sink fails where no link does.
-    assert_eq!(rt;
-        changed_refusal(&rt, alloc, CUT_BUTTERFLY, 175, 0)?,
-        Some(CheckRefusal::NotIdentity {
+    (
+        CUT_BUTTERFLY,
+        &[(175, 0)],
+        NotIdentity {
             demand: 0,
             row: 1,
             column: 0,
-            found: 1
-        })
-    );
+            found: 1,
+        },
+    ),
     // The entry is that of another element of the field of 65,536.
-    assert_eq!(rt;
-        changed_refusal(&rt, alloc, WIDE_ONE_LINK, 37, 2)?,
-        Some(CheckRefusal::NotIdentity {
+    (
+        WIDE_ONE_LINK,
+        &[(37, 2)],
+        NotIdentity {
             demand: 0,
             row: 0,
             column: 0,
-            found: 513
-        })
-    );
-    Ok(())
+            found: 513,
+        },
+    ),
+];
+
+// What the check of the code of a file with other bytes says.
+fn refusal<R: Threads + Sync>(
+    rt: &R,
+    alloc: Global,
+    file: &[u8],
+    others: &[(usize, u8)],
+) -> Option<CheckRefusal> {
+    match changed(alloc, file, others) {
+        Ok(file) => checked_of(rt, alloc, &file).err(),
+        Err(_) => None,
+    }
+}
+
+#[test]
+fn the_first_demand_that_fails_is_named(rt: HostRuntime) {
+    for (row, &(file, others, why)) in REFUSED.iter().enumerate() {
+        assert_eq!(rt;
+            refusal(&rt, rt.alloc(), file, others),
+            Some(why),
+            "row {row}"
+        );
+    }
 }
