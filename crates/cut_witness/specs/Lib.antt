@@ -1,4 +1,3 @@
 pub mod Certificate
 pub mod CertificateLaws
 pub mod Runs
-pub mod TestNetworks

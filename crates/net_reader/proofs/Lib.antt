@@ -1,6 +1,5 @@
 pub mod Distinct
 pub mod EachLine
-pub mod Ends
 pub mod Faults
 pub mod Marked
 pub mod Numbers

@@ -1,3 +1,2 @@
-pub mod Butterfly
 pub mod Report
 pub mod PrintableLaws
