@@ -1,4 +1,4 @@
-//! Worked flows: the greatest flows of small networks, compared with counts by their definitions.
+//! Worked examples: networks, orders of their links, greatest flows, certificates and reports.
 #![tactic(auto)]
 
 #[cfg(test)]

@@ -114,11 +114,12 @@ fn first_links_rise(paths: &[LinkList]) -> bool {
 
 // Whether these are paths that share no link, by their first links.
 pub(super) fn are_paths(net: &Net, sink: u32, failed: u32, paths: &[LinkList]) -> bool {
-    paths
-        .iter()
-        .all(|path| is_path(net, sink, failed, path.as_slice()))
-        && share_no_link(paths)
-        && first_links_rise(paths)
+    for path in paths {
+        if !is_path(net, sink, failed, path.as_slice()) {
+            return false;
+        }
+    }
+    share_no_link(paths) && first_links_rise(paths)
 }
 
 // The links that leave a set of nodes and didn't fail.

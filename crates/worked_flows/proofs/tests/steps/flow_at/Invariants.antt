@@ -1,4 +1,4 @@
-use Rattle.worked_flows.proofs.tests.flow_of.Given as goal
+use Rattle.worked_flows.proofs.tests.steps.flow_at.Given as goal
 
 -- the ledger of the blank that is passed
 abbrev pub ghosts-flow_from : goal.ghosts-flow_from

@@ -1,0 +1,5 @@
+use Rattle.worked_fields.proofs.tests.counting.run_over.Given as goal
+
+-- the ledger of the blank that is passed
+abbrev pub ghosts-run_from : goal.ghosts-run_from
+ghosts-run_from g a = record { name = a.blank.name; parts = a.blank.parts }

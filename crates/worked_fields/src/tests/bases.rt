@@ -1,0 +1,182 @@
+//! Bases on a frontier: the vectors and inverses after renewals.
+use super::counting::{Counted, run_over};
+use super::numbered::{element, row, two_by_two};
+use counted_steps::Steps;
+use field_vectors::{Matrix, dot};
+use gf_tables::{Field, Gf8, Gf16};
+use sink_basis::Basis;
+use std::alloc::{AllocError, Global};
+use std::sync::ledger::Ledger;
+
+// The product of row `j` of a matrix and row `k` of another, or none where there is no such place.
+fn product<F: Field>(a: &Matrix<F>, j: u32, b: &Matrix<F>, k: u32) -> Option<F> {
+    if j >= a.rows() || k >= b.rows() || a.columns() != b.columns() {
+        return None;
+    }
+    let mut sum = F::zero();
+    for place in 0..a.columns() {
+        sum = sum.add(a.at(j, place).mul(b.at(k, place)));
+    }
+    Some(sum)
+}
+
+// Whether the products of all vectors and inverses are the entries of the identity.
+fn is_dual<F: Field>(basis: &Basis<F>) -> bool {
+    let mut dual = basis.vectors.rows() == basis.inverses.rows();
+    for j in 0..basis.vectors.rows() {
+        for k in 0..basis.inverses.rows() {
+            let expected = if j == k { F::one() } else { F::zero() };
+            dual = dual && product(&basis.vectors, j, &basis.inverses, k) == Some(expected);
+        }
+    }
+    dual
+}
+
+// Renews a path where the product isn't zero, and tells whether it did.
+fn renew<F: Field, L: Ledger>(
+    alloc: Global,
+    basis: &mut Basis<F>,
+    path: u32,
+    link: u32,
+    vector: &[F],
+    steps: &mut Steps<L>,
+) -> Result<bool, AllocError> {
+    let h = basis.frontier.len();
+    if path as usize >= h || vector.len() != h {
+        return Ok(false);
+    }
+    if dot(vector, basis.inverses.row(path), steps) == F::zero() {
+        return Ok(false);
+    }
+    basis.renew(alloc, path, link, vector)?;
+    Ok(true)
+}
+
+// The unit vectors of length 2 with the vector of one path replaced.
+struct FirstRenewal {
+    path: u32,
+    vector: [u32; 2],
+}
+
+// The links on the frontier of two paths, and the numbers of their vectors and inverses.
+type TwoPaths = ([Option<u32>; 2], [u32; 4], [u32; 4]);
+
+fn two_paths<F: Field>(basis: &Basis<F>) -> Option<TwoPaths> {
+    let links = match basis.frontier.as_slice() {
+        [first, second] => [*first, *second],
+        _ => return None,
+    };
+    let vectors = two_by_two(&basis.vectors)?;
+    let inverses = two_by_two(&basis.inverses)?;
+    Some((links, vectors, inverses))
+}
+
+impl Counted for FirstRenewal {
+    type Found = Option<TwoPaths>;
+
+    // The link is 7.
+    fn run<F: Field, L: Ledger>(self, alloc: Global, mut steps: Steps<L>) -> Option<TwoPaths> {
+        let FirstRenewal { path, vector } = self;
+        let vector = row::<F>(alloc, &vector).ok()?;
+        let mut basis = Basis::<F>::start(alloc, 2).ok()?;
+        renew(alloc, &mut basis, path, 7, vector.as_slice(), &mut steps).ok()?;
+        two_paths(&basis)
+    }
+}
+
+#[test]
+fn the_first_vector_is_replaced(rt: HostRuntime) {
+    let cases = [
+        (0, [1, 1], ([Some(7), None], [1, 1, 0, 1], [1, 0, 1, 1])),
+        (1, [0, 2], ([None, Some(7)], [1, 0, 0, 2], [1, 0, 0, 0x8E])),
+        (1, [1, 0], ([None, None], [1, 0, 0, 1], [1, 0, 0, 1])),
+    ];
+    for (path, vector, right) in cases {
+        let found = run_over::<Gf8, FirstRenewal>(rt.alloc(), FirstRenewal { path, vector });
+        assert!(rt; found == Some(right), "{path}, {vector:?}");
+    }
+}
+
+// The number at a place of the vector of a round, by a rule.
+fn number_at(round: u32, place: u32) -> u32 {
+    let scale = place.wrapping_mul(0x1F7B).wrapping_add(3);
+    let number = round
+        .wrapping_mul(0x4E35)
+        .wrapping_add(0x1D3F)
+        .wrapping_mul(scale);
+    number >> 8 & 0xFFFF
+}
+
+// The vector of a round: in every fifth that of another path, whose product is zero, and else numbers by the rule.
+fn vector_of<F: Field>(
+    alloc: Global,
+    basis: &Basis<F>,
+    round: u32,
+    path: u32,
+) -> Result<Vec<F>, AllocError> {
+    let h = basis.vectors.rows();
+    if round % 5 == 4 && path < h {
+        let other = if path == 0 { h - 1 } else { path - 1 };
+        return Vec::from_slice(alloc, basis.vectors.row(other));
+    }
+    let mut vector = Vec::new(alloc);
+    for place in 0..h {
+        vector.push(element(number_at(round, place)))?;
+    }
+    Ok(vector)
+}
+
+// One round, and whether it was a renewal.
+fn renew_in<F: Field, L: Ledger>(
+    alloc: Global,
+    basis: &mut Basis<F>,
+    round: u32,
+    path: u32,
+    steps: &mut Steps<L>,
+) -> Result<bool, AllocError> {
+    let vector = vector_of(alloc, basis, round, path)?;
+    renew(alloc, basis, path, round, vector.as_slice(), steps)
+}
+
+// So many rounds from the unit vectors of a length.
+struct Rounds {
+    h: u32,
+    rounds: u32,
+}
+
+impl Counted for Rounds {
+    type Found = Option<(u32, bool)>;
+
+    // How many were renewals, and whether the products were right after each.
+    fn run<F: Field, L: Ledger>(self, alloc: Global, mut steps: Steps<L>) -> Option<(u32, bool)> {
+        let Rounds { h, rounds } = self;
+        if h < 1 || h > 32 {
+            return None;
+        }
+        let mut basis = Basis::<F>::start(alloc, h).ok()?;
+        let mut right = is_dual(&basis);
+        let mut made = 0u32;
+        for round in 0..rounds {
+            if renew_in(alloc, &mut basis, round, round % h, &mut steps).ok()? {
+                made = made.wrapping_add(1);
+            }
+            right = right && is_dual(&basis);
+        }
+        Some((made, right))
+    }
+}
+
+// How many of so many rounds were renewals, and whether the products were right after each.
+fn renewals<F: Field>(alloc: Global, h: u32, rounds: u32) -> Option<(u32, bool)> {
+    run_over::<F, Rounds>(alloc, Rounds { h, rounds })
+}
+
+#[test]
+fn the_products_stay_right(rt: HostRuntime) {
+    let some = renewals::<Gf16>(rt.alloc(), 4, 50);
+    let one = renewals::<Gf8>(rt.alloc(), 1, 3);
+    let most = renewals::<Gf16>(rt.alloc(), 32, 3);
+    assert!(rt; some == Some((40, true)), "{some:?}");
+    assert!(rt; one == Some((3, true)), "{one:?}");
+    assert!(rt; most == Some((3, true)), "{most:?}");
+}

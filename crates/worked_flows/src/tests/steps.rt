@@ -1,0 +1,85 @@
+//! Flows and certificates of demands, each with a counter of its own.
+ghost use Rattle.std.specs.Prelude.{◌≡◌, ◌<◌, ◌≤◌, ◌+◌, ◌*◌, IfOk, IfSome, length};
+ghost use Rattle.cut_witness.specs.Certificate.{IsCertificate, IsDemand};
+
+use counted_steps::Steps;
+use cut_witness::{Cert, certify};
+use failure_patterns::{demand_at, demands};
+use net_model::{Demand, Net};
+use std::alloc::{AllocError, Global};
+use std::marker::Brand;
+use std::sync::ledger::{Blank, Ledger};
+use unit_flow::{Flow, max_flow};
+
+// The flow of a demand with its counter: each link is looked at twice at most, for each path and once more. This
+// is proved, and takes nothing at run time.
+fn counted_flow<L: Ledger>(
+    alloc: Global,
+    net: &Net,
+    demand: Demand,
+    blank: Blank,
+) -> Result<(Flow, Steps<L>), AllocError>
+    requires sink { demand.sink < length net.now.sinks }
+    requires pattern { demand.pattern < length net.now.patterns }
+    requires name { blank.name ≡ L.name }
+    requires parts { blank.parts ≡ L.parts }
+    requires some_part { 0 < blank.parts }
+    ensures visits { IfOk result (λ counted. counted.1 ≤ 2 * length net.now.links * (length counted.0.paths + 1)) }
+{
+    let mut steps = Steps::<L>::start(blank);
+    let flow = max_flow(alloc, net, demand, &mut steps)?;
+    Ok((flow, steps))
+}
+
+// The flow of a demand, for a caller that goes on without the counter.
+fn flow_from<L: Ledger>(
+    alloc: Global,
+    net: &Net,
+    demand: Demand,
+    blank: Blank,
+) -> Result<Flow, AllocError>
+    requires sink { demand.sink < length net.now.sinks }
+    requires pattern { demand.pattern < length net.now.patterns }
+    requires name { blank.name ≡ L.name }
+    requires parts { blank.parts ≡ L.parts }
+    requires some_part { 0 < blank.parts }
+{
+    let (flow, _) = counted_flow::<L>(alloc, net, demand, blank)?;
+    Ok(flow)
+}
+
+// The flow of the demand of a number.
+pub(super) fn flow_at(alloc: Global, net: &Net, number: u64) -> Option<Flow> {
+    if number < demands(net) {
+        flow_from::<Brand>(alloc, net, demand_at(net, number), Blank::new(1)).ok()
+    } else {
+        None
+    }
+}
+
+// The certificate of a demand, for a caller that goes on without the counter.
+fn certificate_from<L: Ledger>(
+    alloc: Global,
+    net: &Net,
+    demand: Demand,
+    blank: Blank,
+) -> Result<Cert, AllocError>
+    requires demand { IsDemand net.now demand }
+    requires name { blank.name ≡ L.name }
+    requires parts { blank.parts ≡ L.parts }
+    requires some_part { 0 < blank.parts }
+    ensures { IfOk result (IsCertificate net.now) }
+{
+    certify(alloc, net, demand, &mut Steps::<L>::start(blank))
+}
+
+// The certificate of the demand of a number.
+pub(super) fn certificate_at(alloc: Global, net: &Net, number: u64) -> Option<Cert>
+    ensures { IfSome result (IsCertificate net.now) }
+{
+    if number < demands(net) {
+        certificate_from::<Brand>(alloc, net, demand_at(net, number), Blank::new(1)).ok()
+    } else {
+        None
+    }
+}
