@@ -70,7 +70,7 @@ mod tests {
     #[test]
     fn puts_a_line(rt: HostRuntime) {
         let mut say = StdSay::new(&rt);
-        assert_eq!(rt; say.put(b"a line of the test\n"), Ok(()));
+        assert!(rt; say.put(b"a line of the test\n").is_ok());
         assert_eq!(rt; say.faults, 0);
     }
 }

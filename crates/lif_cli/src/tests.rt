@@ -4,11 +4,10 @@ ghost use Rattle.std.specs.Prelude.{◌≤◌, ◌^◌};
 
 use crate::disk::DiskStore;
 use crate::run::{Words, run};
-use lif_outside::{MemSink, Store};
+use lif_outside::MemSink;
 use logged_store::{Event, Logged};
 use std::alloc::{AllocError, Global};
 use std::process::ExitCode;
-use std::rt::Files;
 use std::test::Fail;
 use std::thread::Threads;
 use std::{fs, io};
@@ -45,32 +44,33 @@ pub fn varied_bytes(alloc: Global, count: usize) -> Result<Vec<u8>, AllocError>
     Ok(bytes)
 }
 
-// Where the log begins with reads of a file that holds these bytes, from its start on without a gap until one gave
-// nothing, what follows them.
-fn behind_reads<'a>(log: &'a [Event], path: &str, held: &[u8]) -> Option<&'a [Event]> {
-    let mut rest = held;
-    for (index, event) in log.iter().enumerate() {
-        let Event::Read {
+// The bytes that a read of a path gave, where it was one from this place on with room for some.
+fn bytes_read<'a>(event: &'a Event, path: &str, place: usize) -> Option<&'a [u8]> {
+    match event {
+        Event::Read {
             path: other,
             at,
             room,
             bytes,
-        } = event
-        else {
-            return None;
-        };
-        let place = held.len().saturating_sub(rest.len());
-        if other.as_str() != path || *at != place as u64 || *room == 0 {
+        } if other.as_str() == path && *at == place as u64 && *room > 0 => Some(bytes.as_slice()),
+        _ => None,
+    }
+}
+
+// Where the log begins with reads of a file that holds these bytes, from its start on without a gap until one gave
+// nothing, what follows them.
+fn behind_reads<'a>(log: &'a [Event], path: &str, held: &[u8]) -> Option<&'a [Event]> {
+    let mut place = 0usize;
+    for (index, event) in log.iter().enumerate() {
+        let rest = held.get(place..)?;
+        let bytes = bytes_read(event, path, place)?;
+        if bytes.is_empty() && rest.is_empty() {
+            return log.get(index + 1..);
+        }
+        if bytes.is_empty() || !rest.starts_with(bytes) {
             return None;
         }
-        if bytes.is_empty() {
-            return if rest.is_empty() {
-                log.get(index + 1..)
-            } else {
-                None
-            };
-        }
-        rest = rest.strip_prefix(bytes.as_slice())?;
+        place = place.saturating_add(bytes.len());
     }
     None
 }
@@ -102,56 +102,70 @@ fn is_delivery(log: &[Event], code: &[u8], source: &[u8]) -> bool {
     path.as_str() == OUTPUT && are_appends(log, OUTPUT, source)
 }
 
-// The names in a folder, in order.
-fn names_in<R: Files + AllocGlobal + Clone + Drop>(rt: &R, folder: &str) -> io::Result<String> {
-    let mut names = Vec::new(rt.alloc());
-    for entry in fs::read_dir(rt, folder)? {
-        names.push(String::from_str(rt.alloc(), entry?.file_name())?)?;
+// Whether the folder has these names and no other.
+fn has_names(rt: &HostRuntime, names: &[&str]) -> io::Result<bool> {
+    let mut count = 0usize;
+    for entry in fs::read_dir(rt, FOLDER)? {
+        if !names.contains(&entry?.file_name()) {
+            return Ok(false);
+        }
+        count = count.saturating_add(1);
     }
-    names.sort()?;
-    Ok(names.join(rt.alloc(), " ")?)
+    Ok(count == names.len())
 }
 
-// Sends the source.
-fn send<S: Store, R: Threads + Sync>(
-    rt: &R,
-    alloc: Global,
-    store: &mut S,
-    say: &mut MemSink,
-) -> Result<ExitCode, AllocError> {
+// Makes the folder, and answers whether it has the code and the source alone.
+fn make_folder(rt: &HostRuntime, source: &[u8]) -> io::Result<bool> {
+    let _ = fs::remove_dir_all(rt, FOLDER);
+    fs::create_dir(rt, FOLDER)?;
+    fs::write(rt, CODE, ONE_LINK)?;
+    fs::write(rt, SOURCE, source)?;
+    has_names(rt, &["code", "source"])
+}
+
+// Whether the output is the source, and no other file was made.
+fn has_output(rt: &HostRuntime, source: &[u8]) -> io::Result<bool> {
+    let output = fs::read(rt, OUTPUT)?;
+    Ok(output.as_slice() == source && has_names(rt, &["code", "out.t", "source"])?)
+}
+
+// The words that send the source.
+fn words_of_send(alloc: Global) -> Result<Words, AllocError> {
     let mut words = Vec::new(alloc);
     for word in ["send", CODE, "none", "1", SOURCE, PREFIX] {
         words.push(String::from_str(alloc, word)?)?;
     }
-    Ok(run(rt, alloc, Words::Given(words), store, say))
+    Ok(Words::Given(words))
+}
+
+// Whether the calls on the disk are those of the source that was sent.
+fn has_delivered(store: &Logged<DiskStore>, source: &[u8]) -> bool {
+    store.is_whole() && is_delivery(store.log(), ONE_LINK, source)
+}
+
+// Whether a run sends the source by the promised calls on the disk, and says so.
+fn sends<R: Threads + Sync>(
+    rt: &R,
+    alloc: Global,
+    words: Words,
+    disk: DiskStore,
+    source: &[u8],
+) -> bool {
+    let mut store = Logged::new(alloc, disk);
+    let mut say = MemSink::new(alloc, Vec::new(alloc));
+    let status = run(rt, alloc, words, &mut store, &mut say);
+    status == ExitCode::SUCCESS
+        && say.bytes() == b"sent 70000 bytes in 69 generations to 1 sinks\n".as_slice()
+        && has_delivered(&store, source)
 }
 
 #[test]
 fn a_run_makes_the_promised_calls(rt: HostRuntime) -> Result<(), Fail> {
-    let alloc = rt.alloc();
-    let source = varied_bytes(alloc, 70_000)?;
-    let _ = fs::remove_dir_all(&rt, FOLDER);
-    fs::create_dir(&rt, FOLDER)?;
-    fs::write(&rt, CODE, ONE_LINK)?;
-    fs::write(&rt, SOURCE, source.as_slice())?;
-    assert_eq!(rt; names_in(&rt, FOLDER)?.as_str(), "code source");
-    let mut store = Logged::new(alloc, DiskStore::new(&rt));
-    let mut say = MemSink::new(alloc, Vec::new(alloc));
-    assert_eq!(rt; send(&rt, alloc, &mut store, &mut say)?, ExitCode::SUCCESS);
-    assert_eq!(rt;
-        say.bytes(),
-        b"sent 70000 bytes in 69 generations to 1 sinks\n".as_slice()
-    );
-    assert!(rt;
-        fs::read(&rt, OUTPUT)? == source,
-        "the output isn't the source"
-    );
-    assert!(rt; store.is_whole());
-    assert!(rt;
-        is_delivery(store.log(), ONE_LINK, source.as_slice()),
-        "other calls were made"
-    );
-    assert_eq!(rt; names_in(&rt, FOLDER)?.as_str(), "code out.t source");
+    let source = varied_bytes(rt.alloc(), 70_000)?;
+    assert!(rt; make_folder(&rt, &source)?);
+    let words = words_of_send(rt.alloc())?;
+    assert!(rt; sends(&rt, rt.alloc(), words, DiskStore::new(&rt), &source));
+    assert!(rt; has_output(&rt, &source)?, "the output isn't the source");
     fs::remove_dir_all(&rt, FOLDER)?;
     Ok(())
 }

@@ -1,135 +1,225 @@
 //! What no clause says: what the files of the system hold, and which calls fail.
-ghost use Rattle.std.specs.Prelude.{◌≤◌, ◌^◌};
-
 use super::*;
 use crate::tests::varied_bytes;
+use std::alloc::{AllocError, Global};
 use std::test::Fail;
 
-const LONG: usize = 5000;
+const SEVENS: &[u8] = &[7; 5000];
+
+const DOTS: &[u8] = &[b'.'; 5000];
+
+// How many files are appended to by turns: more than stay open.
+const MANY: u32 = 600;
+
+// A call of a store or of the system, and what comes of it.
+enum Step {
+    Create(&'static str),
+    Append(&'static str, &'static [u8]),
+    // From a place on so many bytes come, and a buffer of dots is this one then.
+    Read(&'static str, u32, usize, &'static [u8]),
+    CreateFails(&'static str),
+    AppendFails(&'static str),
+    ReadFails(&'static str),
+    // The file is taken from the system.
+    Remove(&'static str),
+    // So many reads have failed, and so many creates and appends.
+    Faults(u64, u64),
+}
+
+// Whether a read from a place on gives so many bytes, and a buffer of dots is this one then.
+fn gives(store: &mut DiskStore, path: &str, at: u32, count: usize, buffer: &[u8]) -> bool {
+    let mut into = [b'.'; 5000];
+    let Some(into) = into.get_mut(..buffer.len()) else {
+        return false;
+    };
+    store.read(path, at as u64, into) == Ok(count) && &*into == buffer
+}
+
+// Whether a step goes as it says.
+fn goes(rt: &HostRuntime, store: &mut DiskStore, step: &Step) -> bool {
+    match step {
+        Step::Create(path) => store.create(path).is_ok(),
+        Step::Append(path, bytes) => store.append(path, bytes).is_ok(),
+        Step::Read(path, at, count, buffer) => gives(store, path, *at, *count, buffer),
+        Step::CreateFails(path) => store.create(path).is_err(),
+        Step::AppendFails(path) => store.append(path, b"d").is_err(),
+        Step::ReadFails(path) => store.read(path, 0, &mut [0; 3]).is_err(),
+        Step::Remove(path) => fs::remove_file(rt, path).is_ok(),
+        Step::Faults(reads, writes) => {
+            store.read_faults == *reads && store.write_faults == *writes
+        }
+    }
+}
+
+// The first step that doesn't go as it says, by its place.
+fn first_wrong(rt: &HostRuntime, store: &mut DiskStore, steps: &[Step]) -> Option<usize> {
+    for (place, step) in steps.iter().enumerate() {
+        if !goes(rt, store, step) {
+            return Some(place);
+        }
+    }
+    None
+}
 
 #[test]
-fn keeps_bytes_on_disk(rt: HostRuntime) -> Result<(), Fail> {
-    let path = "disk-store-test";
+fn keeps_bytes_on_disk(rt: HostRuntime) {
+    let steps: &[Step] = &[
+        Step::Create("disk-store-test"),
+        Step::Create("another"),
+        Step::Append("disk-store-test", b"ab"),
+        Step::Append("disk-store-test", b"c"),
+        Step::Append("another", b"z"),
+        Step::Append("disk-store-test", b"de"),
+        Step::Read("disk-store-test", 0, 4, b"abcd"),
+        Step::Read("disk-store-test", 3, 2, b"de.."),
+        Step::Read("disk-store-test", 5, 0, b"...."),
+        Step::Read("disk-store-test", 9, 0, b"...."),
+        Step::Read("another", 0, 1, b"z..."),
+        Step::Append("disk-store-test", SEVENS),
+        Step::Read("disk-store-test", 5, 5000, SEVENS),
+        Step::Create("disk-store-test"),
+        Step::Read("disk-store-test", 0, 0, DOTS),
+        Step::Faults(0, 0),
+        Step::Remove("disk-store-test"),
+        Step::Remove("another"),
+        Step::ReadFails("disk-store-test"),
+        Step::AppendFails("disk-store-test"),
+        Step::CreateFails("no-such-folder/file"),
+        Step::Faults(1, 2),
+    ];
     let mut store = DiskStore::new(&rt);
-    assert_eq!(rt; store.create(path), Ok(()));
-    assert_eq!(rt; store.create("another"), Ok(()));
-    assert_eq!(rt; store.append(path, b"ab"), Ok(()));
-    assert_eq!(rt; store.append(path, b"c"), Ok(()));
-    assert_eq!(rt; store.append("another", b"z"), Ok(()));
-    assert_eq!(rt; store.append(path, b"de"), Ok(()));
-    for (at, count, found) in [
-        (0, 4, *b"abcd"),
-        (3, 2, *b"de.."),
-        (5, 0, *b"...."),
-        (9, 0, *b"...."),
-    ] {
-        let mut into = *b"....";
-        assert_eq!(rt; store.read(path, at, &mut into), Ok(count), "at {at}");
-        assert_eq!(rt; into, found, "at {at}");
+    assert_eq!(rt; first_wrong(&rt, &mut store, steps), None);
+}
+
+#[test]
+fn faults_of_the_system_are_counted(rt: HostRuntime) {
+    let (folder, missing) = ("disk-store-folder-test", "disk-store-missing-test");
+    let steps: &[Step] = &[
+        Step::ReadFails("disk-store-folder-test"),
+        Step::AppendFails("disk-store-folder-test"),
+        Step::ReadFails("disk-store-missing-test"),
+        Step::AppendFails("disk-store-missing-test"),
+        // The device that is always full.
+        Step::AppendFails("/dev/full"),
+        Step::CreateFails("disk-store-folder-test"),
+        Step::Faults(2, 4),
+    ];
+    assert!(rt; fs::create_dir_all(&rt, folder).is_ok());
+    let mut store = DiskStore::new(&rt);
+    assert_eq!(rt; first_wrong(&rt, &mut store, steps), None);
+    assert!(rt; fs::exists(&rt, missing).is_ok_and(|is_there| !is_there));
+    assert!(rt; fs::remove_dir(&rt, folder).is_ok());
+}
+
+// Makes a file, and adds these bytes to its end by long pieces.
+fn write_by_pieces(store: &mut DiskStore, path: &str, bytes: &[u8]) -> Result<(), Failed> {
+    store.create(path)?;
+    for piece in bytes.chunks(65_536) {
+        store.append(path, piece)?;
     }
-    let mut into = [0; LONG];
-    assert_eq!(rt; store.append(path, &[7; LONG]), Ok(()));
-    assert_eq!(rt; store.read(path, 5, &mut into), Ok(LONG));
-    assert_eq!(rt; into, [7; LONG]);
-    assert_eq!(rt; store.create(path), Ok(()));
-    assert_eq!(rt; store.read(path, 0, &mut into), Ok(0));
-    assert_eq!(rt; (store.read_faults, store.write_faults), (0, 0));
-    fs::remove_file(&rt, path)?;
-    fs::remove_file(&rt, "another")?;
-    assert_eq!(rt; store.read(path, 0, &mut into), Err(Failed));
-    assert_eq!(rt; store.append(path, b"f"), Err(Failed));
-    assert_eq!(rt; store.create("no-such-folder/file"), Err(Failed));
-    assert_eq!(rt; (store.read_faults, store.write_faults), (1, 2));
     Ok(())
 }
 
 // Whether a read from a place on fills the buffer with what is held there.
-fn fills<S: Store>(store: &mut S, path: &str, at: usize, into: &mut [u8], held: &[u8]) -> bool
-    requires { at ≤ 2 ^ 41 }
-{
+fn fills(store: &mut DiskStore, path: &str, at: u32, into: &mut [u8], held: &[u8]) -> bool {
     let outcome = store.read(path, at as u64, into);
-    let want = held.get(at..).and_then(|rest| rest.get(..into.len()));
+    let want = held
+        .get(at as usize..)
+        .and_then(|rest| rest.get(..into.len()));
     outcome == Ok(into.len()) && want == Some(&*into)
+}
+
+// Whether short and long reads give what a long file holds, and none what is behind its end.
+fn holds_long(store: &mut DiskStore, path: &str, held: &[u8]) -> bool {
+    for at in [0, 1019, 65_535, 65_536, 66_000] {
+        if !fills(store, path, at, &mut [0; 3], held)
+            || !fills(store, path, at, &mut [0; 1024], held)
+        {
+            return false;
+        }
+    }
+    gives(store, path, 70_000, 0, b"...")
+}
+
+// Whether a file of these bytes is written and read without a fault.
+fn keeps_long(rt: &HostRuntime, path: &'static str, bytes: &[u8]) -> bool {
+    let mut store = DiskStore::new(rt);
+    write_by_pieces(&mut store, path, bytes).is_ok()
+        && holds_long(&mut store, path, bytes)
+        && goes(rt, &mut store, &Step::Faults(0, 0))
 }
 
 #[test]
 fn long_appends_are_kept(rt: HostRuntime) -> Result<(), Fail> {
     let path = "disk-store-long-test";
     let bytes = varied_bytes(rt.alloc(), 70_000)?;
-    let mut store = DiskStore::new(&rt);
-    assert_eq!(rt; store.create(path), Ok(()));
-    for piece in [bytes.get(..65_536), bytes.get(65_536..)] {
-        assert_eq!(rt; store.append(path, piece.unwrap_or(&[])), Ok(()));
-    }
-    for at in [0, 1019, 65_535, 65_536, 66_000] {
-        assert!(rt;
-            fills(&mut store, path, at, &mut [0; 3], bytes.as_slice()),
-            "3 at {at}"
-        );
-        assert!(rt;
-            fills(&mut store, path, at, &mut [0; 1024], bytes.as_slice()),
-            "1024 at {at}"
-        );
-    }
-    assert_eq!(rt; store.read(path, 70_000, &mut [0; 3]), Ok(0));
-    assert_eq!(rt; (store.read_faults, store.write_faults), (0, 0));
+    assert!(rt; keeps_long(&rt, path, &bytes));
     fs::remove_file(&rt, path)?;
     Ok(())
 }
 
-#[test]
-fn faults_of_the_system_are_counted(rt: HostRuntime) -> Result<(), Fail> {
-    let folder = "disk-store-folder-test";
-    fs::create_dir_all(&rt, folder)?;
-    let mut store = DiskStore::new(&rt);
-    let mut into = *b"abc";
-    for path in [folder, "disk-store-missing-test"] {
-        assert_eq!(rt; store.read(path, 0, &mut into), Err(Failed));
-        assert_eq!(rt; store.append(path, b"d"), Err(Failed));
+// The paths of many files in a folder.
+fn paths_in(alloc: Global, folder: &str) -> Result<Vec<String>, AllocError> {
+    let mut paths = Vec::new(alloc);
+    for place in 0..MANY {
+        paths.push(format!(in alloc; "{folder}/{place}")?)?;
     }
-    // The device that is always full.
-    assert_eq!(rt; store.append("/dev/full", b"d"), Err(Failed));
-    assert_eq!(rt; store.create(folder), Err(Failed));
-    assert_eq!(rt; (store.read_faults, store.write_faults), (2, 4));
-    assert!(rt; !fs::exists(&rt, "disk-store-missing-test")?);
-    fs::remove_dir(&rt, folder)?;
+    Ok(paths)
+}
+
+// Makes many files, and adds to each its path three times, by turns.
+fn write_many(store: &mut DiskStore, paths: &[String]) -> Result<(), Failed> {
+    for path in paths {
+        store.create(path)?;
+    }
+    for _round in 0..3 {
+        for path in paths {
+            store.append(path, path.as_bytes())?;
+        }
+    }
     Ok(())
 }
 
-// The bytes of a number.
-fn tag(place: u32) -> [u8; 4] {
-    place.to_be_bytes()
+// Whether a file holds its path three times, and nothing more.
+fn holds_path_thrice(store: &mut DiskStore, path: &str) -> bool {
+    let mut into = [0; 100];
+    let Ok(count) = store.read(path, 0, &mut into) else {
+        return false;
+    };
+    let mut rest = &into[..count];
+    for _ in 0..3 {
+        match rest.strip_prefix(path.as_bytes()) {
+            Some(more) => rest = more,
+            None => return false,
+        }
+    }
+    rest.is_empty()
+}
+
+// Whether each file holds its path three times. Those that do are taken from the system.
+fn hold_paths_thrice(rt: &HostRuntime, store: &mut DiskStore, paths: &[String]) -> bool {
+    for path in paths {
+        if !holds_path_thrice(store, path) || fs::remove_file(rt, path).is_err() {
+            return false;
+        }
+    }
+    true
+}
+
+// Whether many files are written by turns and read without a fault.
+fn keeps_many(rt: &HostRuntime, paths: &[String]) -> bool {
+    let mut store = DiskStore::new(rt);
+    write_many(&mut store, paths).is_ok()
+        && hold_paths_thrice(rt, &mut store, paths)
+        && goes(rt, &mut store, &Step::Faults(0, 0))
 }
 
 #[test]
 fn more_files_than_stay_open_are_appended_to(rt: HostRuntime) -> Result<(), Fail> {
     let folder = "disk-store-many-test";
     fs::create_dir(&rt, folder)?;
-    let mut store = DiskStore::new(&rt);
-    for place in 0..600u32 {
-        let path = format!(in rt.alloc(); "{folder}/{place}")?;
-        assert_eq!(rt; store.create(&path), Ok(()), "{place}");
-    }
-    for _round in 0..3 {
-        for place in 0..600u32 {
-            let path = format!(in rt.alloc(); "{folder}/{place}")?;
-            assert_eq!(rt; store.append(&path, &tag(place)), Ok(()), "{place}");
-        }
-    }
-    for place in 0..600u32 {
-        let path = format!(in rt.alloc(); "{folder}/{place}")?;
-        let mut into = [0; 13];
-        assert_eq!(rt; store.read(&path, 0, &mut into), Ok(12), "{place}");
-        for round in 0..3 {
-            assert_eq!(rt;
-                into[4 * round..4 * round + 4],
-                *tag(place).as_slice(),
-                "{place}"
-            );
-        }
-        fs::remove_file(&rt, &path)?;
-    }
-    assert_eq!(rt; (store.read_faults, store.write_faults), (0, 0));
+    let paths = paths_in(rt.alloc(), folder)?;
+    assert!(rt; keeps_many(&rt, &paths));
     fs::remove_dir(&rt, folder)?;
     Ok(())
 }

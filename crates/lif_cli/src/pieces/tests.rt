@@ -67,26 +67,39 @@ impl Write for Slow {
     }
 }
 
+// Why a write failed.
+fn failure(outcome: io::Result<()>) -> Option<ErrorKind> {
+    match outcome {
+        Ok(()) => None,
+        Err(error) => Some(error.kind()),
+    }
+}
+
+// Whether a read fills its buffer, and one that comes to the end gives what is left.
+fn reads_all(interrupts: u32) -> bool {
+    let mut from = Slow::new(*b"abcd", interrupts);
+    let mut into = *b".......";
+    matches!(read_full(&mut from, &mut into[..3]), Ok(3))
+        && matches!(read_full(&mut from, &mut into[3..]), Ok(1))
+        && into == *b"abcd..."
+}
+
+// Whether each write that has room is whole and flushed, and one that comes to the end fails.
+fn writes_all(interrupts: u32) -> bool {
+    let mut to = Slow::new(*b"....", interrupts);
+    write_full(&mut to, b"abc").is_ok()
+        && (to.bytes, to.flushes) == (*b"abc.", 1)
+        && write_full(&mut to, b"").is_ok()
+        && to.flushes == 2
+        && failure(write_full(&mut to, b"de")) == Some(ErrorKind::StorageFull)
+        && to.bytes == *b"abcd"
+}
+
 #[test]
 fn moves_all_by_pieces(rt: HostRuntime) {
     for interrupts in [0, 1, 5] {
-        let mut from = Slow::new(*b"abcd", interrupts);
-        let mut into = *b".......";
-        assert_eq!(rt; read_full(&mut from, &mut into[..3]).ok(), Some(3));
-        assert_eq!(rt; read_full(&mut from, &mut into[3..]).ok(), Some(1));
-        assert_eq!(rt; into, *b"abcd...");
-        let mut to = Slow::new(*b"....", interrupts);
-        assert!(rt; write_full(&mut to, b"abc").is_ok());
-        assert_eq!(rt; to.bytes, *b"abc.");
-        assert_eq!(rt; to.flushes, 1);
-        assert!(rt; write_full(&mut to, b"").is_ok());
-        assert_eq!(rt; to.flushes, 2);
-        let failed = write_full(&mut to, b"de").err();
-        assert_eq!(rt;
-            failed.map(|error| error.kind()),
-            Some(ErrorKind::StorageFull)
-        );
-        assert_eq!(rt; to.bytes, *b"abcd");
+        assert!(rt; reads_all(interrupts), "{interrupts}");
+        assert!(rt; writes_all(interrupts), "{interrupts}");
     }
 }
 
@@ -94,11 +107,7 @@ fn moves_all_by_pieces(rt: HostRuntime) {
 fn a_flush_that_fails_is_told(rt: HostRuntime) {
     let mut to = Slow::new(*b"....", 0);
     to.flush_fails = true;
-    let failed = write_full(&mut to, b"ab").err();
-    assert_eq!(rt;
-        failed.map(|error| error.kind()),
-        Some(ErrorKind::QuotaExceeded)
-    );
-    assert_eq!(rt; to.bytes, *b"ab..");
-    assert_eq!(rt; to.flushes, 1);
+    let failed = failure(write_full(&mut to, b"ab"));
+    assert_eq!(rt; failed, Some(ErrorKind::QuotaExceeded));
+    assert_eq!(rt; (to.bytes, to.flushes), (*b"ab..", 1));
 }
