@@ -1,5 +1,5 @@
 -- The words on calls, at a store and a sink that are known by their bounds.
-use Rattle.std.specs.Prelude.{ℕ, List, Option}
+use Rattle.std.specs.Prelude.{◌≡◌, ℕ, List, [], ◌∷◌, ◌++◌, Option}
 use Rattle.lif_outside.specs.declared.sink.Sink.{Ghosts as SinkGhosts}
 use Rattle.lif_outside.specs.declared.store.Store.{Ghosts as StoreGhosts}
 use Rattle.lif_outside.specs.Counts.{KeepsCounts}
@@ -25,16 +25,47 @@ MakesPuts g old new P = ByCalls g.puts old new P
 abbrev pub KeepsStore : {S : Type 0} → StoreGhosts S → S → S → Type 0
 KeepsStore g old new = KeepsCounts g.read_faults g.write_faults g.made old new
 
--- What a command did: its calls on the store, and its puts, each in order.
+-- The calls of a command on the objects that it works on, on each in order. What it says isn't among them.
+pub record Calls : Type 0 where
+  pub on_store : List Event
+
+-- calls on the store alone
+abbrev pub store_calls : List Event → Calls
+store_calls events = record { on_store = events }
+
+-- there is no call
+abbrev pub MakesNone : Calls → Type 0
+MakesNone calls = calls.on_store ≡ []
+
+-- The calls on the store begin with some of which P holds, and of the calls after them Q holds.
+pub record Begins (P : List Event → Type 0) (Q : Calls → Type 0) (calls : Calls) : Type 0 where
+  pub first : List Event
+  pub later : List Event
+  pub events_are : calls.on_store ≡ first ++ later
+  pub holds_first : P first
+  pub holds_later : Q (record calls { on_store = later })
+
+-- What a command did: its calls, and its puts, each in order.
 pub record Deeds : Type 0 where
-  pub calls : List Event
+  pub calls : Calls
   pub puts : List Put
 
+-- The objects of the outside, each known by its bound, as they were and as they are.
+pub record Objects {S C : Type 0} (g : StoreGhosts S) (h : SinkGhosts C) : Type 0 where
+  pub store_old : S
+  pub store_new : S
+  pub say_old : C
+  pub say_new : C
+
+abbrev pub objects : {S C : Type 0} (g : StoreGhosts S) (h : SinkGhosts C) → S → S → C → C → Objects g h
+objects g h store_old store_new say_old say_new =
+    record { store_old = store_old; store_new = store_new; say_old = say_old; say_new = say_new }
+
 -- Some calls and puts lead from the outside as it was to the outside as it is, and this holds of them.
-pub record Does {S C : Type 0} (g : StoreGhosts S) (h : SinkGhosts C) (store_old store_new : S) (say_old say_new : C) (P : Deeds → Type 0) : Type 0 where
+pub record Does {S C : Type 0} {g : StoreGhosts S} {h : SinkGhosts C} (o : Objects g h) (P : Deeds → Type 0) : Type 0 where
   pub deeds : Deeds
-  pub on_store : g.calls deeds.calls store_old store_new
-  pub on_say : h.puts deeds.puts say_old say_new
+  pub on_store : g.calls deeds.calls.on_store o.store_old o.store_new
+  pub on_say : h.puts deeds.puts o.say_old o.say_new
   pub holds : P deeds
 
 -- The outside at a moment: what is told of files and of what is said, and the counts of faults.
@@ -53,3 +84,10 @@ outside_at g h store say = record {
   said = h.written say;
   say_faults = h.faults say;
 }
+
+-- the outside as it was, and as it is
+abbrev pub outside_before : {S C : Type 0} {g : StoreGhosts S} {h : SinkGhosts C} → Objects g h → Outside
+outside_before {g = g} {h = h} o = outside_at g h o.store_old o.say_old
+
+abbrev pub outside_after : {S C : Type 0} {g : StoreGhosts S} {h : SinkGhosts C} → Objects g h → Outside
+outside_after {g = g} {h = h} o = outside_at g h o.store_new o.say_new

@@ -3,7 +3,7 @@ use Rattle.std.specs.Prelude.{ℕ, List, Contains}
 use Rattle.lif_outside.specs.declared.sink.Sink.{Ghosts as SinkGhosts}
 use Rattle.lif_outside.specs.declared.store.Store.{Ghosts as StoreGhosts}
 use Rattle.lif_outside.specs.Accounts.{StoreAccounts, SinkAccounts}
-use Rattle.lif_outside.specs.Calls.{Deeds, Outside, outside_at}
+use Rattle.lif_outside.specs.Calls.{Deeds, Objects, Outside, outside_after, outside_before}
 use Rattle.lif_outside.specs.Counts.{Rose}
 use Rattle.lif_outside.specs.Events.{read_failed, create_failed, append_failed, Follow}
 use Rattle.lif_outside.specs.Puts.{put_failed, Grow}
@@ -11,17 +11,17 @@ use Rattle.lif_outside.specs.Told.{Becomes}
 
 -- Where files and bytes are told, they follow the calls and the puts, and each failed one has raised its count.
 pub record Accounted (deeds : Deeds) (before after : Outside) : Type 0 where
-  pub files : Becomes before.files after.files (Follow deeds.calls)
-  pub failed_read : (path : List ℕ) (at room : ℕ) → Contains deeds.calls (read_failed path at room) → Rose (before.read_faults path) (after.read_faults path)
-  pub failed_create : (path : List ℕ) → Contains deeds.calls (create_failed path) → Rose (before.write_faults path) (after.write_faults path)
-  pub failed_append : (path bytes : List ℕ) → Contains deeds.calls (append_failed path bytes) → Rose (before.write_faults path) (after.write_faults path)
+  pub files : Becomes before.files after.files (Follow deeds.calls.on_store)
+  pub failed_read : (path : List ℕ) (at room : ℕ) → Contains deeds.calls.on_store (read_failed path at room) → Rose (before.read_faults path) (after.read_faults path)
+  pub failed_create : (path : List ℕ) → Contains deeds.calls.on_store (create_failed path) → Rose (before.write_faults path) (after.write_faults path)
+  pub failed_append : (path bytes : List ℕ) → Contains deeds.calls.on_store (append_failed path bytes) → Rose (before.write_faults path) (after.write_faults path)
   pub said : Becomes before.said after.said (Grow deeds.puts)
   pub failed_put : (bytes : List ℕ) → Contains deeds.puts (put_failed bytes) → Rose before.say_faults after.say_faults
 
-pub Accounted-from_calls : {S C : Type 0} (g : StoreGhosts S) (h : SinkGhosts C) (deeds : Deeds) (store_old store_new : S) (say_old say_new : C)
-    → StoreAccounts g.files g.read_faults g.write_faults g.made deeds.calls store_old store_new → SinkAccounts h.written h.faults deeds.puts say_old say_new
-    → Accounted deeds (outside_at g h store_old say_old) (outside_at g h store_new say_new)
-Accounted-from_calls g h deeds store_old store_new say_old say_new store say = record {
+pub Accounted-from_calls : {S C : Type 0} {g : StoreGhosts S} {h : SinkGhosts C} (o : Objects g h) (deeds : Deeds)
+    → StoreAccounts g.files g.read_faults g.write_faults g.made deeds.calls.on_store o.store_old o.store_new → SinkAccounts h.written h.faults deeds.puts o.say_old o.say_new
+    → Accounted deeds (outside_before o) (outside_after o)
+Accounted-from_calls o deeds store say = record {
   files = store.content;
   failed_read = store.failed_read;
   failed_create = store.failed_create;

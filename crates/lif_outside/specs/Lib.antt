@@ -5,12 +5,16 @@ pub mod ToldLaws
 pub mod Files
 pub mod Events
 pub mod EventLaws
+pub mod Sequences
+pub mod SequenceLaws
 pub mod Runs
 pub mod RunLaws
 pub mod FaultLaws
 pub mod TurnLaws
 pub mod Writes
 pub mod WriteLaws
+pub mod Streams
+pub mod StreamLaws
 pub mod Puts
 pub mod PutLaws
 pub mod Accounts

@@ -5,11 +5,13 @@ use Rattle.std.specs.List.{AllByRecursion}
 use Rattle.std.proofs.Common.{refl, sym, ap, ◌∙◌, subst, arith, inl, inr, ⊎_elim}
 use Rattle.std.proofs.Math.Seq.{take-add}
 use Rattle.std.proofs.lemmas.Bool.{false≢true}
-use Rattle.std.proofs.lemmas.List.{append-nil, append_assoc, length-append, length-take, drop-drop, take_all}
+use Rattle.std.proofs.lemmas.List.{append-nil, append_assoc, length-append, length-take, drop-drop, take-append-drop, take_all}
 use Rattle.std.proofs.lemmas.List.Elements.{Contains-push}
 use Rattle.std.proofs.lemmas.Slice.Eq.{bytes_eq-Decides}
 use Rattle.lif_outside.specs.Events.{Event, read, read_failed, created, create_failed, appended, append_failed, HappensAt, HappenAt}
 use Rattle.lif_outside.specs.EventLaws.{KeepsPath, happen-split, happens_here, happen_keeping}
+use Rattle.lif_outside.specs.Sequences.{IsFrontOf}
+use Rattle.lif_outside.specs.SequenceLaws.{all_append, front_none}
 use Rattle.lif_outside.specs.Runs.{AreReadsFrom, bytes_read, ReadsWhole, ReadsToFault, ReadsPastLimit, AreAppendsTo, bytes_appended}
 
 -- one read more
@@ -43,11 +45,6 @@ reads_keep at path place (created other ∷ events) reads = absurd reads
 reads_keep at path place (create_failed other ∷ events) reads = absurd reads
 reads_keep at path place (appended other came ∷ events) reads = absurd reads
 reads_keep at path place (append_failed other came ∷ events) reads = absurd reads
-
--- what is kept by two lists of calls is kept by both
-pub all_append : (P : Event → Type 0) (first later : List Event) → AllByRecursion P first → AllByRecursion P later → AllByRecursion P (first ++ later)
-all_append P [] later h k = k
-all_append P (event ∷ first) later h k = (h.0, all_append P first later h.1 k)
 
 -- A file from a place on, and the bytes that reads from there gave: they are a part of it.
 record IsPart (file : Option (List ℕ)) (at : ℕ) (bytes : List ℕ) : Type 0 where
@@ -93,6 +90,16 @@ reads_part at path (created other ∷ events) a b reads h = absurd reads
 reads_part at path (create_failed other ∷ events) a b reads h = absurd reads
 reads_part at path (appended other came ∷ events) a b reads h = absurd reads
 reads_part at path (append_failed other came ∷ events) a b reads h = absurd reads
+
+-- what came by reads of a file is its front
+pub reads_begin : (path : List ℕ) (events : List Event) (a b : Option (List ℕ)) → AreReadsFrom 0 path events → HappenAt path events a b → IsFrontOf (unwrap_or a []) (bytes_read events)
+reads_begin path events a b reads h = ⊎_elim
+    (λ none. subst (λ es. IsFrontOf (unwrap_or a []) (bytes_read es)) (sym none) (front_none (unwrap_or a [])))
+    (λ part.
+        let n = length (bytes_read events) in
+        let rest = drop n part.content in
+        (rest, ap (λ file. unwrap_or file []) part.found ∙ sym (take-append-drop n part.content) ∙ ap (λ front. front ++ rest) (sym part.part)))
+    (reads_part 0 path events a b reads h)
 
 -- a file that was read to its end holds the bytes that came
 pub whole_held : (path : List ℕ) (limit : ℕ) (bytes : List ℕ) (events : List Event) (a b : Option (List ℕ)) → ReadsWhole path limit bytes events → HappenAt path events a b → a ≡ Some bytes

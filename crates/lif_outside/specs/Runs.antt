@@ -3,6 +3,7 @@ use Rattle.std.specs.Prelude.{◌≡◌, ◌<◌, ◌≤◌, ◌+◌, ℕ, List,
 use Rattle.std.specs.List.{flat_map}
 use Rattle.std.specs.Str.{bytes_eq}
 use Rattle.lif_outside.specs.Events.{Event, read, read_failed, created, create_failed, appended, append_failed}
+use Rattle.lif_outside.specs.Sequences.{Stops}
 
 -- The calls are reads of a path from a place on, each from where the one before ended, and each gave something.
 abbrev pub AreReadsFrom : ℕ → List ℕ → List Event → Type 0
@@ -40,22 +41,12 @@ pub record ReadsPastLimit (path : List ℕ) (limit : ℕ) (events : List Event) 
   pub reads : AreReadsFrom 0 path events
   pub long : length (bytes_read events) ≡ limit + 1
 
--- The file of a path was read from its start, at most to the byte past a limit, as far as there was memory.
+-- The file of a path was read from its start, at most to the byte past a limit, as far as there was memory. At least
+-- one byte came.
 pub record ReadsSome (path : List ℕ) (limit : ℕ) (events : List Event) : Type 0 where
   pub reads : AreReadsFrom 0 path events
+  pub some : 0 < length (bytes_read events)
   pub short : length (bytes_read events) ≤ limit + 1
-
--- The calls are some of which P holds, and then some of which Q holds.
-pub record Then (P Q : List Event → Type 0) (events : List Event) : Type 0 where
-  pub first : List Event
-  pub later : List Event
-  pub events_are : events ≡ first ++ later
-  pub holds_first : P first
-  pub holds_later : Q later
-
--- the calls are these
-abbrev pub Are : List Event → List Event → Type 0
-Are these events = events ≡ these
 
 -- a call, had it failed
 abbrev pub failed_of : Event → Event
@@ -64,21 +55,25 @@ failed_of (created path) = create_failed path
 failed_of (appended path bytes) = append_failed path bytes
 failed_of event = event
 
--- The calls are these up to one, and that one failed.
-pub record StopsWithin (these events : List Event) : Type 0 where
-  pub front : List Event
-  pub next : Event
-  pub rest : List Event
-  pub these_are : these ≡ front ++ next ∷ rest
-  pub events_are : events ≡ front ++ failed_of next ∷ []
+-- the calls are these up to one, and that one failed
+abbrev pub StopsWithin : List Event → List Event → Type 0
+StopsWithin these events = Stops failed_of these events
 
 -- each of these paths is created, in order
 abbrev pub creates_of : List (List ℕ) → List Event
 creates_of paths = map created paths
 
--- piece by piece, each of these paths gets the piece
-abbrev pub appends_of : List (List ℕ) → List (List ℕ) → List Event
-appends_of paths pieces = flat_map (λ piece. map (λ path. appended path piece) paths) pieces
+-- a path, and bytes for its file
+abbrev pub Written : Type 0
+Written = List ℕ × List ℕ
+
+-- turn by turn, and in each turn part by part, each path gets its bytes
+abbrev pub appends_of : List (List Written) → List Event
+appends_of turns = flat_map (λ turn. map (λ (part : Written). appended part.0 part.1) turn) turns
+
+-- the turn in which each of these paths gets the same bytes
+abbrev pub turn_of : List (List ℕ) → List ℕ → List Written
+turn_of paths bytes = map (λ path. (path, bytes)) paths
 
 -- the calls are appends to some of these paths, all done
 abbrev pub AreAppendsTo : List (List ℕ) → List Event → Type 0

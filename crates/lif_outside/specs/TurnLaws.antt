@@ -14,76 +14,22 @@ use Rattle.lif_outside.specs.EventLaws.{KeepsPath, happen-split, happens_here, h
 use Rattle.lif_outside.specs.FaultLaws.{HaveFailed, failed-append, appends_unfailed}
 use Rattle.lif_outside.specs.Files.{HoldsPrefix, IsSameOrEmpty, AreDistinct}
 use Rattle.lif_outside.specs.PutLaws.{take-behind}
-use Rattle.lif_outside.specs.Runs.{Then, failed_of, StopsWithin, creates_of, appends_of, AreAppendsTo, bytes_appended}
-use Rattle.lif_outside.specs.RunLaws.{all_append, appends_keep, appends_held, appends-append, bytes_appended-append}
-
--- what is kept by a list of calls is kept by its parts
-pub all_split : (P : Event → Type 0) (first later : List Event) → AllByRecursion P (first ++ later) → AllByRecursion P first × AllByRecursion P later
-all_split P [] later h = (tt, h)
-all_split P (event ∷ first) later h = let rest = all_split P first later h.1 in ((h.0, rest.0), rest.1)
-
--- some calls, and then others
-pub then_join : (P Q : List Event → Type 0) (first later : List Event) → P first → Q later → Then P Q (first ++ later)
-then_join P Q first later one other = record { first = first; later = later; events_are = refl; holds_first = one; holds_later = other }
-
--- calls that stop at their first, in their first part, or behind it
-pub stops_here : (event : Event) (rest : List Event) → StopsWithin (event ∷ rest) (failed_of event ∷ [])
-stops_here event rest = record { front = []; next = event; rest = rest; these_are = refl; events_are = refl }
-
-pub stops_first : (first later events : List Event) → StopsWithin first events → StopsWithin (first ++ later) events
-stops_first first later events stop = record {
-  front = stop.front;
-  next = stop.next;
-  rest = stop.rest ++ later;
-  these_are = ap (λ these. these ++ later) stop.these_are ∙ append_assoc stop.front (stop.next ∷ stop.rest) later;
-  events_are = stop.events_are;
-}
-
-pub stops_behind : (first later events : List Event) → StopsWithin later events → StopsWithin (first ++ later) (first ++ events)
-stops_behind first later events stop = record {
-  front = first ++ stop.front;
-  next = stop.next;
-  rest = stop.rest;
-  these_are = ap (λ these. first ++ these) stop.these_are ∙ sym (append_assoc first stop.front (stop.next ∷ stop.rest));
-  events_are = ap (λ these. first ++ these) stop.events_are ∙ sym (append_assoc first stop.front (failed_of stop.next ∷ []));
-}
-
--- the call that failed is among the calls
-pub stops_there : (these events : List Event) → (stop : StopsWithin these events) → Contains events (failed_of stop.next)
-stops_there these events stop = subst (λ es. Contains es (failed_of stop.next)) (sym stop.events_are) (Contains-push stop.front (failed_of stop.next))
-
--- what holds of calls, and of each where it fails, holds of calls that stop within them
-stops_all : (P : Event → Type 0) → ((event : Event) → P event → P (failed_of event)) → (these events : List Event) → StopsWithin these events → AllByRecursion P these → AllByRecursion P events
-stops_all P fails these events stop all =
-    let parts = all_split P stop.front (stop.next ∷ stop.rest) (subst (AllByRecursion P) stop.these_are all) in
-    subst (AllByRecursion P) (sym stop.events_are) (all_append P stop.front _ parts.0 (fails stop.next parts.1.0, tt))
+use Rattle.lif_outside.specs.Runs.{StopsWithin, Written, failed_of, creates_of, appends_of, turn_of, AreAppendsTo, bytes_appended}
+use Rattle.lif_outside.specs.Sequences.{IsFrontOf, Then}
+use Rattle.lif_outside.specs.SequenceLaws.{all_append, all_split, stops_all, stops_there}
+use Rattle.lif_outside.specs.RunLaws.{appends_held, appends-append, bytes_appended-append}
 
 -- creates of paths, and then of others: also of one more
 pub creates_of-append : (paths others : List (List ℕ)) → creates_of (paths ++ others) ≡ creates_of paths ++ creates_of others
 creates_of-append paths others = map-append created paths others
 
--- appends of pieces, and then of others
-pub appends_of-append : (paths pieces others : List (List ℕ)) → appends_of paths (pieces ++ others) ≡ appends_of paths pieces ++ appends_of paths others
-appends_of-append paths pieces others = flat_map-append (λ piece. map (λ path. appended path piece) paths) pieces others
-
--- appends of one piece more
-pub appends_of-push : (paths pieces : List (List ℕ)) (piece : List ℕ) → appends_of paths (pieces ++ piece ∷ []) ≡ appends_of paths pieces ++ map (λ path. appended path piece) paths
-appends_of-push paths pieces piece = appends_of-append paths pieces (piece ∷ []) ∙ ap (λ turn. appends_of paths pieces ++ turn) (append-nil (map (λ path. appended path piece) paths))
+-- appends of some turns, and then of others
+pub appends_of-append : (turns others : List (List Written)) → appends_of (turns ++ others) ≡ appends_of turns ++ appends_of others
+appends_of-append turns others = flat_map-append (λ turn. map (λ (part : Written). appended part.0 part.1) turn) turns others
 
 -- creates that stop at a path
 pub creates_of-stops : (front : List (List ℕ)) (path : List ℕ) (rest : List (List ℕ)) → StopsWithin (creates_of (front ++ path ∷ rest)) (creates_of front ++ create_failed path ∷ [])
 creates_of-stops front path rest = record { front = creates_of front; next = created path; rest = creates_of rest; these_are = creates_of-append front (path ∷ rest); events_are = refl }
-
--- appends that stop at a piece and a path
-pub appends_of-stops : (front : List (List ℕ)) (path : List ℕ) (rest pieces : List (List ℕ)) (piece : List ℕ) (later : List (List ℕ))
-    → StopsWithin (appends_of (front ++ path ∷ rest) (pieces ++ piece ∷ later)) (appends_of (front ++ path ∷ rest) pieces ++ (map (λ other. appended other piece) front ++ append_failed path piece ∷ []))
-appends_of-stops front path rest pieces piece later =
-    let paths = front ++ path ∷ rest in
-    let to : List ℕ → Event = λ other. appended other piece in
-    let turn : StopsWithin (map to paths) (map to front ++ append_failed path piece ∷ []) =
-    record { front = map to front; next = appended path piece; rest = map to rest; these_are = map-append to front (path ∷ rest); events_are = refl } in
-    subst (λ these. StopsWithin these (appends_of paths pieces ++ (map to front ++ append_failed path piece ∷ []))) (sym (appends_of-append paths pieces (piece ∷ later)))
-    (stops_behind (appends_of paths pieces) (map to paths ++ appends_of paths later) _ (stops_first (map to paths) (appends_of paths later) _ turn))
 
 -- of a path and more paths, the first, those behind it, and no other
 pub first_there : (path : List ℕ) (paths : List (List ℕ)) → Contains (path ∷ paths) path
@@ -102,23 +48,24 @@ apart_first path paths place apart same = apart (subst (Contains (path ∷ paths
 pub apart_behind : (path : List ℕ) (paths : List (List ℕ)) (place : List ℕ) → ¬ Contains (path ∷ paths) place → ¬ Contains paths place
 apart_behind path paths place apart there = apart (behind_there path paths place there)
 
--- one piece for some of these paths
-turn_are : (all paths : List (List ℕ)) (piece : List ℕ) → ((path : List ℕ) → Contains paths path → Contains all path) → AreAppendsTo all (map (λ path. appended path piece) paths)
-turn_are all [] piece within = tt
-turn_are all (path ∷ paths) piece within = (within path (first_there path paths), turn_are all paths piece (λ place there. within place (behind_there path paths place there)))
+-- the calls of a turn in which each path gets the same bytes
+abbrev pub turn_calls : List (List ℕ) → List ℕ → List Event
+turn_calls paths bytes = map (λ (part : Written). appended part.0 part.1) (turn_of paths bytes)
 
--- pieces for these paths are appends to them
-pub appends_of-are : (paths pieces : List (List ℕ)) → AreAppendsTo paths (appends_of paths pieces)
-appends_of-are paths [] = tt
-appends_of-are paths (piece ∷ pieces) = appends-append paths (map (λ path. appended path piece) paths) (appends_of paths pieces) (turn_are paths paths piece (λ path there. there)) (appends_of-are paths pieces)
+-- for some of these paths
+turn_are : (all paths : List (List ℕ)) (bytes : List ℕ) → ((path : List ℕ) → Contains paths path → Contains all path) → AreAppendsTo all (turn_calls paths bytes)
+turn_are all [] bytes within = tt
+turn_are all (path ∷ paths) bytes within = (within path (first_there path paths), turn_are all paths bytes (λ place there. within place (behind_there path paths place there)))
 
--- creates and appends keep every other path
+-- such turns are appends to these paths
+pub turns-are : (paths pieces : List (List ℕ)) → AreAppendsTo paths (appends_of (map (turn_of paths) pieces))
+turns-are paths [] = tt
+turns-are paths (piece ∷ pieces) = appends-append paths (turn_calls paths piece) (appends_of (map (turn_of paths) pieces)) (turn_are paths paths piece (λ path there. there)) (turns-are paths pieces)
+
+-- creates keep every other path
 pub creates_of-keep : (paths : List (List ℕ)) (place : List ℕ) → ¬ Contains paths place → AllByRecursion (KeepsPath place) (creates_of paths)
 creates_of-keep [] place apart = tt
 creates_of-keep (path ∷ paths) place apart = (apart_first path paths place apart, creates_of-keep paths place (apart_behind path paths place apart))
-
-pub appends_of-keep : (paths pieces : List (List ℕ)) (place : List ℕ) → ¬ Contains paths place → AllByRecursion (KeepsPath place) (appends_of paths pieces)
-appends_of-keep paths pieces place apart = appends_keep paths place (appends_of paths pieces) apart (appends_of-are paths pieces)
 
 -- a call that keeps a path keeps it also where it fails
 failed_keeps : (place : List ℕ) (event : Event) → KeepsPath place event → KeepsPath place (failed_of event)
@@ -189,35 +136,30 @@ unequal one other apart = by_test (bytes_eq one other) refl
     by_test true e = absurd (apart ((bytes_eq-Decides one other).0 e))
     by_test false e = e
 
-turn_elsewhere : (paths : List (List ℕ)) (place piece : List ℕ) → ¬ Contains paths place → bytes_appended place (map (λ path. appended path piece) paths) ≡ []
-turn_elsewhere [] place piece apart = refl
-turn_elsewhere (path ∷ paths) place piece apart =
-    ap (λ test. (if test then piece else []) ++ bytes_appended place (map (λ other. appended other piece) paths)) (unequal path place (apart_first path paths place apart))
-    ∙ turn_elsewhere paths place piece (apart_behind path paths place apart)
+turn_elsewhere : (paths : List (List ℕ)) (place bytes : List ℕ) → ¬ Contains paths place → bytes_appended place (turn_calls paths bytes) ≡ []
+turn_elsewhere [] place bytes apart = refl
+turn_elsewhere (path ∷ paths) place bytes apart =
+    ap (λ test. (if test then bytes else []) ++ bytes_appended place (turn_calls paths bytes)) (unequal path place (apart_first path paths place apart))
+    ∙ turn_elsewhere paths place bytes (apart_behind path paths place apart)
 
-turn_here : (paths : List (List ℕ)) (place piece : List ℕ) → AreDistinct paths → Contains paths place → bytes_appended place (map (λ path. appended path piece) paths) ≡ piece
-turn_here [] place piece distinct there = absurd (contains_none place there)
-turn_here (path ∷ paths) place piece distinct there =
-    let rest = bytes_appended place (map (λ other. appended other piece) paths) in
+turn_here : (paths : List (List ℕ)) (place bytes : List ℕ) → AreDistinct paths → Contains paths place → bytes_appended place (turn_calls paths bytes) ≡ bytes
+turn_here [] place bytes distinct there = absurd (contains_none place there)
+turn_here (path ∷ paths) place bytes distinct there =
+    let rest = bytes_appended place (turn_calls paths bytes) in
     ⊎_elim
-    (λ same. ap (λ test. (if test then piece else []) ++ rest) ((bytes_eq-Decides path place).1 same)
-    ∙ ap (λ more. piece ++ more) (turn_elsewhere paths place piece (λ again. distinct.0 (subst (Contains paths) (sym same) again))) ∙ append-nil piece)
-    (λ behind. ap (λ test. (if test then piece else []) ++ rest) (unequal path place (λ same. distinct.0 (subst (Contains paths) (sym same) behind)))
-    ∙ turn_here paths place piece distinct.1 behind)
+    (λ same. ap (λ test. (if test then bytes else []) ++ rest) ((bytes_eq-Decides path place).1 same)
+    ∙ ap (λ more. bytes ++ more) (turn_elsewhere paths place bytes (λ again. distinct.0 (subst (Contains paths) (sym same) again))) ∙ append-nil bytes)
+    (λ behind. ap (λ test. (if test then bytes else []) ++ rest) (unequal path place (λ same. distinct.0 (subst (Contains paths) (sym same) behind)))
+    ∙ turn_here paths place bytes distinct.1 behind)
     (there_cases path paths place there)
 
 -- each of the paths gets all pieces
-pub bytes_appended-appends_of : (paths pieces : List (List ℕ)) (place : List ℕ) → AreDistinct paths → Contains paths place → bytes_appended place (appends_of paths pieces) ≡ concat pieces
-bytes_appended-appends_of paths [] place distinct there = refl
-bytes_appended-appends_of paths (piece ∷ pieces) place distinct there =
-    bytes_appended-append place (map (λ path. appended path piece) paths) (appends_of paths pieces) ∙ ap (λ first. first ++ bytes_appended place (appends_of paths pieces)) (turn_here paths place piece distinct there)
-    ∙ ap (λ rest. piece ++ rest) (bytes_appended-appends_of paths pieces place distinct there)
-
--- a file that was there holds the pieces behind what it held
-pub appends_of-held : (paths pieces : List (List ℕ)) (place held : List ℕ) (b : Option (List ℕ)) → AreDistinct paths → Contains paths place → HappenAt place (appends_of paths pieces) (Some held) b
-    → b ≡ Some (held ++ concat pieces)
-appends_of-held paths pieces place held b distinct there h =
-    appends_held paths place (appends_of paths pieces) held (Some held) b (appends_of-are paths pieces) refl h ∙ ap (λ bytes. Some (held ++ bytes)) (bytes_appended-appends_of paths pieces place distinct there)
+pub bytes_appended-turns : (paths pieces : List (List ℕ)) (place : List ℕ) → AreDistinct paths → Contains paths place → bytes_appended place (appends_of (map (turn_of paths) pieces)) ≡ concat pieces
+bytes_appended-turns paths [] place distinct there = refl
+bytes_appended-turns paths (piece ∷ pieces) place distinct there =
+    bytes_appended-append place (turn_calls paths piece) (appends_of (map (turn_of paths) pieces))
+    ∙ ap (λ first. first ++ bytes_appended place (appends_of (map (turn_of paths) pieces))) (turn_here paths place piece distinct there)
+    ∙ ap (λ rest. piece ++ rest) (bytes_appended-turns paths pieces place distinct there)
 
 -- appends in two parts
 pub appends-split : (paths : List (List ℕ)) (first later : List Event) → AreAppendsTo paths (first ++ later) → AreAppendsTo paths first × AreAppendsTo paths later
@@ -237,9 +179,9 @@ record AppendStops (paths : List (List ℕ)) (front : List Event) (next : Event)
   among : Contains paths path
   next_is : next ≡ appended path bytes
 
-append_stops : (paths pieces : List (List ℕ)) (events : List Event) → (stop : StopsWithin (appends_of paths pieces) events) → AppendStops paths stop.front stop.next
-append_stops paths pieces events stop =
-    let parts = appends-split paths stop.front (stop.next ∷ stop.rest) (subst (AreAppendsTo paths) stop.these_are (appends_of-are paths pieces)) in
+append_stops : (paths : List (List ℕ)) (these events : List Event) → AreAppendsTo paths these → (stop : StopsWithin these events) → AppendStops paths stop.front stop.next
+append_stops paths these events are stop =
+    let parts = appends-split paths stop.front (stop.next ∷ stop.rest) (subst (AreAppendsTo paths) stop.these_are are) in
     let next = first_append paths stop.next stop.rest parts.1 in
     record { before = parts.0; path = next.0; bytes = next.1; among = next.2; next_is = next.3 }
 
@@ -261,17 +203,27 @@ failed_held place path bytes sent all rest a b whole held h = ⊎_elim
     (λ apart. front_held sent _ all b whole (happens_elsewhere place (append_failed path bytes) a b apart h ∙ held))
     (path_cases path place)
 
--- appends that stopped leave a prefix of the pieces in each of the files
-pub appends_of-stopped : (paths pieces : List (List ℕ)) (place : List ℕ) (events : List Event) (b : Option (List ℕ)) → AreDistinct paths → Contains paths place → StopsWithin (appends_of paths pieces) events
-    → HappenAt place events (Some []) b → HoldsPrefix (concat pieces) b
-appends_of-stopped paths pieces place events b distinct there stop h =
-    let stops = append_stops paths pieces events stop in
+-- the first of some appends leave a prefix of what all of them bring in a file that was empty
+pub appends-front : (paths : List (List ℕ)) (these events : List Event) (place : List ℕ) (b : Option (List ℕ)) → AreAppendsTo paths these → IsFrontOf these events → HappenAt place events (Some []) b
+    → HoldsPrefix (bytes_appended place these) b
+appends-front paths these events place b are front h =
+    let parts = appends-split paths events front.0 (subst (AreAppendsTo paths) front.1 are) in
+    front_held (bytes_appended place events) (bytes_appended place front.0) (bytes_appended place these) b
+    (sym (bytes_appended-append place events front.0) ∙ ap (bytes_appended place) (sym front.1))
+    (appends_held paths place events [] (Some []) b parts.0 refl h)
+
+-- and so do appends that stopped
+pub appends-stopped : (paths : List (List ℕ)) (these events : List Event) (place : List ℕ) (b : Option (List ℕ)) → AreAppendsTo paths these → StopsWithin these events → HappenAt place events (Some []) b
+    → HoldsPrefix (bytes_appended place these) b
+appends-stopped paths these events place b are stop h =
+    let stops = append_stops paths these events are stop in
     let sent = bytes_appended place stop.front in
-    let whole : sent ++ bytes_appended place (stop.next ∷ stop.rest) ≡ concat pieces =
-    sym (bytes_appended-append place stop.front (stop.next ∷ stop.rest)) ∙ ap (bytes_appended place) (sym stop.these_are) ∙ bytes_appended-appends_of paths pieces place distinct there in
+    let all = bytes_appended place these in
+    let whole : sent ++ bytes_appended place (stop.next ∷ stop.rest) ≡ all =
+    sym (bytes_appended-append place stop.front (stop.next ∷ stop.rest)) ∙ ap (bytes_appended place) (sym stop.these_are) in
     let halves = happen-split place stop.front (failed_of stop.next ∷ []) (Some []) b (subst (λ es. HappenAt place es (Some []) b) stop.events_are h) in
-    failed_held place stops.path stops.bytes sent (concat pieces) stop.rest halves.0 b
-    (subst (λ event. sent ++ bytes_appended place (event ∷ stop.rest) ≡ concat pieces) stops.next_is whole)
+    failed_held place stops.path stops.bytes sent all stop.rest halves.0 b
+    (subst (λ event. sent ++ bytes_appended place (event ∷ stop.rest) ≡ all) stops.next_is whole)
     (appends_held paths place stop.front [] (Some []) halves.0 stops.before refl halves.1)
     (subst (λ event. HappenAt place (failed_of event ∷ []) halves.0 b) stops.next_is halves.2)
 
@@ -306,13 +258,12 @@ creates_of-fault paths events stop =
     let stops = create_stops paths events stop in
     (stops.path, stops.among, subst (λ event. Contains events (failed_of event)) stops.next_is (stops_there (creates_of paths) events stop))
 
-pub appends_of-fault : (paths pieces : List (List ℕ)) (events : List Event) → StopsWithin (appends_of paths pieces) events
-    → (path bytes : List ℕ) × Contains paths path × Contains events (append_failed path bytes)
-appends_of-fault paths pieces events stop =
-    let stops = append_stops paths pieces events stop in
-    (stops.path, stops.bytes, stops.among, subst (λ event. Contains events (failed_of event)) stops.next_is (stops_there (appends_of paths pieces) events stop))
+pub appends-fault : (paths : List (List ℕ)) (these events : List Event) → AreAppendsTo paths these → StopsWithin these events → (path bytes : List ℕ) × Contains paths path × Contains events (append_failed path bytes)
+appends-fault paths these events are stop =
+    let stops = append_stops paths these events are stop in
+    (stops.path, stops.bytes, stops.among, subst (λ event. Contains events (failed_of event)) stops.next_is (stops_there these events stop))
 
--- creates and appends that were all done have no failed call
+-- creates that were all done have no failed call
 creates_unfailed : (paths : List (List ℕ)) (events : List Event) → AllByRecursion (IsCreateOf paths) events → HaveFailed false false events
 creates_unfailed paths [] are = record { failed_read = refl; failed_write = refl }
 creates_unfailed paths (created path ∷ events) are = let rest = creates_unfailed paths events are.1 in record { failed_read = rest.failed_read; failed_write = rest.failed_write }
@@ -320,9 +271,6 @@ creates_unfailed paths (event ∷ events) are = absurd are.0
 
 pub creates_of-unfailed : (paths : List (List ℕ)) → HaveFailed false false (creates_of paths)
 creates_of-unfailed paths = creates_unfailed paths (creates_of paths) (creates_are paths paths (λ path there. there))
-
-pub appends_of-unfailed : (paths pieces : List (List ℕ)) → HaveFailed false false (appends_of paths pieces)
-appends_of-unfailed paths pieces = appends_unfailed paths (appends_of paths pieces) (appends_of-are paths pieces)
 
 -- those that stopped have a failed write, and no failed read
 last_failed : (these events : List Event) (done : Event) → (stop : StopsWithin these events) → HaveFailed false false stop.front → stop.next ≡ done → HaveFailed false true (failed_of done ∷ []) → HaveFailed false true events
@@ -334,7 +282,7 @@ creates_of-failed paths events stop =
     let stops = create_stops paths events stop in
     last_failed (creates_of paths) events (created stops.path) stop (creates_unfailed paths stop.front stops.before) stops.next_is (record { failed_read = refl; failed_write = refl })
 
-pub appends_of-failed : (paths pieces : List (List ℕ)) (events : List Event) → StopsWithin (appends_of paths pieces) events → HaveFailed false true events
-appends_of-failed paths pieces events stop =
-    let stops = append_stops paths pieces events stop in
-    last_failed (appends_of paths pieces) events (appended stops.path stops.bytes) stop (appends_unfailed paths stop.front stops.before) stops.next_is (record { failed_read = refl; failed_write = refl })
+pub appends-failed : (paths : List (List ℕ)) (these events : List Event) → AreAppendsTo paths these → StopsWithin these events → HaveFailed false true events
+appends-failed paths these events are stop =
+    let stops = append_stops paths these events are stop in
+    last_failed these events (appended stops.path stops.bytes) stop (appends_unfailed paths stop.front stops.before) stops.next_is (record { failed_read = refl; failed_write = refl })

@@ -12,9 +12,10 @@ use Rattle.lif_outside.specs.Events.{Event, created, create_failed, appended, ap
 use Rattle.lif_outside.specs.EventLaws.{KeepsPath, happens_here, happens_elsewhere, happen_keeping, path_cases}
 use Rattle.lif_outside.specs.FaultLaws.{HaveFailed}
 use Rattle.lif_outside.specs.Files.{Files, AreDistinct, Holds, HoldsPrefix}
-use Rattle.lif_outside.specs.Runs.{failed_of, StopsWithin}
+use Rattle.lif_outside.specs.Runs.{StopsWithin, Written, failed_of}
+use Rattle.lif_outside.specs.SequenceLaws.{stops_none}
 use Rattle.lif_outside.specs.TurnLaws.{first_there, behind_there, apart_first, apart_behind, stops_keep}
-use Rattle.lif_outside.specs.Writes.{Written, WritesFiles, WritesPart, paths_written, writes_of}
+use Rattle.lif_outside.specs.Writes.{WritesFiles, WritesPart, paths_written, writes_of}
 
 -- a file of these is the first, or one behind it
 file_cases : (first : Written) (files : List Written) (file : Written) → Contains (first ∷ files) file → (first ≡ file) ⊎ Contains files file
@@ -57,14 +58,6 @@ writes_of-done files old new distinct follow = record {
   others = λ path apart. happen_keeping path (writes_of files) (old path) (new path) (writes_of-keep files path apart) (follow path);
   these = of_each files (λ file. Holds file.1 (new file.0)) (λ file there. held_at files distinct file there (old file.0) (new file.0) (follow file.0));
 }
-
--- calls that stop within none
-stops_none : (events : List Event) → StopsWithin [] events → ⊥
-stops_none events stop = none stop.front stop.these_are
-  where
-    none : (front : List Event) → [] ≡ front ++ stop.next ∷ stop.rest → ⊥
-    none [] e = cc
-    none (event ∷ front) e = cc
 
 -- calls that stop at the first of some, or behind it
 stop_cases : (first : Event) (these events : List Event) → StopsWithin (first ∷ these) events
@@ -189,7 +182,7 @@ failed_path (file ∷ files) events stop = by_case (λ rest within. failed_path 
 
 -- where calls stop, the count of one of the paths rose
 pub writes_of-rose : (files : List Written) (events : List Event) (deeds : Deeds) (before after : Outside) → Accounted deeds before after
-    → ((event : Event) → Contains events event → Contains deeds.calls event) → StopsWithin (writes_of files) events
+    → ((event : Event) → Contains events event → Contains deeds.calls.on_store event) → StopsWithin (writes_of files) events
     → (path : List ℕ) × Contains (paths_written files) path × Rose (before.write_faults path) (after.write_faults path)
 writes_of-rose files events deeds before after accounted among stop =
     let failed = failed_path files events stop in

@@ -3,10 +3,7 @@ use Rattle.std.specs.Prelude.{◌≡◌, ◌⊎◌, ℕ, List, [], ◌∷◌, Al
 use Rattle.std.specs.List.{flat_map}
 use Rattle.lif_outside.specs.Events.{Event, created, appended}
 use Rattle.lif_outside.specs.Files.{Files, Holds, HoldsPrefix, SameBut}
-
--- a path, and what its file is to hold
-abbrev pub Written : Type 0
-Written = List ℕ × List ℕ
+use Rattle.lif_outside.specs.Runs.{Written}
 
 -- the paths
 abbrev pub paths_written : List Written → List (List ℕ)
