@@ -27,6 +27,10 @@ pieces_before file rate generations =
 abbrev pub pieces_of : List ℕ → ℕ → List (List ℕ)
 pieces_of file rate = pieces_before file rate (block_count file rate)
 
+-- those of whole blocks alone
+abbrev pub whole_pieces_of : List ℕ → ℕ → List (List ℕ)
+whole_pieces_of file rate = pieces_before file rate (length file / capacity rate)
+
 -- the blocks of a file, each at its generation
 abbrev pub blocks_of : List ℕ → ℕ → List (List ℕ)
 blocks_of file rate = map (λ generation. block_of rate (piece_of file rate generation)) (range_with_len 0 (block_count file rate))

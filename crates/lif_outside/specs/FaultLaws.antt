@@ -17,6 +17,9 @@ failed-append a b c d first later one other = record {
   failed_write = list_any-append is_failed_write first later ∙ ap (λ x. x || list_any is_failed_write later) one.failed_write ∙ ap (λ x. b || x) other.failed_write;
 }
 
+pub none_failed : (events : List Event) → events ≡ [] → HaveFailed false false events
+none_failed events none = subst (HaveFailed false false) (sym none) (record { failed_read = refl; failed_write = refl })
+
 pub reads_unfailed : (at : ℕ) (path : List ℕ) (events : List Event) → AreReadsFrom at path events → HaveFailed false false events
 reads_unfailed at path [] reads = record { failed_read = refl; failed_write = refl }
 reads_unfailed at path (read other where_at more came ∷ events) reads =

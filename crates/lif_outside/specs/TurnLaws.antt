@@ -14,7 +14,7 @@ use Rattle.lif_outside.specs.EventLaws.{KeepsPath, happen-split, happens_here, h
 use Rattle.lif_outside.specs.FaultLaws.{HaveFailed, failed-append, appends_unfailed}
 use Rattle.lif_outside.specs.Files.{HoldsPrefix, IsSameOrEmpty, AreDistinct}
 use Rattle.lif_outside.specs.PutLaws.{take-behind}
-use Rattle.lif_outside.specs.Runs.{StopsWithin, Written, failed_of, creates_of, appends_of, turn_of, AreAppendsTo, bytes_appended}
+use Rattle.lif_outside.specs.Runs.{StopsWithin, Written, failed_of, creates_of, appends_of, appends_to, turn_of, AreAppendsTo, bytes_appended}
 use Rattle.lif_outside.specs.Sequences.{IsFrontOf, Then}
 use Rattle.lif_outside.specs.SequenceLaws.{all_append, all_split, stops_all, stops_there}
 use Rattle.lif_outside.specs.RunLaws.{appends_held, appends-append, bytes_appended-append}
@@ -26,6 +26,9 @@ creates_of-append paths others = map-append created paths others
 -- appends of some turns, and then of others
 pub appends_of-append : (turns others : List (List Written)) → appends_of (turns ++ others) ≡ appends_of turns ++ appends_of others
 appends_of-append turns others = flat_map-append (λ turn. map (λ (part : Written). appended part.0 part.1) turn) turns others
+
+pub appends_to-append : (paths pieces others : List (List ℕ)) → appends_to paths (pieces ++ others) ≡ appends_to paths pieces ++ appends_to paths others
+appends_to-append paths pieces others = ap appends_of (map-append (turn_of paths) pieces others) ∙ appends_of-append (map (turn_of paths) pieces) (map (turn_of paths) others)
 
 -- creates that stop at a path
 pub creates_of-stops : (front : List (List ℕ)) (path : List ℕ) (rest : List (List ℕ)) → StopsWithin (creates_of (front ++ path ∷ rest)) (creates_of front ++ create_failed path ∷ [])
@@ -52,15 +55,21 @@ apart_behind path paths place apart there = apart (behind_there path paths place
 abbrev pub turn_calls : List (List ℕ) → List ℕ → List Event
 turn_calls paths bytes = map (λ (part : Written). appended part.0 part.1) (turn_of paths bytes)
 
+pub turn_calls-append : (paths others : List (List ℕ)) (bytes : List ℕ) → turn_calls (paths ++ others) bytes ≡ turn_calls paths bytes ++ turn_calls others bytes
+turn_calls-append paths others bytes =
+    let part_call : Written → Event = λ part. appended part.0 part.1 in
+    let to : List ℕ → Written = λ path. (path, bytes) in
+    ap (map part_call) (map-append to paths others) ∙ map-append part_call (map to paths) (map to others)
+
 -- for some of these paths
 turn_are : (all paths : List (List ℕ)) (bytes : List ℕ) → ((path : List ℕ) → Contains paths path → Contains all path) → AreAppendsTo all (turn_calls paths bytes)
 turn_are all [] bytes within = tt
 turn_are all (path ∷ paths) bytes within = (within path (first_there path paths), turn_are all paths bytes (λ place there. within place (behind_there path paths place there)))
 
 -- such turns are appends to these paths
-pub turns-are : (paths pieces : List (List ℕ)) → AreAppendsTo paths (appends_of (map (turn_of paths) pieces))
-turns-are paths [] = tt
-turns-are paths (piece ∷ pieces) = appends-append paths (turn_calls paths piece) (appends_of (map (turn_of paths) pieces)) (turn_are paths paths piece (λ path there. there)) (turns-are paths pieces)
+pub appends_to-are : (paths pieces : List (List ℕ)) → AreAppendsTo paths (appends_to paths pieces)
+appends_to-are paths [] = tt
+appends_to-are paths (piece ∷ pieces) = appends-append paths (turn_calls paths piece) (appends_to paths pieces) (turn_are paths paths piece (λ path there. there)) (appends_to-are paths pieces)
 
 -- creates keep every other path
 pub creates_of-keep : (paths : List (List ℕ)) (place : List ℕ) → ¬ Contains paths place → AllByRecursion (KeepsPath place) (creates_of paths)
@@ -154,12 +163,12 @@ turn_here (path ∷ paths) place bytes distinct there =
     (there_cases path paths place there)
 
 -- each of the paths gets all pieces
-pub bytes_appended-turns : (paths pieces : List (List ℕ)) (place : List ℕ) → AreDistinct paths → Contains paths place → bytes_appended place (appends_of (map (turn_of paths) pieces)) ≡ concat pieces
-bytes_appended-turns paths [] place distinct there = refl
-bytes_appended-turns paths (piece ∷ pieces) place distinct there =
-    bytes_appended-append place (turn_calls paths piece) (appends_of (map (turn_of paths) pieces))
-    ∙ ap (λ first. first ++ bytes_appended place (appends_of (map (turn_of paths) pieces))) (turn_here paths place piece distinct there)
-    ∙ ap (λ rest. piece ++ rest) (bytes_appended-turns paths pieces place distinct there)
+pub bytes_appended-appends_to : (paths pieces : List (List ℕ)) (place : List ℕ) → AreDistinct paths → Contains paths place → bytes_appended place (appends_to paths pieces) ≡ concat pieces
+bytes_appended-appends_to paths [] place distinct there = refl
+bytes_appended-appends_to paths (piece ∷ pieces) place distinct there =
+    bytes_appended-append place (turn_calls paths piece) (appends_to paths pieces)
+    ∙ ap (λ first. first ++ bytes_appended place (appends_to paths pieces)) (turn_here paths place piece distinct there)
+    ∙ ap (λ rest. piece ++ rest) (bytes_appended-appends_to paths pieces place distinct there)
 
 -- appends in two parts
 pub appends-split : (paths : List (List ℕ)) (first later : List Event) → AreAppendsTo paths (first ++ later) → AreAppendsTo paths first × AreAppendsTo paths later
@@ -211,6 +220,14 @@ appends-front paths these events place b are front h =
     front_held (bytes_appended place events) (bytes_appended place front.0) (bytes_appended place these) b
     (sym (bytes_appended-append place events front.0) ∙ ap (bytes_appended place) (sym front.1))
     (appends_held paths place events [] (Some []) b parts.0 refl h)
+
+-- the first of some appends keep what all of them keep
+pub front_keeps : (place : List ℕ) (these events : List Event) → IsFrontOf these events → AllByRecursion (KeepsPath place) these → AllByRecursion (KeepsPath place) events
+front_keeps place these events front keeps = (all_split (KeepsPath place) events front.0 (subst (AllByRecursion (KeepsPath place)) front.1 keeps)).0
+
+-- and none has failed
+pub front_unfailed : (paths : List (List ℕ)) (these events : List Event) → AreAppendsTo paths these → IsFrontOf these events → HaveFailed false false events
+front_unfailed paths these events are front = appends_unfailed paths events (appends-split paths events front.0 (subst (AreAppendsTo paths) front.1 are)).0
 
 -- and so do appends that stopped
 pub appends-stopped : (paths : List (List ℕ)) (these events : List Event) (place : List ℕ) (b : Option (List ℕ)) → AreAppendsTo paths these → StopsWithin these events → HappenAt place events (Some []) b

@@ -2,8 +2,8 @@
 use Rattle.std.proofs.Common.{◌≡◌, ◌++◌, ℕ, List, length, inl, inr, refl, sym, ap, subst, ◌∙◌}
 use Rattle.generation_frame.specs.Blocks.{block_count, pieces_of}
 use Rattle.lif_outside.specs.Events.{Event}
-use Rattle.lif_outside.specs.Runs.{Are, StopsWithin, appends_of, creates_of}
-use Rattle.lif_outside.specs.TurnLaws.{then_join}
+use Rattle.lif_outside.specs.Runs.{StopsWithin, appends_to, creates_of}
+use Rattle.lif_outside.specs.SequenceLaws.{then_join}
 use Rattle.node_program.specs.declared.code.Code.{Code}
 use Rattle.top_base.specs.FileReading.{StopsReading, outcome_of}
 use Rattle.top_base.specs.Lines.{sent_line, write_fault_line}
@@ -19,11 +19,11 @@ use Rattle.top_base.specs.declared.status.Status.TheVariants.{Done, WriteFault}
 
 -- the deliveries, by the paths and the code that are at hand
 pub same_deliveries : (send : Send) (code : Code) (paths : List (List ℕ)) (other : Code) (bytes source : List ℕ) → paths ≡ outputs_of send code → other ≡ code → bytes ≡ source
-    → appends_of paths (pieces_of bytes other.rate) ≡ deliveries send code source
+    → appends_to paths (pieces_of bytes other.rate) ≡ deliveries send code source
 same_deliveries send code paths other bytes source are is same =
-    ap (λ paths. appends_of paths (pieces_of bytes other.rate)) are
-    ∙ ap (λ code_at. appends_of (outputs_of send code) (pieces_of bytes code_at.rate)) is
-    ∙ ap (λ bytes. appends_of (outputs_of send code) (pieces_of bytes code.rate)) same
+    ap (λ paths. appends_to paths (pieces_of bytes other.rate)) are
+    ∙ ap (λ code_at. appends_to (outputs_of send code) (pieces_of bytes code_at.rate)) is
+    ∙ ap (λ bytes. appends_to (outputs_of send code) (pieces_of bytes code.rate)) same
 
 module _ (send : Send) (code : Code) (clear : IsClear send code) where
   -- a write fault, and its line

@@ -12,11 +12,11 @@ use Rattle.lif_outside.specs.DeedLaws.{Accounted}
 use Rattle.lif_outside.specs.Events.{Event, HappenAt, Follow}
 use Rattle.lif_outside.specs.EventLaws.{KeepsPath, happen_keeping}
 use Rattle.lif_outside.specs.Files.{Files, ChangesOnly, AreDistinct, Holds, HoldsPrefix, IsSameOrEmpty}
-use Rattle.lif_outside.specs.Runs.{Are, StopsWithin, ReadsWhole, ReadsToFault, ReadsPastLimit, creates_of}
+use Rattle.lif_outside.specs.Runs.{StopsWithin, ReadsWhole, ReadsToFault, ReadsPastLimit, creates_of}
 use Rattle.lif_outside.specs.RunLaws.{reads_keep, whole_keeps, fault_keeps, fault_there, whole_held, long_held}
 use Rattle.lif_outside.specs.Told.{Told, Becomes}
 use Rattle.lif_outside.specs.ToldLaws.{becomes_weaker}
-use Rattle.lif_outside.specs.TurnLaws.{creates_of-empty, creates_of-keep, creates_of-stopped, creates_of-fault, appends_of-held, appends_of-keep, appends_of-stopped, appends_of-fault, stops_keep, then_keeps}
+use Rattle.lif_outside.specs.TurnLaws.{creates_of-empty, creates_of-keep, creates_of-stopped, creates_of-fault, appends_to-held, appends_to-keep, appends_to-stopped, appends_to-fault, stops_keep, then_keeps}
 use Rattle.node_program.specs.declared.code.Code.{Code}
 use Rattle.top_base.specs.Accepting.{HoldsCode}
 use Rattle.top_base.specs.Inputs.{HoldsLong, HoldsShort}
@@ -119,8 +119,8 @@ module _ (send : Send) (code : Code) where
   delivered source calls is before after change =
       let pieces = pieces_of source code.rate in
       leaves_sent source (Are (deliveries send code source)) calls is (Holds source)
-      (λ place apart later these. subst (AllByRecursion (KeepsPath place)) (sym these) (appends_of-keep (outputs_of send code) pieces place apart))
-      (λ place b there happen. appends_of-held (outputs_of send code) pieces place [] b (distinct is.0) there (subst (λ es. HappenAt place es (Some []) b) is.1.holds_later.holds_later happen)
+      (λ place apart later these. subst (AllByRecursion (KeepsPath place)) (sym these) (appends_to-keep (outputs_of send code) pieces place apart))
+      (λ place b there happen. appends_to-held (outputs_of send code) pieces place [] b (distinct is.0) there (subst (λ es. HappenAt place es (Some []) b) is.1.holds_later.holds_later happen)
       ∙ ap Some (concat-pieces_of source code.rate code.code.draft.some_rate))
       before after change
 
@@ -129,9 +129,9 @@ module _ (send : Send) (code : Code) where
   part_delivered source calls is before after change =
       let pieces = pieces_of source code.rate in
       leaves_sent source (StopsWithin (deliveries send code source)) calls is (HoldsPrefix source)
-      (λ place apart later stop. stops_keep place (deliveries send code source) later stop (appends_of-keep (outputs_of send code) pieces place apart))
+      (λ place apart later stop. stops_keep place (deliveries send code source) later stop (appends_to-keep (outputs_of send code) pieces place apart))
       (λ place b there happen. subst (λ bytes. HoldsPrefix bytes b) (concat-pieces_of source code.rate code.code.draft.some_rate)
-      (appends_of-stopped (outputs_of send code) pieces place is.1.holds_later.later b (distinct is.0) there is.1.holds_later.holds_later happen))
+      (appends_to-stopped (outputs_of send code) pieces place is.1.holds_later.later b (distinct is.0) there is.1.holds_later.holds_later happen))
       before after change
 
   -- a create failed
@@ -163,7 +163,7 @@ module _ (send : Send) (code : Code) where
         }
     unwritten (inr (source, is)) =
         let stop = StopsWithin (deliveries send code source) in
-        let fault = appends_of-fault (outputs_of send code) (pieces_of source code.rate) is.1.holds_later.later is.1.holds_later.holds_later in
+        let fault = appends_to-fault (outputs_of send code) (pieces_of source code.rate) is.1.holds_later.later is.1.holds_later.holds_later in
         record {
           has_code = has_code is.0;
           output = fault.0;

@@ -13,7 +13,7 @@ use Rattle.lif_outside.specs.Runs.{Then, Are, StopsWithin, ReadsWhole, ReadsToFa
 use Rattle.lif_outside.specs.RunLaws.{long_held}
 use Rattle.lif_outside.specs.Told.{Told}
 use Rattle.lif_outside.specs.ToldLaws.{told_before}
-use Rattle.lif_outside.specs.TurnLaws.{creates_of-unfailed, creates_of-failed, appends_of-unfailed, appends_of-failed}
+use Rattle.lif_outside.specs.TurnLaws.{creates_of-unfailed, creates_of-failed, appends_to-unfailed, appends_to-failed}
 use Rattle.node_program.specs.declared.code.Code.{Code}
 use Rattle.top_base.specs.Accepting.{HoldsCode, IsCodeOf, ReadsCode, RefusesCode, code_limit}
 use Rattle.top_base.specs.AcceptingLaws.{code_input}
@@ -67,7 +67,7 @@ module _ (send : Send) where
 
     failed_with : (status : Status) (line : List ℕ) (calls : List Event) → RunsCode send code status line calls → HaveFailed (is_read_fault status) (is_write_fault status) calls
     failed_with Done line calls (source, line_is, is) = sent_failed source (Are (deliveries send code source)) false false calls is
-        (subst (HaveFailed false false) (sym is.1.holds_later.holds_later) (appends_of-unfailed (outputs_of send code) (pieces_of source code.rate)))
+        (subst (HaveFailed false false) (sym is.1.holds_later.holds_later) (appends_to-unfailed (outputs_of send code) (pieces_of source code.rate)))
     failed_with UnknownPattern line calls (unknown, line_is, none) = none_failed calls none
     failed_with SamePath line calls (path, pattern, shared, line_is, none) = none_failed calls none
     failed_with OutOfMemory line calls (none, line_is) = none_failed calls none
@@ -75,7 +75,7 @@ module _ (send : Send) where
     failed_with TooLong line calls (is, line_is) = created_failed (ReadsPastLimit send.source source_limit) false false calls is (reads_unfailed 0 send.source is.1.later is.1.holds_later.reads)
     failed_with WriteFault line calls (inl is, line_is) = creates_of-failed (outputs_of send code) calls is.1
     failed_with WriteFault line calls (inr (source, is), line_is) = sent_failed source (StopsWithin (deliveries send code source)) false true calls is
-        (appends_of-failed (outputs_of send code) (pieces_of source code.rate) is.1.holds_later.later is.1.holds_later.holds_later)
+        (appends_to-failed (outputs_of send code) (pieces_of source code.rate) is.1.holds_later.later is.1.holds_later.holds_later)
     failed_with status line calls runs = absurd runs
 
     -- the line of a fault, or of want of memory

@@ -10,8 +10,9 @@ use Rattle.lif_outside.specs.declared.Failed.{Failed}
 use Rattle.lif_outside.specs.CallLaws.{calls_of}
 use Rattle.lif_outside.specs.Calls.{ByCalls}
 use Rattle.lif_outside.specs.Events.{Event, appended, append_failed, created, create_failed, append_event}
-use Rattle.lif_outside.specs.Runs.{StopsWithin, appends_of, creates_of}
-use Rattle.lif_outside.specs.TurnLaws.{appends_of-append, creates_of-append, creates_of-stops, stops_behind, stops_first, stops_here}
+use Rattle.lif_outside.specs.Runs.{StopsWithin, appends_to, creates_of}
+use Rattle.lif_outside.specs.SequenceLaws.{stops_behind, stops_first, stops_here}
+use Rattle.lif_outside.specs.TurnLaws.{appends_to-append, creates_of-append, creates_of-stops, turn_calls, turn_calls-append}
 use Rattle.lif_top.specs.Send.Ready.{some_piece}
 
 module _ (paths : List (List ℕ)) (n : ℕ) (within : n < length paths) where
@@ -35,27 +36,26 @@ module _ (paths : List (List ℕ)) (n : ℕ) (within : n < length paths) where
   create_stops = subst (λ all. StopsWithin (creates_of all) (creates_of (take n paths) ++ create_failed path ∷ [])) (sym around) (creates_of-stops (take n paths) path (drop (suc n) paths))
 
   -- one piece at most, for the paths of two lists
-  both : (piece : List ℕ) (test : Bool) (one other : List (List ℕ)) → appends_of (one ++ other) (if test then piece ∷ [] else []) ≡ appends_of one (if test then piece ∷ [] else []) ++ appends_of other (if test then piece ∷ [] else [])
+  both : (piece : List ℕ) (test : Bool) (one other : List (List ℕ)) → appends_to (one ++ other) (if test then piece ∷ [] else []) ≡ appends_to one (if test then piece ∷ [] else []) ++ appends_to other (if test then piece ∷ [] else [])
   both piece true one other =
-      let adds : List ℕ → Event = λ path. appended path piece in
-      append-nil (map adds (one ++ other)) ∙ map-append adds one other
-      ∙ ap (λ front. front ++ map adds other) (sym (append-nil (map adds one)))
-      ∙ ap (λ later. (map adds one ++ []) ++ later) (sym (append-nil (map adds other)))
+      append-nil (turn_calls (one ++ other) piece) ∙ turn_calls-append one other piece
+      ∙ ap (λ front. front ++ turn_calls other piece) (sym (append-nil (turn_calls one piece)))
+      ∙ ap (λ later. (turn_calls one piece ++ []) ++ later) (sym (append-nil (turn_calls other piece)))
   both piece false one other = refl
 
-  pub appended_more : (piece : List ℕ) → appends_of (take n paths) (some_piece piece) ++ appends_of (path ∷ []) (some_piece piece) ≡ appends_of (take (n + 1) paths) (some_piece piece)
-  appended_more piece = sym (ap (λ all. appends_of all (some_piece piece)) taken_more ∙ both piece (nat_lt 0 (length piece)) (take n paths) (path ∷ []))
+  pub appended_more : (piece : List ℕ) → appends_to (take n paths) (some_piece piece) ++ appends_to (path ∷ []) (some_piece piece) ≡ appends_to (take (n + 1) paths) (some_piece piece)
+  appended_more piece = sym (ap (λ all. appends_to all (some_piece piece)) taken_more ∙ both piece (nat_lt 0 (length piece)) (take n paths) (path ∷ []))
 
-  pub append_stops : (piece : List ℕ) (events : List Event) → StopsWithin (appends_of (path ∷ []) (some_piece piece)) events
-      → StopsWithin (appends_of paths (some_piece piece)) (appends_of (take n paths) (some_piece piece) ++ events)
+  pub append_stops : (piece : List ℕ) (events : List Event) → StopsWithin (appends_to (path ∷ []) (some_piece piece)) events
+      → StopsWithin (appends_to paths (some_piece piece)) (appends_to (take n paths) (some_piece piece) ++ events)
   append_stops piece events stop =
       let test = nat_lt 0 (length piece) in
-      let all : appends_of paths (some_piece piece) ≡ appends_of (take n paths) (some_piece piece) ++ (appends_of (path ∷ []) (some_piece piece) ++ appends_of (drop (suc n) paths) (some_piece piece)) =
-      ap (λ all. appends_of all (some_piece piece)) around
+      let all : appends_to paths (some_piece piece) ≡ appends_to (take n paths) (some_piece piece) ++ (appends_to (path ∷ []) (some_piece piece) ++ appends_to (drop (suc n) paths) (some_piece piece)) =
+      ap (λ all. appends_to all (some_piece piece)) around
       ∙ both piece test (take n paths) (path ∷ [] ++ drop (suc n) paths)
-      ∙ ap (λ later. appends_of (take n paths) (some_piece piece) ++ later) (both piece test (path ∷ []) (drop (suc n) paths)) in
-      subst (λ all. StopsWithin all (appends_of (take n paths) (some_piece piece) ++ events)) (sym all)
-      (stops_behind (appends_of (take n paths) (some_piece piece)) _ events (stops_first _ (appends_of (drop (suc n) paths) (some_piece piece)) events stop))
+      ∙ ap (λ later. appends_to (take n paths) (some_piece piece) ++ later) (both piece test (path ∷ []) (drop (suc n) paths)) in
+      subst (λ all. StopsWithin all (appends_to (take n paths) (some_piece piece) ++ events)) (sym all)
+      (stops_behind (appends_to (take n paths) (some_piece piece)) _ events (stops_first _ (appends_to (drop (suc n) paths) (some_piece piece)) events stop))
 
 -- the pieces of a source, around one of them
 pieces_around : (source : List ℕ) (rate n more : ℕ) → (rest : List (List ℕ)) × (pieces_before source rate (n + 1 + more) ≡ pieces_before source rate n ++ (some_piece (piece_of source rate n) ++ rest))
@@ -74,30 +74,30 @@ pieces_around source rate n (suc more) =
 
 module _ (paths : List (List ℕ)) (source : List ℕ) (rate n : ℕ) where
   -- one piece more
-  pub piece_more : appends_of paths (pieces_before source rate n) ++ appends_of paths (some_piece (piece_of source rate n)) ≡ appends_of paths (pieces_before source rate (n + 1))
-  piece_more = sym (ap (appends_of paths) (pieces_before-more source rate n) ∙ appends_of-append paths (pieces_before source rate n) (some_piece (piece_of source rate n)))
+  pub piece_more : appends_to paths (pieces_before source rate n) ++ appends_to paths (some_piece (piece_of source rate n)) ≡ appends_to paths (pieces_before source rate (n + 1))
+  piece_more = sym (ap (appends_to paths) (pieces_before-more source rate n) ∙ appends_to-append paths (pieces_before source rate n) (some_piece (piece_of source rate n)))
 
   -- a piece at which the calls stop
-  pub piece_stops : (all : ℕ) → n < all → (events : List Event) → StopsWithin (appends_of paths (some_piece (piece_of source rate n))) events
-      → StopsWithin (appends_of paths (pieces_before source rate all)) (appends_of paths (pieces_before source rate n) ++ events)
+  pub piece_stops : (all : ℕ) → n < all → (events : List Event) → StopsWithin (appends_to paths (some_piece (piece_of source rate n))) events
+      → StopsWithin (appends_to paths (pieces_before source rate all)) (appends_to paths (pieces_before source rate n) ++ events)
   piece_stops all within events stop =
       let more : ℕ = all - (n + 1) in
       let whole : n + 1 + more ≡ all = omega arith in
       let parts = pieces_around source rate n more in
-      let first = appends_of paths (pieces_before source rate n) in
-      let these : appends_of paths (pieces_before source rate all) ≡ first ++ (appends_of paths (some_piece (piece_of source rate n)) ++ appends_of paths parts.0) =
-      ap (λ k. appends_of paths (pieces_before source rate k)) (sym whole) ∙ ap (appends_of paths) parts.1
-      ∙ appends_of-append paths (pieces_before source rate n) (some_piece (piece_of source rate n) ++ parts.0)
-      ∙ ap (λ later. first ++ later) (appends_of-append paths (some_piece (piece_of source rate n)) parts.0) in
-      subst (λ these. StopsWithin these (first ++ events)) (sym these) (stops_behind first _ events (stops_first _ (appends_of paths parts.0) events stop))
+      let first = appends_to paths (pieces_before source rate n) in
+      let these : appends_to paths (pieces_before source rate all) ≡ first ++ (appends_to paths (some_piece (piece_of source rate n)) ++ appends_to paths parts.0) =
+      ap (λ k. appends_to paths (pieces_before source rate k)) (sym whole) ∙ ap (appends_to paths) parts.1
+      ∙ appends_to-append paths (pieces_before source rate n) (some_piece (piece_of source rate n) ++ parts.0)
+      ∙ ap (λ later. first ++ later) (appends_to-append paths (some_piece (piece_of source rate n)) parts.0) in
+      subst (λ these. StopsWithin these (first ++ events)) (sym these) (stops_behind first _ events (stops_first _ (appends_to paths parts.0) events stop))
 
 -- a piece that is appended to a path alone, where the append failed
 pub append_if_err : {S : Type 0} (calls : List Event → S → S → Type 0) (a b : S) (place piece : List ℕ) (result : Result Unit Failed) → nat_lt 0 (length piece) ≡ true
-    → calls (append_event place piece result ∷ []) a b → OnErr result (ByCalls calls a b (StopsWithin (appends_of (place ∷ []) (some_piece piece))))
+    → calls (append_event place piece result ∷ []) a b → OnErr result (ByCalls calls a b (StopsWithin (appends_to (place ∷ []) (some_piece piece))))
 append_if_err calls a b place piece (Ok done) some lead = tt
 append_if_err calls a b place piece (Err why) some lead =
-    calls_of (StopsWithin (appends_of (place ∷ []) (some_piece piece))) (append_failed place piece ∷ []) lead
-    (subst (λ test. StopsWithin (appends_of (place ∷ []) (if test then piece ∷ [] else [])) (append_failed place piece ∷ [])) (sym some) (stops_here (appended place piece) []))
+    calls_of (StopsWithin (appends_to (place ∷ []) (some_piece piece))) (append_failed place piece ∷ []) lead
+    (subst (λ test. StopsWithin (appends_to (place ∷ []) (if test then piece ∷ [] else [])) (append_failed place piece ∷ [])) (sym some) (stops_here (appended place piece) []))
 
 -- an item of a list at its place, mapped
 pub mapped_at : {X Y : Type 0} (f : X → Y) (xs : List X) (n : ℕ) (x : X) (d : Y) → n < length xs → x ≡ slice_index_or xs n x → f x ≡ slice_index_or (map f xs) n d
@@ -109,10 +109,10 @@ some_length zero test = absurd (false≢true (sym test))
 some_length (suc n) test = lt-ltb 0 (suc n) (omega arith)
 
 -- nothing for no path
-pub appended_none : (piece : List ℕ) → [] ≡ appends_of [] (some_piece piece)
+pub appended_none : (piece : List ℕ) → [] ≡ appends_to [] (some_piece piece)
 appended_none piece = none (nat_lt 0 (length piece))
   where
-    none : (test : Bool) → [] ≡ appends_of [] (if test then piece ∷ [] else [])
+    none : (test : Bool) → [] ≡ appends_to [] (if test then piece ∷ [] else [])
     none true = refl
     none false = refl
 

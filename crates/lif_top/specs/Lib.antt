@@ -2,10 +2,12 @@ pub mod Paths
 pub mod Promises
 pub mod Send
 pub use Rattle.top_base.specs.Accepting
+pub use Rattle.top_base.specs.Acting
 pub use Rattle.top_base.specs.Causes
 pub use Rattle.top_base.specs.Inputs
 pub use Rattle.top_base.specs.Inspecting
 pub use Rattle.top_base.specs.Lines
+pub use Rattle.top_base.specs.Making
 pub use Rattle.top_base.specs.Networks
 pub use Rattle.top_base.specs.Outcome
 pub use Rattle.top_base.specs.Paths as SharedPaths
@@ -30,6 +32,8 @@ pub use Rattle.lif_outside.specs.Events
 pub use Rattle.lif_outside.specs.Files
 pub use Rattle.lif_outside.specs.Puts
 pub use Rattle.lif_outside.specs.Runs
+pub use Rattle.lif_outside.specs.Sequences
+pub use Rattle.lif_outside.specs.Streams
 pub use Rattle.lif_outside.specs.Told
 pub use Rattle.lif_outside.specs.Writes
 pub use Rattle.lif_compiler.specs.Compiled

@@ -1,7 +1,7 @@
 -- The command `send`.
+pub mod Command
 pub mod Runs
 pub mod Changes
 pub mod Due
-pub mod Promise
 pub mod Given
 pub mod Ready

@@ -3,7 +3,8 @@ ghost use Rattle.std.specs.Prelude.{◌≡◌, ◌≤◌, ◌<◌, ◌*◌, ◌�
 ghost use Rattle.block_carrier.specs.Carried.{HasBlock};
 ghost use Rattle.generation_frame.specs.Blocks.{capacity, counted_bytes, pieces_of};
 ghost use Rattle.lif_outside.specs.Calls.{MakesCalls};
-ghost use Rattle.lif_outside.specs.Runs.{Are, StopsWithin, appends_of, creates_of};
+ghost use Rattle.lif_outside.specs.Runs.{StopsWithin, appends_to, creates_of};
+ghost use Rattle.lif_outside.specs.Sequences.{Are};
 ghost use Rattle.lif_top.specs.Send.Given.{source_limit};
 ghost use Rattle.lif_top.specs.Send.Ready.{AreCounts, paths_of, some_piece};
 
@@ -37,9 +38,9 @@ impl<'c> Delivery<'c> {
         ensures carrier { self.new.carrier ≡ self.old.carrier }
         ensures outputs { self.new.outputs ≡ self.old.outputs }
         ensures appended { OnOk result (MakesCalls S.Store store.old store.new
-            (Are (appends_of (slice_index_or (paths_of self.old) sink [] ∷ []) (some_piece piece.now)))) }
+            (Are (appends_to (slice_index_or (paths_of self.old) sink [] ∷ []) (some_piece piece.now)))) }
         ensures failed { OnErr result (MakesCalls S.Store store.old store.new
-            (StopsWithin (appends_of (slice_index_or (paths_of self.old) sink [] ∷ []) (some_piece piece.now)))) }
+            (StopsWithin (appends_to (slice_index_or (paths_of self.old) sink [] ∷ []) (some_piece piece.now)))) }
     {
         self.carrier.decode(sink as u32, &mut self.decoded);
         let received = counted(&self.decoded);
@@ -55,8 +56,8 @@ impl<'c> Delivery<'c> {
         requires made { (path : List ℕ) → Contains (paths_of self.old) path → S.made store.old path }
         ensures code { self.new.carrier.code ≡ self.old.carrier.code }
         ensures outputs { self.new.outputs ≡ self.old.outputs }
-        ensures appended { OnOk result (MakesCalls S.Store store.old store.new (Are (appends_of (paths_of self.old) (some_piece piece.now)))) }
-        ensures failed { OnErr result (MakesCalls S.Store store.old store.new (StopsWithin (appends_of (paths_of self.old) (some_piece piece.now)))) }
+        ensures appended { OnOk result (MakesCalls S.Store store.old store.new (Are (appends_to (paths_of self.old) (some_piece piece.now)))) }
+        ensures failed { OnErr result (MakesCalls S.Store store.old store.new (StopsWithin (appends_to (paths_of self.old) (some_piece piece.now)))) }
     {
         cut(piece, &mut self.block);
         self.carrier.carry(&self.block);
@@ -76,9 +77,9 @@ impl<'c> Delivery<'c> {
         requires made { (path : List ℕ) → Contains (paths_of self.old) path → S.made store.old path }
         ensures counts { IfOk result (AreCounts self.old.carrier.code source.now) }
         ensures delivered { OnOk result (MakesCalls S.Store store.old store.new
-            (Are (appends_of (paths_of self.old) (pieces_of source.now self.old.carrier.code.rate)))) }
+            (Are (appends_to (paths_of self.old) (pieces_of source.now self.old.carrier.code.rate)))) }
         ensures failed { OnErr result (MakesCalls S.Store store.old store.new
-            (StopsWithin (appends_of (paths_of self.old) (pieces_of source.now self.old.carrier.code.rate)))) }
+            (StopsWithin (appends_to (paths_of self.old) (pieces_of source.now self.old.carrier.code.rate)))) }
     {
         let capacity = cap(self.rate) as usize;
         let generations = source.len() / capacity + 1;

@@ -1,8 +1,9 @@
 //! The top call: words to a command, and what it does.
 ghost use Rattle.std.specs.Prelude.{◌≤◌, map, string_bytes};
-ghost use Rattle.lif_outside.specs.Calls.{KeepsStore, MakesCalls};
+ghost use Rattle.lif_outside.specs.Calls.{KeepsStore, objects};
+ghost use Rattle.top_base.specs.Performs.{RunsOnStore};
 ghost use Rattle.top_base.specs.Words.{command_of};
-ghost use Rattle.lif_top.specs.Promises.{Promises, RunsForm};
+ghost use Rattle.lif_top.specs.Promises.{Promises, does_form};
 
 use crate::sending::send;
 use lif_outside::{Gate, Sink, Store};
@@ -19,7 +20,7 @@ fn carry_out<'a, S: Store, G: Gate + Sync, R: Threads + Sync>(
     store: &mut S,
     gate: &G,
 ) -> Outcome<'a>
-    ensures { MakesCalls S.Store store.old store.new (RunsForm (command_of (map string_bytes words.now)) result) }
+    ensures { RunsOnStore S.Store (does_form (command_of (map string_bytes words.now))) store.old store.new result }
 {
     let Some(command) = command_of(words) else {
         return Outcome::usage();
@@ -54,7 +55,8 @@ pub fn lif<S: Store, C: Sink, G: Gate + Sync, R: Threads + Sync>(
     say: &mut C,
     gate: &G,
 ) -> Status
-    ensures promises { Promises S.Store C.Sink (map string_bytes words.now) store.old store.new say.old say.new result }
+    ensures promises { Promises (map string_bytes words.now)
+        (objects S.Store C.Sink store.old store.new say.old say.new) result }
 
     // No count falls.
     ensures counts { KeepsStore S.Store store.old store.new }

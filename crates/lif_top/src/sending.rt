@@ -2,8 +2,10 @@
 ghost use Rattle.std.specs.Prelude.{◌≡◌};
 ghost use Rattle.lif_outside.specs.Calls.{MakesCalls};
 ghost use Rattle.top_base.specs.Given.{given_in};
+ghost use Rattle.top_base.specs.Performs.{RunsOnStore};
+ghost use Rattle.lif_top.specs.Send.Command.{send_command};
 ghost use Rattle.lif_top.specs.Send.Ready.{IsReady};
-ghost use Rattle.lif_top.specs.Send.Runs.{Runs, RunsCode};
+ghost use Rattle.lif_top.specs.Send.Runs.{RunsCode};
 
 use crate::preparing::{Prepared, SOURCE_LIMIT, prepare};
 use code_checker::Checked;
@@ -62,7 +64,7 @@ pub fn send<'a, S: Store, G: Gate + Sync, R: Threads + Sync>(
     store: &mut S,
     gate: &G,
 ) -> Outcome<'a>
-    ensures { MakesCalls S.Store store.old store.new (Runs (given_in words.now) result) }
+    ensures { RunsOnStore S.Store (send_command (given_in words.now)) store.old store.new result }
 {
     match read_accepted(rt, alloc, store, words.code, gate) {
         Ok(checked) => send_through(alloc, words, &checked, store),

@@ -54,5 +54,6 @@ stops_more path limit refused.OutOfMemory old new front later short gave (room, 
     let all : Gave path (old ++ came) (front ++ later) = subst (λ calls. Gave path (old ++ came) (front ++ calls)) (sym is) (one_more_read path old front room came gave some) in
     record {
       reads = all.0;
+      some = subst (λ bytes. 0 < length bytes) (sym all.1) (omega (arith, length-append old came, some));
       short = subst (λ bytes. length bytes ≤ limit + 1) (sym all.1) (omega (arith, length-append old came, fits));
     }

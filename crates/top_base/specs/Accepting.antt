@@ -1,6 +1,7 @@
 -- A code that is read and checked, as every command does that is given one.
 use Rattle.std.specs.Prelude.{◌≡◌, ◌⊎◌, ℕ, List, Option, Result, Err}
 use Rattle.lif_outside.specs.Events.{Event}
+use Rattle.lif_outside.specs.Files.{Holds}
 use Rattle.code_checker.specs.Checking.{FailsFirst}
 use Rattle.code_file.specs.Items.{bytes_of}
 use Rattle.code_file.specs.Reading.{contents_of}
@@ -16,17 +17,30 @@ use Rattle.top_base.specs.declared.status.Status.TheVariants.{CodeRefused, Check
 abbrev pub code_limit : ℕ
 code_limit = 268435456
 
--- the bytes are those of this code, which is accepted
+-- these bytes are the file of this code
+abbrev pub IsFileOf : List ℕ → Code → Type 0
+IsFileOf bytes code = bytes ≡ bytes_of code
+
+-- the bytes are the file of this code, and it is accepted
 pub record IsCodeOf (bytes : List ℕ) (code : Code) : Type 0 where
-  pub spelled : bytes ≡ bytes_of code
+  pub spelled : IsFileOf bytes code
   pub accepted : IsAccepted code
 
--- the bytes are refused, with this status and line: they are no code file, or that of a code that isn't accepted
+-- the bytes are no code's file, with this status and line
+abbrev pub RefusesFile : List ℕ → Status → List ℕ → Type 0
+RefusesFile bytes (CodeRefused why) line = (contents_of bytes ≡ Err why) × (line ≡ code_refused_line why)
+RefusesFile bytes status line = ⊥
+
+-- they are that of a code that isn't accepted
+abbrev pub RefusesUnaccepted : List ℕ → Status → List ℕ → Type 0
+RefusesUnaccepted bytes (CheckFailed demand row column found) line =
+    (code : Code) × IsFileOf bytes code × FailsFirst code demand row column found × (line ≡ check_failed_line code.net demand row column found)
+RefusesUnaccepted bytes status line = ⊥
+
+-- the bytes are refused as those of an accepted code
 abbrev pub RefusesCode : List ℕ → Status → List ℕ → Type 0
-RefusesCode bytes (CodeRefused why) line = (contents_of bytes ≡ Err why) × (line ≡ code_refused_line why)
-RefusesCode bytes (CheckFailed demand row column found) line =
-    (code : Code) × (bytes ≡ bytes_of code) × FailsFirst code demand row column found × (line ≡ check_failed_line code.net demand row column found)
-RefusesCode bytes status line = ⊥
+RefusesCode bytes (CodeRefused why) line = RefusesFile bytes (CodeRefused why) line
+RefusesCode bytes status line = RefusesUnaccepted bytes status line
 
 -- the bytes are refused, and this is the outcome, or there was no memory
 abbrev pub RefusesCodeOrLosesIt : List ℕ → Outcome → Type 0
@@ -39,3 +53,7 @@ ReadsCode path result calls = Reads code_limit IsCodeOf RefusesCode path result 
 -- what a path holds: an accepted code, or what makes this the outcome
 abbrev pub HoldsCode : Option (List ℕ) → Result Code Outcome → Type 0
 HoldsCode file result = HoldsInput code_limit IsCodeOf RefusesCode file result
+
+-- a path holds the file of this code
+abbrev pub HoldsFileOf : Code → Option (List ℕ) → Type 0
+HoldsFileOf code file = (bytes : List ℕ) × Holds bytes file × IsFileOf bytes code

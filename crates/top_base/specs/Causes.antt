@@ -8,7 +8,7 @@ use Rattle.top_base.specs.declared.status.Status.{Status}
 use Rattle.top_base.specs.declared.status.Status.TheVariants.{Done, ReadFault, WriteFault}
 
 pub record HasCauses (deeds : Deeds) (status : Status) : Type 0 where
-  pub read_fault : (status ≡ ReadFault) ↔ IsTrue (list_any is_failed_read deeds.calls)
-  pub failed_write : IsTrue (list_any is_failed_write deeds.calls) → status ≡ WriteFault
-  pub write_fault : status ≡ WriteFault → IsTrue (list_any is_failed_write deeds.calls) ⊎ IsTrue (list_any is_failed_put deeds.puts)
+  pub read_fault : (status ≡ ReadFault) ↔ IsTrue (list_any is_failed_read deeds.calls.on_store)
+  pub failed_write : IsTrue (list_any is_failed_write deeds.calls.on_store) → status ≡ WriteFault
+  pub write_fault : status ≡ WriteFault → IsTrue (list_any is_failed_write deeds.calls.on_store) ⊎ IsTrue (list_any is_failed_put deeds.puts)
   pub failed_put : IsTrue (list_any is_failed_put deeds.puts) → status ≢ Done

@@ -1,5 +1,5 @@
 -- What the calls say by which an input was read, and that a file says one thing of it.
-use Rattle.std.specs.Prelude.{◌≡◌, ◌≢◌, ◌⊎◌, ◌<◌, ℕ, List, length, Option, Result, Ok, Err, unwrap_or, IsTrue, IsFalse, false, Contains}
+use Rattle.std.specs.Prelude.{◌≡◌, ◌⊎◌, ◌<◌, ℕ, List, length, Option, Result, Ok, Err, unwrap_or, IsTrue, IsFalse, false, Contains}
 use Rattle.std.specs.List.{AllByRecursion}
 use Rattle.std.proofs.Common.{refl, sym, ap, subst, ◌∙◌, inl, inr, ⊎_elim, arith}
 use Rattle.std.proofs.lemmas.Bool.{false≢true}
@@ -13,7 +13,7 @@ use Rattle.lif_outside.specs.Files.{Holds}
 use Rattle.lif_outside.specs.Runs.{ReadsWhole}
 use Rattle.lif_outside.specs.RunLaws.{reads_keep, whole_keeps, fault_keeps, fault_there, whole_held, long_held}
 use Rattle.top_base.specs.FileReading.{StopsReading, outcome_of}
-use Rattle.top_base.specs.Inputs.{HoldsInput, HoldsLong, HoldsNone, HoldsShort, IsNoMemory, Loses, Reads, ReadsAny, is_refusal}
+use Rattle.top_base.specs.Inputs.{HoldsInput, HoldsLong, HoldsNone, HoldsShort, IsNoMemory, Loses, Reads, ReadsAny, is_lost, is_refusal}
 use Rattle.top_base.specs.Lines.{too_long_line}
 use Rattle.top_base.specs.Outcome.{AreAlike, fault_line, is_of_inputs}
 use Rattle.top_base.specs.PerformingLaws.{is_read_fault, is_write_fault}
@@ -21,7 +21,7 @@ use Rattle.top_base.specs.declared.outcome.Outcome.{Outcome}
 use Rattle.top_base.specs.declared.reading.FileRefusal.{FileRefusal}
 use Rattle.top_base.specs.declared.reading.FileRefusal.TheVariants as refused
 use Rattle.top_base.specs.declared.status.Status.{Status}
-use Rattle.top_base.specs.declared.status.Status.TheVariants.{Usage, ReadFault, WriteFault, TooLong, OutOfMemory, LinkFault}
+use Rattle.top_base.specs.declared.status.Status.TheVariants.{LinkFault, OutOfMemory, ReadFault, TooLong, WriteFault}
 
 -- reads as far as there was memory
 any-keeps : (path place : List ℕ) (limit : ℕ) (calls : List Event) → ReadsAny path limit calls → AllByRecursion (KeepsPath place) calls
@@ -91,7 +91,7 @@ module _ {X : Type 0} (limit : ℕ) (Is : List ℕ → X → Type 0) (Refuses : 
   reads-unfailed path x calls reads = whole_unfailed path limit reads.0 calls reads.1
 
   -- the read that failed has raised the count of the path
-  pub loses-rose : (path line : List ℕ) (reads : List Event) (deeds : Deeds) (before after : Outside) → Accounted deeds before after → ((event : Event) → Contains reads event → Contains deeds.calls event)
+  pub loses-rose : (path line : List ℕ) (reads : List Event) (deeds : Deeds) (before after : Outside) → Accounted deeds before after → ((event : Event) → Contains reads event → Contains deeds.calls.on_store event)
       → Loses limit Is Refuses path ReadFault line reads → Rose (before.read_faults path) (after.read_faults path)
   loses-rose path line reads deeds before after accounted among lost = accounted.failed_read path _ lost.0.room (among _ (fault_there path limit reads lost.0))
 
@@ -138,21 +138,12 @@ module _ {X : Type 0} (limit : ℕ) (Is : List ℕ → X → Type 0) (Refuses : 
     loses-failed path WriteFault line calls lost = absurd (false≢true (input.kind lost.0 WriteFault line lost.2))
     loses-failed path status line calls lost = whole_unfailed path limit lost.0 calls lost.1
 
-    -- an input can't be had for a write or for links that failed, nor for words that are no form
-    pub loses-no_write : (path : List ℕ) (status : Status) (line : List ℕ) (calls : List Event) → Loses limit Is Refuses path status line calls → status ≢ WriteFault
-    loses-no_write path status line calls lost is =
-        let none : Loses limit Is Refuses path WriteFault line calls = subst (λ s. Loses limit Is Refuses path s line calls) is lost in
-        false≢true (input.kind none.0 WriteFault line none.2)
-
-    pub loses-no_link : (path : List ℕ) (status : Status) (line : List ℕ) (calls : List Event) → Loses limit Is Refuses path status line calls → status ≢ LinkFault
-    loses-no_link path status line calls lost is =
-        let none : Loses limit Is Refuses path LinkFault line calls = subst (λ s. Loses limit Is Refuses path s line calls) is lost in
-        false≢true (input.kind none.0 LinkFault line none.2)
-
-    pub loses-used : (path : List ℕ) (status : Status) (line : List ℕ) (calls : List Event) → Loses limit Is Refuses path status line calls → status ≢ Usage
-    loses-used path status line calls lost is =
-        let none : Loses limit Is Refuses path Usage line calls = subst (λ s. Loses limit Is Refuses path s line calls) is lost in
-        false≢true (input.kind none.0 Usage line none.2)
+    -- the status says that an input couldn't be had
+    pub loses-lost : (path : List ℕ) (status : Status) (line : List ℕ) (calls : List Event) → Loses limit Is Refuses path status line calls → IsTrue (is_lost status)
+    loses-lost path ReadFault line calls lost = refl
+    loses-lost path TooLong line calls lost = refl
+    loses-lost path OutOfMemory line calls lost = refl
+    loses-lost path status line calls lost = input.kind lost.0 status line lost.2
 
     -- the line of a fault, or of want of memory
     pub loses-line : (path : List ℕ) (status : Status) (line : List ℕ) (calls : List Event) → Loses limit Is Refuses path status line calls → IsFalse (is_of_inputs status) → line ≡ fault_line status

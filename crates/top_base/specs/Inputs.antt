@@ -15,6 +15,13 @@ is_refusal (CodeRefused why) = true
 is_refusal (CheckFailed demand row column found) = true
 is_refusal status = false
 
+-- whether a status says that an input couldn't be had
+abbrev pub is_lost : Status → Bool
+is_lost ReadFault = true
+is_lost TooLong = true
+is_lost OutOfMemory = true
+is_lost status = is_refusal status
+
 -- there was no memory
 pub record IsNoMemory (outcome : Outcome) : Type 0 where
   pub status : outcome.status ≡ OutOfMemory

@@ -1,3 +1,5 @@
+pub mod Acting
+pub mod ActingLaws
 pub mod Accepting
 pub mod AcceptingLaws
 pub mod Causes
@@ -10,8 +12,10 @@ pub mod Inputs
 pub mod Inspecting
 pub mod InspectingLaws
 pub mod LeavingLaws
-pub mod Lines
 pub mod LineText
+pub mod Lines
+pub mod Making
+pub mod MakingLaws
 pub mod Networks
 pub mod NetworkLaws
 pub mod Outcome

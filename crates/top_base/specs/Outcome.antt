@@ -1,15 +1,13 @@
 -- How a command ends, whatever it does. It runs to an outcome, and says the outcome's line.
-use Rattle.std.specs.Prelude.{◌≡◌, ◌⊎◌, ℕ, Bool, true, false, IsTrue, IsFalse, List, [], ◌++◌, take, Some}
-use Rattle.lif_outside.specs.Calls.{Deeds, Outside}
+use Rattle.std.specs.Prelude.{◌≡◌, ◌⊎◌, ℕ, Bool, true, false, List, [], ◌++◌, take}
+use Rattle.lif_outside.specs.Calls.{Calls, Deeds, MakesNone, Outside}
 use Rattle.lif_outside.specs.Counts.{Rose}
-use Rattle.lif_outside.specs.Events.{Event}
-use Rattle.lif_outside.specs.Files.{Files}
 use Rattle.lif_outside.specs.Puts.{Put, SaysAll, SaysPart}
-use Rattle.lif_outside.specs.Told.{Told, Becomes}
+use Rattle.lif_outside.specs.Told.{Becomes}
 use Rattle.top_base.specs.Lines.{link_fault_line, out_of_memory_line, read_fault_line, write_fault_line}
 use Rattle.top_base.specs.declared.outcome.Outcome.{Outcome}
 use Rattle.top_base.specs.declared.status.Status.{Status}
-use Rattle.top_base.specs.declared.status.Status.TheVariants.{Done, NetRefused, ReadFault, WriteFault, OutOfMemory, LinkFault}
+use Rattle.top_base.specs.declared.status.Status.TheVariants.{Done, LinkFault, NetRefused, OutOfMemory, ReadFault, WriteFault}
 use Rattle.top_base.specs.declared.status.NetWhy.TheVariants.{Cycle}
 
 -- The status where the line couldn't be said to its end: a command that is done has a write fault then, and a refusal
@@ -25,14 +23,14 @@ SaysOutcome outcome status puts =
     ⊎ ((status ≡ status_unsaid outcome.status) × SaysPart outcome.line puts)
 
 -- The calls are those of some outcome, and its line was put.
-pub record Concludes (Runs : Outcome → List Event → Type 0) (status : Status) (deeds : Deeds) : Type 0 where
+pub record Concludes (Runs : Outcome → Calls → Type 0) (status : Status) (deeds : Deeds) : Type 0 where
   pub outcome : Outcome
   pub runs : Runs outcome deeds.calls
   pub says : SaysOutcome outcome status deeds.puts
 
 -- no call is made, and this is the outcome
-abbrev pub EndsAtOnce : Outcome → Outcome → List Event → Type 0
-EndsAtOnce expected outcome calls = (outcome ≡ expected) × (calls ≡ [])
+abbrev pub EndsAtOnce : Outcome → Outcome → Calls → Type 0
+EndsAtOnce expected outcome calls = (outcome ≡ expected) × MakesNone calls
 
 -- these bytes were added to what is said
 abbrev pub Adds : List ℕ → Outside → Outside → Type 0
@@ -49,7 +47,14 @@ AddsOutcome outcome status before after =
     ((status ≡ outcome.status) × Adds outcome.line before after)
     ⊎ ((status ≡ status_unsaid outcome.status) × AddsPart outcome.line before after)
 
--- whether a status comes of what the inputs are alone, and of no fault or want of memory
+-- whether a status says that a call failed
+abbrev pub is_fault : Status → Bool
+is_fault ReadFault = true
+is_fault WriteFault = true
+is_fault LinkFault = true
+is_fault status = false
+
+-- whether a status comes of what the inputs are alone: it is that of no fault, and not of want of memory
 abbrev pub is_of_inputs : Status → Bool
 is_of_inputs ReadFault = false
 is_of_inputs WriteFault = false
@@ -64,15 +69,6 @@ fault_line WriteFault = write_fault_line
 fault_line LinkFault = link_fault_line
 fault_line status = out_of_memory_line
 
--- What some outcome leaves: the files that it changes and the counts that it raises, that it was due, where the inputs
--- decide it, and what is said. Where they don't, the line is that of the status.
-pub record Leaves (Changes : Outcome → Outside → Outside → Type 0) (Due : Files → Outcome → Type 0) (status : Status) (before after : Outside) : Type 0 where
-  pub outcome : Outcome
-  pub changes : Changes outcome before after
-  pub due : IsTrue (is_of_inputs outcome.status) → Told before.files (λ files. Due files outcome)
-  pub line : IsFalse (is_of_inputs outcome.status) → outcome.line ≡ fault_line outcome.status
-  pub says : AddsOutcome outcome status before after
-
 -- the count of what is said didn't rise
 abbrev pub SaysWell : Outside → Outside → Type 0
 SaysWell before after = ¬ Rose before.say_faults after.say_faults
@@ -85,10 +81,3 @@ any_cycle status = status
 -- two statuses are one, whichever cycle of a network they show
 abbrev pub AreAlike : Status → Status → Type 0
 AreAlike one other = any_cycle one ≡ any_cycle other
-
--- Where an outcome is due and there is no fault, its status comes, or there was no memory.
-abbrev pub Answers : (Files → Outcome → Type 0) → (Files → Outside → Outside → Type 0) → Status → Outside → Outside → Type 0
-Answers Due NoFault status before after =
-    (files : Files) (outcome : Outcome) → before.files ≡ Some files → Due files outcome → NoFault files before after
-    → (outcome.status ≡ Done → SaysWell before after)
-    → AreAlike status outcome.status ⊎ (status ≡ OutOfMemory)

@@ -4,9 +4,8 @@ use Rattle.std.specs.Prelude.{◌⊎◌, Option, IsTrue, IsFalse}
 use Rattle.std.proofs.lemmas.Bool.{false≢true}
 use Rattle.lif_outside.specs.declared.sink.Sink.{Ghosts as SinkGhosts}
 use Rattle.lif_outside.specs.declared.store.Store.{Ghosts as StoreGhosts}
-use Rattle.lif_outside.specs.Calls.{Deeds, Does, Outside, outside_at}
+use Rattle.lif_outside.specs.Calls.{Calls, Deeds, Does, Objects, Outside, outside_after, outside_before}
 use Rattle.lif_outside.specs.DeedLaws.{Accounted}
-use Rattle.lif_outside.specs.Events.{Event}
 use Rattle.lif_outside.specs.FaultLaws.{HaveFailed}
 use Rattle.lif_outside.specs.Files.{Files}
 use Rattle.lif_outside.specs.Puts.{SaysAll, SaysPart}
@@ -14,8 +13,9 @@ use Rattle.lif_outside.specs.PutLaws.{says_all-grow, says_part-grow, says_part-f
 use Rattle.lif_outside.specs.Told.{Told}
 use Rattle.lif_outside.specs.ToldLaws.{becomes_weaker}
 use Rattle.top_base.specs.Causes.{HasCauses}
-use Rattle.top_base.specs.Outcome.{AreAlike, any_cycle, status_unsaid, SaysOutcome, Concludes, AddsOutcome, fault_line, is_of_inputs, Leaves, SaysWell, Answers}
-use Rattle.top_base.specs.Performs.{Performs}
+use Rattle.top_base.specs.LeavingLaws.{keep_files, none_keep}
+use Rattle.top_base.specs.Outcome.{AddsOutcome, AreAlike, Concludes, SaysOutcome, SaysWell, any_cycle, fault_line, is_fault, is_of_inputs, status_unsaid}
+use Rattle.top_base.specs.Performs.{Answers, Behaviour, Decision, IsDue, IsDueAsTold, Leaves, Performs, at_once, by_files, by_words}
 use Rattle.top_base.specs.declared.outcome.Outcome.{Outcome}
 use Rattle.top_base.specs.declared.status.Status.{Status}
 use Rattle.top_base.specs.declared.status.Status.TheVariants.{Done, NetRefused, ReadFault, WriteFault, OutOfMemory, LinkFault}
@@ -39,6 +39,20 @@ is_write_fault-true : (status : Status) → is_write_fault status ≡ true → s
 is_write_fault-true WriteFault is = refl
 is_write_fault-true status is = absurd (false≢true is)
 
+-- a status of the inputs is that of no fault, and that is neither
+pub inputs_faultless : (status : Status) → IsTrue (is_of_inputs status) → IsFalse (is_fault status)
+inputs_faultless ReadFault inputs = absurd (false≢true inputs)
+inputs_faultless WriteFault inputs = absurd (false≢true inputs)
+inputs_faultless LinkFault inputs = absurd (false≢true inputs)
+inputs_faultless OutOfMemory inputs = refl
+inputs_faultless status inputs = refl
+
+pub no_causes : (status : Status) → IsFalse (is_fault status) → (is_read_fault status ≡ false) × (is_write_fault status ≡ false)
+no_causes ReadFault no_fault = absurd (false≢true (sym no_fault))
+no_causes WriteFault no_fault = absurd (false≢true (sym no_fault))
+no_causes LinkFault no_fault = absurd (false≢true (sym no_fault))
+no_causes status no_fault = (refl, refl)
+
 -- a status whose line couldn't be said
 unsaid_read : (status : Status) → is_read_fault (status_unsaid status) ≡ is_read_fault status
 unsaid_read Done = refl
@@ -53,7 +67,7 @@ unsaid_done Done e = cc
 unsaid_done status e = cc
 
 -- which calls the statuses of faults come from, where the line was said
-causes_said : (deeds : Deeds) (line : List ℕ) (status : Status) → HaveFailed (is_read_fault status) (is_write_fault status) deeds.calls → SaysAll line deeds.puts → HasCauses deeds status
+causes_said : (deeds : Deeds) (line : List ℕ) (status : Status) → HaveFailed (is_read_fault status) (is_write_fault status) deeds.calls.on_store → SaysAll line deeds.puts → HasCauses deeds status
 causes_said deeds line status failed says = record {
   read_fault = ((λ e. failed.failed_read ∙ ap is_read_fault e), (λ is. is_read_fault-true status (sym failed.failed_read ∙ is)));
   failed_write = λ is. is_write_fault-true status (sym failed.failed_write ∙ is);
@@ -62,7 +76,7 @@ causes_said deeds line status failed says = record {
 }
 
 -- and where it wasn't
-causes_unsaid : (deeds : Deeds) (line : List ℕ) (status : Status) → HaveFailed (is_read_fault status) (is_write_fault status) deeds.calls → SaysPart line deeds.puts → HasCauses deeds (status_unsaid status)
+causes_unsaid : (deeds : Deeds) (line : List ℕ) (status : Status) → HaveFailed (is_read_fault status) (is_write_fault status) deeds.calls.on_store → SaysPart line deeds.puts → HasCauses deeds (status_unsaid status)
 causes_unsaid deeds line status failed says =
     let same = failed.failed_read ∙ sym (unsaid_read status) in
     record {
@@ -73,7 +87,7 @@ causes_unsaid deeds line status failed says =
     }
 
 -- and in either case
-causes_of : (deeds : Deeds) (outcome : Outcome) (status : Status) → HaveFailed (is_read_fault outcome.status) (is_write_fault outcome.status) deeds.calls → SaysOutcome outcome status deeds.puts → HasCauses deeds status
+causes_of : (deeds : Deeds) (outcome : Outcome) (status : Status) → HaveFailed (is_read_fault outcome.status) (is_write_fault outcome.status) deeds.calls.on_store → SaysOutcome outcome status deeds.puts → HasCauses deeds status
 causes_of deeds outcome status failed says = ⊎_elim
     (λ all. subst (HasCauses deeds) (sym all.0) (causes_said deeds outcome.line outcome.status failed all.1))
     (λ part. subst (HasCauses deeds) (sym part.0) (causes_unsaid deeds outcome.line outcome.status failed part.1))
@@ -107,12 +121,12 @@ done_alike (NetRefused (Cycle links)) e = cc
 done_alike status e = e
 
 -- a status of no fault and no want of memory is that of the inputs
-of_inputs : (status : Status) → status ≢ ReadFault → status ≢ WriteFault → status ≢ LinkFault → (status ≡ OutOfMemory) ⊎ IsTrue (is_of_inputs status)
-of_inputs ReadFault no_read no_write no_link = absurd (no_read refl)
-of_inputs WriteFault no_read no_write no_link = absurd (no_write refl)
-of_inputs LinkFault no_read no_write no_link = absurd (no_link refl)
-of_inputs OutOfMemory no_read no_write no_link = inl refl
-of_inputs status no_read no_write no_link = inr refl
+of_inputs : (status : Status) → IsFalse (is_fault status) → (status ≡ OutOfMemory) ⊎ IsTrue (is_of_inputs status)
+of_inputs ReadFault no_fault = absurd (false≢true (sym no_fault))
+of_inputs WriteFault no_fault = absurd (false≢true (sym no_fault))
+of_inputs LinkFault no_fault = absurd (false≢true (sym no_fault))
+of_inputs OutOfMemory no_fault = inl refl
+of_inputs status no_fault = inr refl
 
 -- for want of memory a command isn't done
 no_memory_undone : (status : Status) → status ≡ OutOfMemory → status ≢ Done
@@ -122,27 +136,36 @@ no_memory_undone status e done = cc
 pub known : (told : Option Files) (files : Files) (P : Files → Type 0) → told ≡ Some files → Told told P → P files
 known told files P e holds = subst (λ o. Told o P) e holds
 
-module _ (Runs : Outcome → List Event → Type 0) (Changes : Outcome → Outside → Outside → Type 0) (Due : Files → Outcome → Type 0) (NoFault : Files → Outside → Outside → Type 0) where
-  -- What has to be known of a command: what its outcomes change, which is due, the line of
-  -- each, where the inputs don't decide it, which calls of each have failed, that one
-  -- status is due at most, and that no outcome of a fault comes where there is none.
-  pub record IsKnown : Type 0 where
-    pub changes : (outcome : Outcome) (deeds : Deeds) (before after : Outside) → Accounted deeds before after → Runs outcome deeds.calls → Changes outcome before after
-    pub due : (outcome : Outcome) (deeds : Deeds) (before after : Outside) → Accounted deeds before after → Runs outcome deeds.calls → IsTrue (is_of_inputs outcome.status)
-        → Told before.files (λ files. Due files outcome)
-    pub lines : (outcome : Outcome) (calls : List Event) → Runs outcome calls → IsFalse (is_of_inputs outcome.status) → outcome.line ≡ fault_line outcome.status
-    pub causes : (outcome : Outcome) (calls : List Event) → Runs outcome calls → HaveFailed (is_read_fault outcome.status) (is_write_fault outcome.status) calls
-    pub alike : (files : Files) (one other : Outcome) → Due files one → Due files other → AreAlike one.status other.status
-    pub faultless : (files : Files) (outcome : Outcome) (calls : List Event) (before after : Outside) → before.files ≡ Some files → Runs outcome calls → Changes outcome before after → NoFault files before after
-        → (outcome.status ≢ ReadFault) × (outcome.status ≢ WriteFault) × (outcome.status ≢ LinkFault)
+-- one status is due at most
+abbrev pub AreAlikeDue : Decision → Type 0
+AreAlikeDue (by_words Due) = (one other : Outcome) → Due one → Due other → AreAlike one.status other.status
+AreAlikeDue (by_files Due) = (files : Files) (one other : Outcome) → Due files one → Due files other → AreAlike one.status other.status
 
-  module _ (of_command : IsKnown) (status : Status) (deeds : Deeds) (before after : Outside) (accounted : Accounted deeds before after) (is : Concludes Runs status deeds) where
+due_alike : (due : Decision) (told : Option Files) (one other : Outcome) → AreAlikeDue due → IsDueAsTold due told one → IsDue due told other → AreAlike one.status other.status
+due_alike (by_words Due) told one other alike was is = alike one other was is
+due_alike (by_files Due) told one other alike was is = alike is.0 one other (known told is.0 (λ files. Due files one) is.1 was) is.2
+
+-- What has to be known of a command: what its outcomes change, which is due, the line of each, where the inputs don't decide
+-- it, which calls of each have failed, that one status is due at most, and that no outcome of a fault comes where there is
+-- none.
+pub record IsKnown (command : Behaviour) : Type 0 where
+  pub changes : (outcome : Outcome) (deeds : Deeds) (before after : Outside) → Accounted deeds before after → command.runs outcome deeds.calls → command.changes outcome before after
+  pub due : (outcome : Outcome) (deeds : Deeds) (before after : Outside) → Accounted deeds before after → command.runs outcome deeds.calls → IsTrue (is_of_inputs outcome.status)
+      → IsDueAsTold command.due before.files outcome
+  pub lines : (outcome : Outcome) (calls : Calls) → command.runs outcome calls → IsFalse (is_of_inputs outcome.status) → outcome.line ≡ fault_line outcome.status
+  pub causes : (outcome : Outcome) (calls : Calls) → command.runs outcome calls → HaveFailed (is_read_fault outcome.status) (is_write_fault outcome.status) calls.on_store
+  pub alike : AreAlikeDue command.due
+  pub faultless : (expected outcome : Outcome) (calls : Calls) (before after : Outside) → IsDue command.due before.files expected → command.runs outcome calls → command.changes outcome before after
+      → command.no_fault before after → IsFalse (is_fault outcome.status)
+
+module _ (command : Behaviour) (of_command : IsKnown command) where
+  module _ (status : Status) (deeds : Deeds) (before after : Outside) (accounted : Accounted deeds before after) (is : Concludes command.runs status deeds) where
     -- what is said
     says : AddsOutcome is.outcome status before after
     says = adds deeds before after is.outcome status accounted is.says
 
     -- what is left
-    leaves : Leaves Changes Due status before after
+    leaves : Leaves command status before after
     leaves = record {
       outcome = is.outcome;
       changes = of_command.changes is.outcome deeds before after accounted is.runs;
@@ -157,33 +180,46 @@ module _ (Runs : Outcome → List Event → Type 0) (Changes : Outcome → Outsi
         ap any_cycle (said_status is.outcome status before after (λ done. well (done_alike expected.status (sym alike ∙ ap any_cycle done))) says) ∙ alike
 
     -- which status comes
-    answers : Answers Due NoFault status before after
+    answers : Answers command status before after
     unfolding leaves
-    answers files expected told due no_fault well =
-        let faultless = of_command.faultless files is.outcome deeds.calls before after told is.runs leaves.changes no_fault in
+    answers expected due no_fault well =
+        let faultless = of_command.faultless expected is.outcome deeds.calls before after due is.runs leaves.changes no_fault in
         ⊎_elim
         (λ no_memory. inr (said_status is.outcome status before after (λ done. absurd (no_memory_undone is.outcome.status no_memory done)) says ∙ no_memory))
-        (λ inputs. inl (due_comes expected (of_command.alike files is.outcome expected (known before.files files (λ files. Due files is.outcome) told (leaves.due inputs)) due) well))
-        (of_inputs is.outcome.status faultless.0 faultless.1 faultless.2)
+        (λ inputs. inl (due_comes expected (due_alike command.due before.files is.outcome expected of_command.alike (leaves.due inputs) due) well))
+        (of_inputs is.outcome.status faultless)
 
     -- which calls the statuses of faults come from
     caused : HasCauses deeds status
     caused = causes_of deeds is.outcome status (of_command.causes is.outcome deeds.calls is.runs) is.says
 
   -- What is promised of a command, by its deeds and what they account for.
-  pub performs : IsKnown → {S C : Type 0} (g : StoreGhosts S) (h : SinkGhosts C) (store_old store_new : S) (say_old say_new : C) (status : Status)
-      → (does : Does g h store_old store_new say_old say_new (Concludes Runs status)) → Accounted does.deeds (outside_at g h store_old say_old) (outside_at g h store_new say_new)
-      → Performs Runs Changes Due NoFault g h store_old store_new say_old say_new status
-  performs of_command g h store_old store_new say_old say_new status does accounted =
-      let before = outside_at g h store_old say_old in
-      let after = outside_at g h store_new say_new in
+  pub performs : {S C : Type 0} {g : StoreGhosts S} {h : SinkGhosts C} (o : Objects g h) (status : Status)
+      → (does : Does o (Concludes command.runs status)) → Accounted does.deeds (outside_before o) (outside_after o) → Performs command o status
+  performs o status does accounted =
+      let before = outside_before o in
+      let after = outside_after o in
       record {
         of_calls = record {
           deeds = does.deeds;
           on_store = does.on_store;
           on_say = does.on_say;
-          holds = (does.holds, caused of_command status does.deeds before after accounted does.holds);
+          holds = (does.holds, caused status does.deeds before after accounted does.holds);
         };
-        of_content = leaves of_command status does.deeds before after accounted does.holds;
-        of_inputs = answers of_command status does.deeds before after accounted does.holds;
+        of_content = leaves status does.deeds before after accounted does.holds;
+        of_inputs = answers status does.deeds before after accounted does.holds;
       }
+
+-- what ends at once with an outcome of no fault, and with a line that is its own where the inputs don't decide it
+pub at_once_known : (expected : Outcome) → IsFalse (is_fault expected.status) → (IsFalse (is_of_inputs expected.status) → expected.line ≡ fault_line expected.status) → IsKnown (at_once expected)
+at_once_known expected no_fault line = record {
+  changes = λ outcome deeds before after accounted runs. keep_files before.files after.files deeds.calls.on_store (none_keep deeds.calls.on_store runs.1) accounted.files;
+  due = λ outcome deeds before after accounted runs inputs. runs.0;
+  lines = λ outcome calls runs not. subst (λ (o : Outcome). o.line ≡ fault_line o.status) (sym runs.0) (line (subst (λ (o : Outcome). IsFalse (is_of_inputs o.status)) runs.0 not));
+  causes = λ outcome calls runs.
+      let plain = no_causes expected.status no_fault in
+      subst (λ (o : Outcome). HaveFailed (is_read_fault o.status) (is_write_fault o.status) calls.on_store) (sym runs.0)
+      (subst (HaveFailed (is_read_fault expected.status) (is_write_fault expected.status)) (sym runs.1) (record { failed_read = sym plain.0; failed_write = sym plain.1 }));
+  alike = λ one other is is'. ap (λ (o : Outcome). any_cycle o.status) (is ∙ sym is');
+  faultless = λ due outcome calls before after is runs change well. subst (λ (o : Outcome). IsFalse (is_fault o.status)) (sym runs.0) no_fault;
+}

@@ -11,9 +11,9 @@ use Rattle.top_base.specs.Words.{Compile}
 use Rattle.top_base.specs.declared.outcome.Outcome.{Outcome}
 use Rattle.top_base.specs.declared.status.Status.{Status}
 use Rattle.top_base.specs.declared.status.Status.TheVariants.{Done, OutOfMemory, WriteFault}
+use Rattle.top_tools.specs.Compile.Command.{Compiles}
 use Rattle.top_tools.specs.Compile.Made.{RefusesMaking}
 use Rattle.top_tools.specs.Compile.Ready.{RefusesOrLosesIt}
-use Rattle.top_tools.specs.Compile.Runs.{RunsNet}
 
 -- a network in a new order has as many demands
 pub same_count : (order : List ℕ) (choice : FieldChoice) (old new : Net) → IsRenumbered order choice old new → demand_count new ≡ demand_count old
@@ -23,12 +23,12 @@ same_count order choice old new is =
 
 module _ (given : Compile) (net : Net) where
   -- a refusal has no calls
-  refused_runs : (status : Status) (line : List ℕ) → RefusesMaking net status line → RunsNet given net status line []
+  refused_runs : (status : Status) (line : List ℕ) → RefusesMaking net status line → Compiles given net status line []
   refused_runs Done line refused = absurd refused
   refused_runs WriteFault line refused = absurd refused
   refused_runs OutOfMemory line refused = absurd refused
   refused_runs status line refused = (refused, refl)
 
-  pub lost_runs : (outcome : Outcome) → RefusesOrLosesIt net outcome → RunsNet given net outcome.status outcome.line []
+  pub lost_runs : (outcome : Outcome) → RefusesOrLosesIt net outcome → Compiles given net outcome.status outcome.line []
   lost_runs outcome (inl refused) = refused_runs outcome.status outcome.line refused
-  lost_runs outcome (inr lost) = subst (λ status. RunsNet given net status outcome.line []) (sym lost.status) (refl, lost.line)
+  lost_runs outcome (inr lost) = subst (λ status. Compiles given net status outcome.line []) (sym lost.status) (refl, lost.line)

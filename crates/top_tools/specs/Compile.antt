@@ -1,8 +1,5 @@
 -- The command `compile`.
-pub mod Runs
+pub mod Command
 pub mod Made
-pub mod Changes
-pub mod Due
-pub mod Promise
 pub mod Given
 pub mod Ready

@@ -1,8 +1,5 @@
 -- The command `cuts`.
 use Rattle.std.specs.Prelude.{◌≡◌, ◌⊎◌, ℕ, List, IsNone, IsSome, Option}
-use Rattle.lif_outside.specs.declared.sink.Sink.{Ghosts as SinkGhosts}
-use Rattle.lif_outside.specs.declared.store.Store.{Ghosts as StoreGhosts}
-use Rattle.lif_outside.specs.Events.{Event}
 use Rattle.net_model.specs.Demands.{demand_count}
 use Rattle.net_model.specs.declared.net.FieldChoice.{FieldChoice}
 use Rattle.net_model.specs.declared.net.Net.{Net}
@@ -10,12 +7,12 @@ use Rattle.failure_patterns.specs.UsedField.{used_field}
 use Rattle.cut_witness.specs.Certificate.{AreCertificates, IsLeastValue}
 use Rattle.cut_witness.specs.declared.cert.Cert.{Cert}
 use Rattle.report_text.specs.Report.{report_of}
-use Rattle.top_base.specs.Inspecting.{Inspects, Runs}
+use Rattle.top_base.specs.Inspecting.{inspects}
 use Rattle.top_base.specs.Lines.{too_many_demands_line}
 use Rattle.net_reader.specs.Text.{net_limit}
 use Rattle.top_base.specs.Networks.{IsNetOf, RefusesNet}
+use Rattle.top_base.specs.Performs.{Behaviour}
 use Rattle.top_base.specs.declared.outcome.Outcome.{Outcome}
-use Rattle.top_base.specs.declared.status.Status.{Status}
 use Rattle.top_base.specs.declared.status.Status.TheVariants.{Done, TooManyDemands}
 
 -- the field that serves a network's demands, if one does
@@ -43,11 +40,6 @@ IsReported net outcome = IsSome (field_of net) × (outcome.status ≡ Done) × I
 abbrev pub IsWitnessed : Net → Outcome → Type 0
 IsWitnessed net outcome = IsCrowded net outcome ⊎ IsReported net outcome
 
--- the calls: NET is read
-abbrev pub RunsCuts : List ℕ → Outcome → List Event → Type 0
-RunsCuts path outcome calls = Runs net_limit IsNetOf RefusesNet IsWitnessed path outcome calls
-
--- what the program promises of the command
-abbrev pub Cuts : {S C : Type 0} → StoreGhosts S → SinkGhosts C → List ℕ → S → S → C → C → Status → Type 0
-Cuts g h path store_old store_new say_old say_new status =
-    Inspects net_limit IsNetOf RefusesNet IsWitnessed g h path store_old store_new say_old say_new status
+-- what the command does: NET is read
+abbrev pub cuts_command : List ℕ → Behaviour
+cuts_command path = inspects net_limit IsNetOf RefusesNet IsWitnessed path

@@ -1,6 +1,5 @@
 pub mod Check
 pub mod Compile
-pub mod CompileLaws
 pub mod Cuts
 pub mod Order
 pub mod RefusalLaws

@@ -10,8 +10,12 @@ use Rattle.net_model.specs.Demands.{demand_count}
 use Rattle.net_model.specs.declared.net.Net.{Net}
 use Rattle.top_base.specs.declared.status.Status.{Status}
 use Rattle.top_base.specs.declared.status.Status.TheVariants.{Done, RateOver, TooManyDemands, ZeroRate}
-use Rattle.top_tools.specs.Compile.Due.{DueOf}
 use Rattle.top_tools.specs.Compile.Made.{IsGood, IsServedBy, RefusesMaking}
+
+-- what is due of a network
+abbrev Due : Net → Status → List ℕ → Type 0
+Due net Done line = IsGood net line
+Due net status line = RefusesMaking net status line
 
 module _ (net : Net) where
   -- the number of demands that is said is theirs
@@ -35,7 +39,7 @@ module _ (net : Net) where
   good_over line demand least good over = absurd (omega (arith, good.few, over.over, IsRate-unique net good.rate least good.is_rate over.rate))
 
   -- one status is due
-  pub same_due : (status : Status) (line : List ℕ) (status' : Status) (line' : List ℕ) → DueOf net status line → DueOf net status' line' → status ≡ status'
+  pub same_due : (status : Status) (line : List ℕ) (status' : Status) (line' : List ℕ) → Due net status line → Due net status' line' → status ≡ status'
   same_due Done line Done line' due due' = refl
   same_due Done line (TooManyDemands count) line' due due' = absurd (crowded_served count line' due.field due' due.served)
   same_due Done line (ZeroRate demand side) line' due due' = absurd (good_zero line demand side due due'.2)

@@ -1,27 +1,36 @@
 -- What has to be known of the commands.
-use Rattle.std.specs.Prelude.{◌≡◌, ◌≢◌, ℕ, List}
-use Rattle.std.proofs.Common.{sym, ap, ◌∙◌, ⊎_elim}
+use Rattle.std.specs.Prelude.{◌≡◌, ◌≢◌, ℕ, List, IsTrue}
+use Rattle.std.proofs.Common.{refl, sym, ap, subst, ◌∙◌, ⊎_elim}
 use Rattle.std.proofs.lemmas.Bool.{false≢true}
-use Rattle.lif_outside.specs.Events.{Event}
+use Rattle.cut_witness.specs.CertificateLaws.{IsRate-least_value}
+use Rattle.failure_patterns.specs.Rate.{IsRate}
+use Rattle.lif_outside.specs.Calls.{Calls}
+use Rattle.lif_outside.specs.Runs.{Written}
+use Rattle.lif_outside.specs.Writes.{paths_written}
 use Rattle.net_model.specs.Demands.{demand_count}
 use Rattle.net_model.specs.declared.net.Net.{Net}
+use Rattle.net_reader.specs.Text.{net_limit}
+use Rattle.topo_order.specs.Order.{order_of}
 use Rattle.top_base.specs.Accepting.{IsCodeOf, RefusesCode, code_limit}
 use Rattle.top_base.specs.AcceptingLaws.{code_input}
-use Rattle.top_base.specs.Inspecting.{ChangesNone, Due, ReadsWell}
 use Rattle.top_base.specs.InspectingLaws.{EndsWell, inspects_known, inspects_used}
 use Rattle.top_base.specs.Lines.{accepted_line, order_text}
+use Rattle.top_base.specs.MakingLaws.{MakesWell, makes_known, makes_used}
 use Rattle.top_base.specs.NetworkLaws.{net_input}
-use Rattle.net_reader.specs.Text.{net_limit}
 use Rattle.top_base.specs.Networks.{IsNetOf, RefusesNet}
 use Rattle.top_base.specs.Outcome.{any_cycle, is_of_inputs}
 use Rattle.top_base.specs.PerformingLaws.{IsKnown}
+use Rattle.top_base.specs.Words.{Compile}
 use Rattle.top_base.specs.declared.outcome.Outcome.{Outcome}
 use Rattle.top_base.specs.declared.status.Status.{Status}
-use Rattle.top_base.specs.declared.status.Status.TheVariants.{Done, TooManyDemands, Usage}
-use Rattle.top_tools.specs.Check.{IsChecked, RunsCheck}
-use Rattle.top_tools.specs.Cuts.{IsCrowded, IsWitnessed, RunsCuts}
-use Rattle.top_tools.specs.Order.{IsOrdered, RunsOrder}
-use Rattle.topo_order.specs.Order.{order_of}
+use Rattle.top_base.specs.declared.status.Status.TheVariants.{Done, RateOver, TooManyDemands, Usage, ZeroRate}
+use Rattle.top_tools.specs.Check.{IsChecked, check_command}
+use Rattle.top_tools.specs.Compile.Command.{compile_command}
+use Rattle.top_tools.specs.Compile.Given.{outputs_of}
+use Rattle.top_tools.specs.Compile.Made.{IsGood, IsMade, RefusesMaking}
+use Rattle.top_tools.specs.Cuts.{IsCrowded, IsWitnessed, cuts_command}
+use Rattle.top_tools.specs.Order.{IsOrdered, order_command}
+use Rattle.top_tools.specs.RefusalLaws.{same_due}
 
 -- a command that is done, with one line, where its input was had, ends well
 module _ {X : Type 0} (limit : ℕ) (Is : List ℕ → X → Type 0) (Refuses : List ℕ → Status → List ℕ → Type 0) (line : X → List ℕ) where
@@ -39,10 +48,10 @@ module _ {X : Type 0} (limit : ℕ) (Is : List ℕ → X → Type 0) (Refuses : 
 checks_well : EndsWell code_limit IsCodeOf RefusesCode IsChecked
 checks_well = ends_done code_limit IsCodeOf RefusesCode accepted_line
 
-pub check_known : (path : List ℕ) → IsKnown (RunsCheck path) (ChangesNone path) (Due code_limit IsCodeOf RefusesCode IsChecked path) (ReadsWell path)
+pub check_known : (path : List ℕ) → IsKnown (check_command path)
 check_known path = inspects_known code_limit IsCodeOf RefusesCode IsChecked code_input checks_well path
 
-pub check_used : (path : List ℕ) (outcome : Outcome) (calls : List Event) → RunsCheck path outcome calls → outcome.status ≢ Usage
+pub check_used : (path : List ℕ) (outcome : Outcome) (calls : Calls) → (check_command path).runs outcome calls → outcome.status ≢ Usage
 check_used path = inspects_used code_limit IsCodeOf RefusesCode IsChecked code_input checks_well path
 
 -- the command `cuts`
@@ -68,18 +77,55 @@ cuts_well = record {
       is;
 }
 
-pub cuts_known : (path : List ℕ) → IsKnown (RunsCuts path) (ChangesNone path) (Due net_limit IsNetOf RefusesNet IsWitnessed path) (ReadsWell path)
+pub cuts_known : (path : List ℕ) → IsKnown (cuts_command path)
 cuts_known path = inspects_known net_limit IsNetOf RefusesNet IsWitnessed net_input cuts_well path
 
-pub cuts_used : (path : List ℕ) (outcome : Outcome) (calls : List Event) → RunsCuts path outcome calls → outcome.status ≢ Usage
+pub cuts_used : (path : List ℕ) (outcome : Outcome) (calls : Calls) → (cuts_command path).runs outcome calls → outcome.status ≢ Usage
 cuts_used path = inspects_used net_limit IsNetOf RefusesNet IsWitnessed net_input cuts_well path
 
 -- the command `order`
 orders_well : EndsWell net_limit IsNetOf RefusesNet IsOrdered
 orders_well = ends_done net_limit IsNetOf RefusesNet (λ net. order_text net (order_of net.links))
 
-pub order_known : (path : List ℕ) → IsKnown (RunsOrder path) (ChangesNone path) (Due net_limit IsNetOf RefusesNet IsOrdered path) (ReadsWell path)
+pub order_known : (path : List ℕ) → IsKnown (order_command path)
 order_known path = inspects_known net_limit IsNetOf RefusesNet IsOrdered net_input orders_well path
 
-pub order_used : (path : List ℕ) (outcome : Outcome) (calls : List Event) → RunsOrder path outcome calls → outcome.status ≢ Usage
+pub order_used : (path : List ℕ) (outcome : Outcome) (calls : Calls) → (order_command path).runs outcome calls → outcome.status ≢ Usage
 order_used path = inspects_used net_limit IsNetOf RefusesNet IsOrdered net_input orders_well path
+
+-- the command `compile`
+module _ (given : Compile) where
+  -- a network of which a code was made is good
+  good : (net : Net) (files : List Written) (line : List ℕ) → IsMade given net files line → IsGood net line
+  good net files line made = record {
+    field = made.field;
+    served = made.served;
+    rate = made.code.rate;
+    is_rate = subst (IsRate net) (sym made.compiled.rate) (IsRate-least_value net made.certs made.compiled.least made.compiled.certified made.compiled.is_least);
+    some = made.code.code.draft.some_rate;
+    few = made.code.code.draft.low_rate;
+    line_is = made.line_is;
+  }
+
+  -- networks that aren't compiled are refused with a status of their own
+  of_inputs : (net : Net) (status : Status) (line : List ℕ) → RefusesMaking net status line → IsTrue (is_of_inputs status)
+  of_inputs net (TooManyDemands count) line refused = refl
+  of_inputs net (ZeroRate demand side) line refused = refl
+  of_inputs net (RateOver demand least) line refused = refl
+  of_inputs net status line refused = absurd refused
+
+  compiles_well : MakesWell net_limit IsNetOf RefusesNet (IsMade given) IsGood RefusesMaking given.net (outputs_of given)
+  compiles_well = record {
+    written = λ net files line made. ap paths_written made.files_are;
+    can = good;
+    of_inputs = of_inputs;
+    undone = λ net line refused. refused;
+    used = λ net line refused. refused;
+    alike = λ net status line status' line' one other. ap any_cycle (same_due net status line status' line' one other);
+  }
+
+  pub compile_known : IsKnown (compile_command given)
+  compile_known = makes_known net_limit IsNetOf RefusesNet (IsMade given) IsGood RefusesMaking given.net (outputs_of given) compiles_well net_input
+
+  pub compile_used : (outcome : Outcome) (calls : Calls) → (compile_command given).runs outcome calls → outcome.status ≢ Usage
+  compile_used = makes_used net_limit IsNetOf RefusesNet (IsMade given) IsGood RefusesMaking given.net (outputs_of given) compiles_well net_input

@@ -1,6 +1,6 @@
 //! The command `check`.
-ghost use Rattle.lif_outside.specs.Calls.{MakesCalls};
-ghost use Rattle.top_tools.specs.Check.{RunsCheck};
+ghost use Rattle.top_base.specs.Performs.{RunsOnStore};
+ghost use Rattle.top_tools.specs.Check.{check_command};
 
 use lif_outside::{Gate, Store};
 use std::alloc::Global;
@@ -15,7 +15,7 @@ pub fn check<'a, S: Store, G: Gate + Sync, R: Threads + Sync>(
     store: &mut S,
     gate: &G,
 ) -> Outcome<'a>
-    ensures { MakesCalls S.Store store.old store.new (RunsCheck path.now result) }
+    ensures { RunsOnStore S.Store (check_command path.now) store.old store.new result }
 {
     match read_accepted(rt, alloc, store, path, gate) {
         Ok(checked) => Outcome {

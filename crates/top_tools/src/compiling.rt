@@ -2,14 +2,16 @@
 ghost use Rattle.std.specs.Prelude.{◌≡◌, ◌∷◌, [], OnErr, OnOk, ℕ};
 ghost use Rattle.std.specs.Option.{option_map};
 ghost use Rattle.lif_outside.specs.Calls.{MakesCalls};
-ghost use Rattle.lif_outside.specs.Runs.{Are, StopsWithin};
+ghost use Rattle.lif_outside.specs.Runs.{StopsWithin};
+ghost use Rattle.lif_outside.specs.Sequences.{Are};
 ghost use Rattle.lif_outside.specs.Writes.{writes_of};
 ghost use Rattle.net_model.specs.Walks.{IsAcyclic};
 ghost use Rattle.net_model.specs.declared.net.Net.{Net};
 ghost use Rattle.top_base.specs.Given.{compile_given_in};
+ghost use Rattle.top_base.specs.Performs.{RunsOnStore};
+ghost use Rattle.top_tools.specs.Compile.Command.{Compiles, compile_command};
 ghost use Rattle.top_tools.specs.Compile.Given.{shared_of};
 ghost use Rattle.top_tools.specs.Compile.Ready.{IsReady, files_of};
-ghost use Rattle.top_tools.specs.Compile.Runs.{Runs, RunsNet};
 
 use crate::making::{Made, make};
 use lif_outside::{Failed, Gate, Store};
@@ -56,7 +58,7 @@ fn write_files<S: Store>(
 
 // Writes what was made of a network.
 fn write<'a, S: Store>(words: &CompileWords<'a>, made: Made<'a>, store: &mut S) -> Outcome<'a>
-    ensures { (net : Net) → IsReady net made.entry → MakesCalls S.Store store.old store.new (RunsNet (compile_given_in words.now) net result.status result.line) }
+    ensures { (net : Net) → IsReady net made.entry → MakesCalls S.Store store.old store.new (Compiles (compile_given_in words.now) net result.status result.line) }
 {
     match write_files(store, words, &made.code, &made.report) {
         Ok(()) => Outcome {
@@ -77,7 +79,7 @@ fn compile_net<'a, S: Store, G: Gate + Sync, R: Threads + Sync>(
     gate: &G,
 ) -> Outcome<'a>
     requires { IsAcyclic net.now.links }
-    ensures { MakesCalls S.Store store.old store.new (RunsNet (compile_given_in words.now) net.now result.status result.line) }
+    ensures { MakesCalls S.Store store.old store.new (Compiles (compile_given_in words.now) net.now result.status result.line) }
 {
     match make(rt, alloc, net, gate) {
         Ok(made) => write(words, made, store),
@@ -94,7 +96,7 @@ pub fn compile<'a, S: Store, G: Gate + Sync, R: Threads + Sync>(
     store: &mut S,
     gate: &G,
 ) -> Outcome<'a>
-    ensures { MakesCalls S.Store store.old store.new (Runs (compile_given_in words.now) result) }
+    ensures { RunsOnStore S.Store (compile_command (compile_given_in words.now)) store.old store.new result }
 {
     if let Some(path) = shared_path(words) {
         return Outcome {

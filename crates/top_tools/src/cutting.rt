@@ -1,10 +1,10 @@
 //! The command `cuts`.
 ghost use Rattle.std.specs.Prelude.{◌⊎◌, ◌≤◌, IfOk, IsNone};
-ghost use Rattle.lif_outside.specs.Calls.{MakesCalls};
 ghost use Rattle.failure_patterns.specs.UsedField.{pair_demands};
 ghost use Rattle.net_model.specs.Demands.{demand_count};
 ghost use Rattle.top_base.specs.Inputs.{IsNoMemory};
-ghost use Rattle.top_tools.specs.Cuts.{IsCrowded, IsReport, IsWitnessed, RunsCuts, field_of};
+ghost use Rattle.top_base.specs.Performs.{RunsOnStore};
+ghost use Rattle.top_tools.specs.Cuts.{IsCrowded, IsReport, IsWitnessed, cuts_command, field_of};
 
 use crate::reporting::report_of;
 use cut_witness::{certify_all, rate};
@@ -73,7 +73,7 @@ pub fn cuts<'a, S: Store, G: Gate + Sync, R: Threads + Sync>(
     store: &mut S,
     gate: &G,
 ) -> Outcome<'a>
-    ensures { MakesCalls S.Store store.old store.new (RunsCuts path.now result) }
+    ensures { RunsOnStore S.Store (cuts_command path.now) store.old store.new result }
 {
     match read_ordered(alloc, store, path) {
         Ok(ordered) => witness(rt, alloc, &ordered.net, gate),

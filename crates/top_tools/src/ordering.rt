@@ -1,9 +1,9 @@
 //! The command `order`.
 ghost use Rattle.std.specs.Prelude.{◌≡◌, ◌⊎◌};
-ghost use Rattle.lif_outside.specs.Calls.{MakesCalls};
 ghost use Rattle.topo_order.specs.Order.{order_of};
 ghost use Rattle.top_base.specs.Inputs.{IsNoMemory};
-ghost use Rattle.top_tools.specs.Order.{IsOrdered, RunsOrder};
+ghost use Rattle.top_base.specs.Performs.{RunsOnStore};
+ghost use Rattle.top_tools.specs.Order.{IsOrdered, order_command};
 
 use lif_outside::Store;
 use std::alloc::Global;
@@ -26,7 +26,7 @@ fn say_order<'a>(alloc: Global, ordered: &Ordered) -> Outcome<'a>
 
 /// Reads the network at a path, and says its links in order.
 pub fn order<'a, S: Store>(alloc: Global, path: &str, store: &mut S) -> Outcome<'a>
-    ensures { MakesCalls S.Store store.old store.new (RunsOrder path.now result) }
+    ensures { RunsOnStore S.Store (order_command path.now) store.old store.new result }
 {
     match read_ordered(alloc, store, path) {
         Ok(ordered) => say_order(alloc, &ordered),

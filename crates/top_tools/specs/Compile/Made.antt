@@ -6,7 +6,7 @@ use Rattle.failure_patterns.specs.Rate.{IsRate}
 use Rattle.gf_tables.specs.declared.kind.FieldKind.{FieldKind}
 use Rattle.lif_compiler.specs.Compiled.{IsCompiled}
 use Rattle.lif_compiler.specs.Refused.{IsRateOver, IsZeroRate}
-use Rattle.lif_outside.specs.Writes.{Written}
+use Rattle.lif_outside.specs.Runs.{Written}
 use Rattle.net_model.specs.Demands.{demand_count}
 use Rattle.net_model.specs.declared.net.Net.{Net}
 use Rattle.node_program.specs.Code.{choice_of}
@@ -29,7 +29,7 @@ pub record IsMade (given : Compile) (net : Net) (files : List Written) (line : L
   pub code : Code
   pub certs : List Cert
   pub compiled : IsCompiled net field code certs
-  pub files_are : files ≡ (given.code, bytes_of code) ∷ (given.report, report_of net code.rate certs) ∷ []
+  pub files_are : files ≡ (given.code, bytes_of code) ∷ (given.report, report_of net compiled.least certs) ∷ []
   pub line_is : line ≡ compiled_line code.rate field (demand_count net)
 
 -- a network that a code is made of: a field serves its demands, and its rate is 1 to 32

@@ -4,8 +4,8 @@ use Rattle.generation_frame.specs.Blocks.{pieces_of}
 use Rattle.lif_outside.specs.CallLaws.{calls_then}
 use Rattle.lif_outside.specs.Calls.{MakesCalls}
 use Rattle.lif_outside.specs.Events.{created}
-use Rattle.lif_outside.specs.Runs.{Are, StopsWithin, appends_of, creates_of}
-use Rattle.lif_outside.specs.TurnLaws.{then_join}
+use Rattle.lif_outside.specs.Runs.{StopsWithin, appends_to, creates_of}
+use Rattle.lif_outside.specs.SequenceLaws.{then_join}
 use Rattle.lif_top.proofs.SendCalls.{delivered, no_source, same_deliveries, unwritten, write_fault}
 use Rattle.lif_top.proofs.Turning.{created_there}
 use Rattle.top_base.specs.Given.{given_in}
@@ -39,7 +39,7 @@ returns-in-Ok-carry_source g c =
     let counts = c.in-Ok-carry_source.counts in
     let source = c.in-Ok-read_whole.source.items in
     let are : AreCounts code source counts = subst₂ (λ code source. AreCounts code source counts) c.requires.at_work c.deref.ensures.value c.in-Ok-carry_source.ensures.counts in
-    let these : appends_of (paths_of c.args.ready.delivery) (pieces_of c.deref.result.now c.args.ready.delivery.carrier.code.rate) ≡ deliveries send code source =
+    let these : appends_to (paths_of c.args.ready.delivery) (pieces_of c.deref.result.now c.args.ready.delivery.carrier.code.rate) ≡ deliveries send code source =
     same_deliveries send code (paths_of c.args.ready.delivery) c.args.ready.delivery.carrier.code c.deref.result.now source c.requires.paths c.requires.at_work c.deref.ensures.value in
     subst (λ line. MakesCalls g.S.Store c.args.store.now c.carry_source.new.store (RunsCode send code Done line)) (sym c.sent.ensures)
     (calls_then g.met.S.Store.more_calls _ _ _ c.in-Ok.ensures.created
@@ -53,7 +53,7 @@ returns g c =
     let code = c.args.code.now.code in
     let source = c.in-Ok-read_whole.source.items in
     let outcome = c.write_fault-in-Err-carry_source in
-    let these : appends_of (paths_of c.args.ready.delivery) (pieces_of c.deref.result.now c.args.ready.delivery.carrier.code.rate) ≡ deliveries send code source =
+    let these : appends_to (paths_of c.args.ready.delivery) (pieces_of c.deref.result.now c.args.ready.delivery.carrier.code.rate) ≡ deliveries send code source =
     same_deliveries send code (paths_of c.args.ready.delivery) c.args.ready.delivery.carrier.code c.deref.result.now source c.requires.paths c.requires.at_work c.deref.ensures.value in
     calls_then g.met.S.Store.more_calls _ _ _ c.in-Ok.ensures.created
     (calls_then g.met.S.Store.more_calls _ _ (AfterSource send source (StopsWithin (deliveries send code source))) c.in-Ok-read_whole.ensures.whole c.in-Err-carry_source.ensures.failed

@@ -1,7 +1,7 @@
 use Rattle.std.proofs.Common.{Ok, Err, [], refl, sym}
 use Rattle.std.proofs.lemmas.List.{append-nil}
 use Rattle.lif_outside.specs.CallLaws.{calls_then, calls_weaker}
-use Rattle.lif_outside.specs.TurnLaws.{then_join}
+use Rattle.lif_outside.specs.SequenceLaws.{then_join}
 use Rattle.lif_top.proofs.sending.send.Goals as goal
 
 pub returns-in-Ok : goal.returns-in-Ok

@@ -3,11 +3,11 @@ use Rattle.lif_outside.specs.CallLaws.{calls_of}
 use Rattle.top_base.specs.Given.{compile_given_in}
 use Rattle.top_tools.proofs.MadeLaws.{lost_runs}
 use Rattle.top_tools.proofs.compiling.compile_net.Goals as goal
-use Rattle.top_tools.specs.Compile.Runs.{RunsNet}
+use Rattle.top_tools.specs.Compile.Command.{Compiles}
 
 pub returns-in-Err : goal.returns-in-Err
 returns-in-Err g c =
     let given = compile_given_in c.args.words.now in
     let refused = c.in-Err.refused in
-    calls_of (RunsNet given c.args.net.now refused.status refused.line) [] (g.met.S.Store.no_calls c.args.store.now)
+    calls_of (Compiles given c.args.net.now refused.status refused.line) [] (g.met.S.Store.no_calls c.args.store.now)
     (lost_runs given c.args.net.now refused c.in-Err.ensures.refused)

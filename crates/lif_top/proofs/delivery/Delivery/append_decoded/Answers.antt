@@ -5,7 +5,7 @@ use Rattle.std.proofs.lemmas.List.Elements.{Contains-get_or}
 use Rattle.failure_patterns.specs.DemandLaws.{few_sinks}
 use Rattle.generation_frame.specs.Blocks.{counted_bytes}
 use Rattle.lif_outside.specs.Calls.{MakesCalls}
-use Rattle.lif_outside.specs.Runs.{StopsWithin, appends_of}
+use Rattle.lif_outside.specs.Runs.{StopsWithin, appends_to}
 use Rattle.lif_top.proofs.Turning.{append_if_err, mapped_at, some_length}
 use Rattle.lif_top.specs.Send.Ready.{paths_of, some_piece}
 use Rattle.lif_top.proofs.delivery.Delivery.append_decoded.Goals as goal
@@ -35,5 +35,5 @@ returns-clause-failed g c =
     let decoded : c.deref.result.now ≡ self.carrier.block = c.deref.ensures.value ∙ take_at c.decode.new.into _ _ long ∙ c.decode.ensures in
     let piece : c.counted-received.result.now ≡ c.args.piece.now = c.counted-received.ensures ∙ ap counted_bytes decoded ∙ c.requires.piece in
     let some : nat_lt 0 (length c.counted-received.result.now) ≡ true = some_length (length c.counted-received.result.now) (sym c.is_empty.ensures ∙ c.if-is_empty.false) in
-    subst₂ (λ path piece. OnErr c.append.result (MakesCalls g.S.Store c.args.store.now c.append.new.self (StopsWithin (appends_of (path ∷ []) (some_piece piece))))) is piece
+    subst₂ (λ path piece. OnErr c.append.result (MakesCalls g.S.Store c.args.store.now c.append.new.self (StopsWithin (appends_to (path ∷ []) (some_piece piece))))) is piece
     (append_if_err g.S.Store.calls c.args.store.now c.append.new.self c.as_str.result.now c.counted-received.result.now c.append.result some c.append.ensures)

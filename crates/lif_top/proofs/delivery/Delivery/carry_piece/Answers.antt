@@ -3,7 +3,7 @@ use Rattle.std.proofs.lemmas.List.{length-map, take_all, take_at}
 use Rattle.generation_frame.specs.Blocks.{block_of, counted_bytes}
 use Rattle.generation_frame.specs.BlockLaws.{counted-block, length-block}
 use Rattle.lif_outside.specs.CallLaws.{calls_of, calls_then, calls_weaker}
-use Rattle.lif_outside.specs.Runs.{StopsWithin, appends_of}
+use Rattle.lif_outside.specs.Runs.{StopsWithin, appends_to}
 use Rattle.top_base.specs.Exits.{on_err}
 use Rattle.lif_top.proofs.Turning.{append_stops, appended_more, appended_none}
 use Rattle.lif_top.specs.Send.Ready.{paths_of, some_piece}
@@ -54,10 +54,10 @@ returns-in_err-append_decoded-clause-failed g c =
     let piece = c.args.piece.now in
     let inside : n < length paths = omega (arith, length-map c.args.self.now.outputs.items string_bytes) in
     let here = ap (λ outputs. slice_index_or (map string_bytes outputs.items) n []) c.loop-sink.invariant.outputs in
-    on_err c.from_residual.result (calls_then g.met.S.Store.more_calls _ _ (StopsWithin (appends_of paths (some_piece piece))) c.loop-sink.invariant.calls
+    on_err c.from_residual.result (calls_then g.met.S.Store.more_calls _ _ (StopsWithin (appends_to paths (some_piece piece))) c.loop-sink.invariant.calls
     c.in_err-append_decoded.ensures.failed
-    (λ first later one other. subst (λ first. StopsWithin (appends_of paths (some_piece piece)) (first ++ later)) (sym one)
-    (append_stops paths n inside piece later (subst (λ path. StopsWithin (appends_of (path ∷ []) (some_piece piece)) later) here other))))
+    (λ first later one other. subst (λ first. StopsWithin (appends_to paths (some_piece piece)) (first ++ later)) (sym one)
+    (append_stops paths n inside piece later (subst (λ path. StopsWithin (appends_to (path ∷ []) (some_piece piece)) later) here other))))
 
 pub loop-sink-preserved : goal.loop-sink-preserved
 loop-sink-preserved g c =
@@ -72,7 +72,7 @@ loop-sink-preserved g c =
       outputs = c.append_decoded.ensures.outputs ∙ c.loop-sink.invariant.outputs;
       calls = calls_then g.met.S.Store.more_calls _ _ _ c.loop-sink.invariant.calls c.in_ok-append_decoded.ensures.appended
           (λ first later one other. ap (λ calls. calls ++ later) one
-          ∙ ap (λ calls. appends_of (take n paths) (some_piece piece) ++ calls) (other ∙ ap (λ path. appends_of (path ∷ []) (some_piece piece)) here)
+          ∙ ap (λ calls. appends_to (take n paths) (some_piece piece) ++ calls) (other ∙ ap (λ path. appends_to (path ∷ []) (some_piece piece)) here)
           ∙ appended_more paths n inside piece);
     }
 
@@ -85,5 +85,5 @@ returns-clause-outputs g c = c.loop-sink.invariant.outputs
 pub returns-clause-appended : goal.returns-clause-appended
 returns-clause-appended g c =
     let paths = paths_of c.args.self.now in
-    calls_weaker _ _ c.loop-sink.invariant.calls (λ made is. is ∙ ap (λ all. appends_of all (some_piece c.args.piece.now))
+    calls_weaker _ _ c.loop-sink.invariant.calls (λ made is. is ∙ ap (λ all. appends_to all (some_piece c.args.piece.now))
     (take_all c.loop-sink.sink paths (omega (arith, length-map c.args.self.now.outputs.items string_bytes))))

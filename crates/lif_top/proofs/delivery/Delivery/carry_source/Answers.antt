@@ -2,7 +2,7 @@ use Rattle.std.proofs.Common.{◌≡◌, ◌≤◌, ◌+◌, ◌*◌, ◌/◌, �
 use Rattle.generation_frame.specs.Blocks.{block_count, capacity, pieces_before, pieces_of}
 use Rattle.generation_frame.specs.PieceLaws.{length-piece_of}
 use Rattle.lif_outside.specs.CallLaws.{calls_of, calls_then, calls_weaker}
-use Rattle.lif_outside.specs.Runs.{StopsWithin, appends_of}
+use Rattle.lif_outside.specs.Runs.{StopsWithin, appends_to}
 use Rattle.top_base.specs.Exits.{on_err}
 use Rattle.lif_top.proofs.Pieces.{piece_within}
 use Rattle.lif_top.proofs.Turning.{piece_more, piece_stops}
@@ -42,11 +42,11 @@ returns-in_err-carry_piece-clause-failed g c =
     let size : c.cap-capacity.result ≡ capacity rate = c.cap-capacity.ensures ∙ ap capacity self.rate_of in
     let is = piece_within source rate n c.cap-capacity.result c.min-end.result size c.min-end.ensures in
     let all : length source / c.cap-capacity.result + 1 ≡ block_count source rate = ap (λ size. length source / size + 1) size in
-    on_err c.from_residual.result (calls_then g.met.S.Store.more_calls _ _ (StopsWithin (appends_of (paths_of self) (pieces_of source rate))) c.loop-generation.invariant.calls
+    on_err c.from_residual.result (calls_then g.met.S.Store.more_calls _ _ (StopsWithin (appends_to (paths_of self) (pieces_of source rate))) c.loop-generation.invariant.calls
     c.in_err-carry_piece.ensures.failed
-    (λ first later one other. subst (λ first. StopsWithin (appends_of (paths_of self) (pieces_of source rate)) (first ++ later)) (sym one)
+    (λ first later one other. subst (λ first. StopsWithin (appends_to (paths_of self) (pieces_of source rate)) (first ++ later)) (sym one)
     (piece_stops (paths_of self) source rate n (block_count source rate) (omega (arith, all)) later
-    (subst₂ (λ outputs piece. StopsWithin (appends_of (map string_bytes outputs.items) (some_piece piece)) later) c.loop-generation.invariant.outputs is other))))
+    (subst₂ (λ outputs piece. StopsWithin (appends_to (map string_bytes outputs.items) (some_piece piece)) later) c.loop-generation.invariant.outputs is other))))
 
 pub loop-generation-preserved : goal.loop-generation-preserved
 loop-generation-preserved g c =
@@ -62,8 +62,8 @@ loop-generation-preserved g c =
       outputs = c.carry_piece.ensures.outputs ∙ c.loop-generation.invariant.outputs;
       calls = calls_then g.met.S.Store.more_calls _ _ _ c.loop-generation.invariant.calls c.in_ok-carry_piece.ensures.appended
           (λ first later one other. ap (λ calls. calls ++ later) one
-          ∙ ap (λ calls. appends_of (paths_of self) (pieces_before source rate n) ++ calls)
-          (other ∙ ap (λ outputs. appends_of (map string_bytes outputs.items) (some_piece piece)) c.loop-generation.invariant.outputs ∙ ap (λ piece. appends_of (paths_of self) (some_piece piece)) is)
+          ∙ ap (λ calls. appends_to (paths_of self) (pieces_before source rate n) ++ calls)
+          (other ∙ ap (λ outputs. appends_to (map string_bytes outputs.items) (some_piece piece)) c.loop-generation.invariant.outputs ∙ ap (λ piece. appends_to (paths_of self) (some_piece piece)) is)
           ∙ piece_more (paths_of self) source rate n);
     }
 
@@ -84,4 +84,4 @@ returns-clause-delivered g c =
     let size : c.cap-capacity.result ≡ capacity rate = c.cap-capacity.ensures ∙ ap capacity self.rate_of in
     let all : length source / c.cap-capacity.result + 1 ≡ block_count source rate = ap (λ size. length source / size + 1) size in
     let end : c.loop-generation.generation ≡ block_count source rate = omega (arith, all) in
-    calls_weaker _ _ c.loop-generation.invariant.calls (λ made is. is ∙ ap (λ n. appends_of (paths_of self) (pieces_before source rate n)) end)
+    calls_weaker _ _ c.loop-generation.invariant.calls (λ made is. is ∙ ap (λ n. appends_to (paths_of self) (pieces_before source rate n)) end)

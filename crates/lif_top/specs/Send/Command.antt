@@ -1,0 +1,17 @@
+-- What the command `send` does.
+use Rattle.top_base.specs.Accepting.{IsCodeOf, RefusesCode, code_limit}
+use Rattle.top_base.specs.Acting.{Due, Runs}
+use Rattle.top_base.specs.Performs.{Behaviour, by_files}
+use Rattle.top_base.specs.Words.{Send}
+use Rattle.lif_top.specs.Send.Changes.{Changes}
+use Rattle.lif_top.specs.Send.Due.{DueOf, NoFault}
+use Rattle.lif_top.specs.Send.Runs.{Sends}
+
+-- CODE is read and checked, and SRC is sent through it
+abbrev pub send_command : Send → Behaviour
+send_command send = record {
+  runs = Runs code_limit IsCodeOf RefusesCode (Sends send) send.code;
+  changes = Changes send;
+  due = by_files (Due code_limit IsCodeOf RefusesCode (DueOf send) send.code);
+  no_fault = NoFault send;
+}
