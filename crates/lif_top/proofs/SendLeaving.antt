@@ -1,44 +1,68 @@
 -- What `send` leaves, by the calls after an accepted code was read.
-use Rattle.std.specs.Prelude.{◌≡◌, ◌⊎◌, ◌||◌, ℕ, List, [], ◌∷◌, Option, Some, Ok, false, Contains}
-use Rattle.std.specs.List.{AllByRecursion}
+use Rattle.std.specs.Prelude.{◌≡◌, ◌⊎◌, ◌≤◌, ◌||◌, ◌++◌, ◌/◌, ◌*◌, ℕ, Bool, true, false, if◌then◌else◌, List, [], ◌∷◌, Option, Some, Ok, length, take, unwrap_or, Contains}
+use Rattle.std.specs.List.{AllByRecursion, concat}
 use Rattle.std.specs.Str.{bytes_eq}
-use Rattle.std.proofs.Common.{refl, sym, ap, subst, ◌∙◌, inl, inr}
+use Rattle.std.proofs.Common.{refl, sym, ap, subst, ◌∙◌, inl, inr, ⊎_elim, arith}
 use Rattle.std.proofs.Math.Bool.{or-true}
+use Rattle.std.proofs.lemmas.Bool.{cases_lt}
+use Rattle.std.proofs.lemmas.List.{length-take, take_all, take-take}
 use Rattle.std.proofs.lemmas.Slice.Eq.{bytes_eq-Decides}
-use Rattle.generation_frame.specs.Blocks.{pieces_of}
-use Rattle.generation_frame.specs.PieceLaws.{concat-pieces_of}
+use Rattle.generation_frame.specs.Blocks.{capacity, pieces_of, whole_pieces_of}
+use Rattle.generation_frame.specs.PieceLaws.{concat-pieces_before, concat-pieces_of}
 use Rattle.lif_outside.specs.Calls.{Deeds, Outside}
+use Rattle.lif_outside.specs.Counts.{Rose}
 use Rattle.lif_outside.specs.DeedLaws.{Accounted}
-use Rattle.lif_outside.specs.Events.{Event, HappenAt, Follow}
+use Rattle.lif_outside.specs.Events.{Event, Follow, HappenAt, append_failed}
 use Rattle.lif_outside.specs.EventLaws.{KeepsPath, happen_keeping}
-use Rattle.lif_outside.specs.Files.{Files, ChangesOnly, AreDistinct, Holds, HoldsPrefix, IsSameOrEmpty}
-use Rattle.lif_outside.specs.Runs.{StopsWithin, ReadsWhole, ReadsToFault, ReadsPastLimit, creates_of}
-use Rattle.lif_outside.specs.RunLaws.{reads_keep, whole_keeps, fault_keeps, fault_there, whole_held, long_held}
-use Rattle.lif_outside.specs.Told.{Told, Becomes}
+use Rattle.lif_outside.specs.Files.{AreDistinct, ChangesOnly, Files, Holds, HoldsPrefix, IsSameOrEmpty}
+use Rattle.lif_outside.specs.Runs.{AreAppendsTo, ReadsPastLimit, ReadsToFault, ReadsWhole, StopsWithin, bytes_appended, bytes_read, creates_of}
+use Rattle.lif_outside.specs.RunLaws.{appends_held, appends_keep, fault_there, long_held, reads_begin, whole_held}
+use Rattle.lif_outside.specs.Sequences.{Are, IsFrontOf}
+use Rattle.lif_outside.specs.StreamLaws.{fault_begins, reads_among, reads_happen, stream_keeps, whole_begins, whole_ended, whole_gave, writes_among, writes_happen}
+use Rattle.lif_outside.specs.Streams.{have_ended, reads_in, writes_in}
+use Rattle.lif_outside.specs.Told.{Becomes, Told}
 use Rattle.lif_outside.specs.ToldLaws.{becomes_weaker}
-use Rattle.lif_outside.specs.TurnLaws.{creates_of-empty, creates_of-keep, creates_of-stopped, creates_of-fault, appends_to-held, appends_to-keep, appends_to-stopped, appends_to-fault, stops_keep, then_keeps}
+use Rattle.lif_outside.specs.TurnLaws.{appends-fault, appends-front, appends-stopped, appends_to-are, bytes_appended-appends_to, creates_of-empty, creates_of-fault, creates_of-keep, creates_of-stopped, front_keeps, stops_keep}
 use Rattle.node_program.specs.declared.code.Code.{Code}
 use Rattle.top_base.specs.Accepting.{HoldsCode}
-use Rattle.top_base.specs.Inputs.{HoldsLong, HoldsShort}
-use Rattle.lif_top.specs.Send.Changes.{LeavesAll, HasCode, HasSource, LeavesUnwritten, LeavesEmpty, ChangesTo}
-use Rattle.lif_top.specs.Send.Given.{IsClear, outputs_of, source_limit}
-use Rattle.lif_top.specs.Send.Runs.{deliveries, AfterCreates, AfterSource, Delivers, StopsAtCreate, StopsAtAppend, RunsCode}
+use Rattle.top_base.specs.Inputs.{HoldsLong, HoldsShort, ReadsAny}
+use Rattle.top_base.specs.LeavingLaws.{happen_later, happen_parts, keep_files, later_among, none_keep, told_at}
+use Rattle.top_base.specs.PathLaws.{clear_apart, clear_distinct}
+use Rattle.top_base.specs.Performs.{LeavesAll}
 use Rattle.top_base.specs.Words.{Send}
 use Rattle.top_base.specs.declared.status.Status.{Status}
-use Rattle.top_base.specs.declared.status.Status.TheVariants.{Done, UnknownPattern, ReadFault, WriteFault, TooLong, OutOfMemory, SamePath}
-use Rattle.top_base.specs.PathLaws.{clear_distinct, clear_apart}
-use Rattle.top_base.specs.LeavingLaws.{KeepAll, none_keep, keep_files, told_at, later_among, happen_parts, happen_later}
+use Rattle.top_base.specs.declared.status.Status.TheVariants.{Done, OutOfMemory, ReadFault, SamePath, TooLong, UnknownPattern, WriteFault}
+use Rattle.lif_top.specs.Send.Changes.{ChangesTo, HasCode, LeavesPart, LeavesSource, LeavesUnwritten}
+use Rattle.lif_top.specs.Send.Given.{IsClear, outputs_of, source_limit}
+use Rattle.lif_top.specs.Send.Runs.{AfterCreates, Carries, RunsCode, StopsAtCreate, deliveries, pieces_read}
 
-module _ (send : Send) where
-  -- the reads of the source keep every path
-  whole_source-keeps : (source : List ℕ) (reads : List Event) → ReadsWhole send.source source_limit source reads → KeepAll reads
-  whole_source-keeps source reads whole place = whole_keeps send.source place source_limit source reads whole
+-- what the pieces have of what was read is its front
+pieces-read : (reads : List Event) (rate : ℕ) (some : 1 ≤ rate) → (n : ℕ) × (concat (pieces_read reads rate) ≡ take n (bytes_read reads))
+pieces-read reads rate some = by_end (have_ended reads)
+  where
+    by_end : (ended : Bool) → (n : ℕ) × (concat (if ended then pieces_of (bytes_read reads) rate else whole_pieces_of (bytes_read reads) rate) ≡ take n (bytes_read reads))
+    by_end true = (length (bytes_read reads), concat-pieces_of (bytes_read reads) rate some ∙ sym (take_all (length (bytes_read reads)) (bytes_read reads) (omega arith)))
+    by_end false = (length (bytes_read reads) / capacity rate * capacity rate, concat-pieces_before (bytes_read reads) rate (length (bytes_read reads) / capacity rate))
 
-  fault_source-keeps : (reads : List Event) → ReadsToFault send.source source_limit reads → KeepAll reads
-  fault_source-keeps reads fault place = fault_keeps send.source place source_limit reads fault
+-- the front of a front is a front
+take_twice : (k n : ℕ) (xs : List ℕ) → (m : ℕ) × (take k (take n xs) ≡ take m xs)
+take_twice k n xs = ⊎_elim
+    (λ less. (k, take-take k n xs (omega (arith, less))))
+    (λ more. (n, take_all k (take n xs) (omega (arith, more, length-take n xs))))
+    (cases_lt k n)
 
-  long_source-keeps : (reads : List Event) → ReadsPastLimit send.source source_limit reads → KeepAll reads
-  long_source-keeps reads past place = reads_keep 0 send.source place reads past.reads
+-- so a prefix of the one is a prefix of the other
+prefix_of_read : (reads : List Event) (rate : ℕ) (b : Option (List ℕ)) → 1 ≤ rate → HoldsPrefix (concat (pieces_read reads rate)) b → HoldsPrefix (bytes_read reads) b
+prefix_of_read reads rate b some held =
+    let front = pieces-read reads rate some in
+    let within = take_twice held.0 front.0 (bytes_read reads) in
+    (within.0, held.1 ∙ ap (λ bytes. Some (take held.0 bytes)) front.1 ∙ ap Some within.1)
+
+-- a source that was read to its end comes whole
+pub all_read : (path : List ℕ) (limit : ℕ) (source : List ℕ) (reads : List Event) (rate : ℕ) → ReadsWhole path limit source reads → pieces_read reads rate ≡ pieces_of source rate
+all_read path limit source reads rate whole =
+    ap (λ ended. if ended then pieces_of (bytes_read reads) rate else whole_pieces_of (bytes_read reads) rate) (whole_ended path limit source reads whole)
+    ∙ ap (λ bytes. pieces_of bytes rate) (whole_gave path limit source reads whole)
 
 -- ---- the calls after the code was read, seen at a path
 
@@ -51,24 +75,29 @@ module _ (send : Send) (code : Code) where
   source_apart clear = clear_apart (send.code ∷ send.source ∷ []) (outputs_of send code) clear.apart send.source
       (ap (λ test. bytes_eq send.source send.code || (test || false)) ((bytes_eq-Decides send.source send.source).1 refl) ∙ or-true (bytes_eq send.source send.code))
 
+  -- what is delivered goes to the outputs
+  pub deliveries_are : (reads : List Event) → AreAppendsTo (outputs_of send code) (deliveries send code reads)
+  deliveries_are reads = appends_to-are (outputs_of send code) (pieces_read reads code.rate)
+
+  deliveries_keep : (reads : List Event) (place : List ℕ) → ¬ Contains (outputs_of send code) place → AllByRecursion (KeepsPath place) (deliveries send code reads)
+  deliveries_keep reads place apart = appends_keep (outputs_of send code) place (deliveries send code reads) apart (deliveries_are reads)
+
+  -- all of it is what was read, at each output
+  bytes_delivered : (reads : List Event) (place : List ℕ) → IsClear send code → Contains (outputs_of send code) place → bytes_appended place (deliveries send code reads) ≡ concat (pieces_read reads code.rate)
+  bytes_delivered reads place clear there = bytes_appended-appends_to (outputs_of send code) (pieces_read reads code.rate) place (distinct clear) there
+
   -- the outputs were created, and then came other calls
   module _ (P : List Event → Type 0) (calls : List Event) (is : AfterCreates send code P calls) where
-    abbrev IsCreated : List Event → Type 0
-    IsCreated = Are (creates_of (outputs_of send code))
-
     at_output : (place : List ℕ) (a b : Option (List ℕ)) → Contains (outputs_of send code) place → HappenAt place calls a b → HappenAt place is.1.later (Some []) b
     at_output place a b there happen =
-        let halves = happen_parts IsCreated P calls is.1 place a b happen in
+        let halves = happen_parts is.1.first is.1.later calls is.1.events_are place a b happen in
         let empty : halves.0 ≡ Some [] = creates_of-empty (outputs_of send code) place a halves.0 there (subst (λ es. HappenAt place es a halves.0) is.1.holds_first halves.1) in
         subst (λ file. HappenAt place is.1.later file b) empty halves.2
 
     elsewhere : (place : List ℕ) (a b : Option (List ℕ)) → ¬ Contains (outputs_of send code) place → HappenAt place calls a b → HappenAt place is.1.later a b
     elsewhere place a b apart happen =
         let keeps = subst (AllByRecursion (KeepsPath place)) (sym is.1.holds_first) (creates_of-keep (outputs_of send code) place apart) in
-        happen_later IsCreated P calls is.1 place a b keeps happen
-
-    pub at_source : (a b : Option (List ℕ)) → HappenAt send.source calls a b → HappenAt send.source is.1.later a b
-    at_source a b happen = elsewhere send.source a b (source_apart is.0) happen
+        happen_later is.1.first is.1.later calls is.1.events_are place a b keeps happen
 
     -- what the other calls leave
     leaves_outputs : (R : Option (List ℕ) → Type 0) → ((place : List ℕ) → ¬ Contains (outputs_of send code) place → AllByRecursion (KeepsPath place) is.1.later)
@@ -79,60 +108,117 @@ module _ (send : Send) (code : Code) where
       these = λ path there. held path (new path) there (at_output path (old path) (new path) there (follow path));
     })
 
-    leaves_empty : KeepAll is.1.later → (before after : Option Files) → Becomes before after (Follow calls) → Becomes before after (ChangesOnly (outputs_of send code) (λ path old new. Holds [] new))
-    leaves_empty keeps before after change =
-        leaves_outputs (Holds []) (λ place apart. keeps place) (λ place b there happen. happen_keeping place is.1.later (Some []) b (keeps place) happen) before after change
+    create_among : (event : Event) → Contains is.1.later event → Contains calls event
+    create_among = later_among is.1.first is.1.later calls is.1.events_are
 
-    pub create_among : (event : Event) → Contains is.1.later event → Contains calls event
-    create_among event there = later_among IsCreated P calls is.1 event there
+  -- the source was read after that, and delivered
+  module _ (P : List Event → Type 0) (Q : List Event → List Event → Type 0) (calls : List Event) (is : Carries send code P Q calls)
+      (keeps : (place : List ℕ) (due made : List Event) → AllByRecursion (KeepsPath place) due → Q due made → AllByRecursion (KeepsPath place) made) where
+    abbrev pub reads_of : List Event
+    reads_of = reads_in is.1.later
 
-  -- the source was read after that, and then came other calls
-  module _ (source : List ℕ) (Q : List Event → Type 0) (calls : List Event) (is : AfterCreates send code (AfterSource send source Q) calls) where
-    abbrev IsRead : List Event → Type 0
-    IsRead = ReadsWhole send.source source_limit source
+    abbrev pub writes_of : List Event
+    writes_of = writes_in is.1.later
 
-    source_keeps : KeepAll is.1.holds_later.first
-    source_keeps = whole_source-keeps send source is.1.holds_later.first is.1.holds_later.holds_first
+    writes_keep : (place : List ℕ) → ¬ Contains (outputs_of send code) place → AllByRecursion (KeepsPath place) writes_of
+    writes_keep place apart = keeps place (deliveries send code reads_of) writes_of (deliveries_keep reads_of place apart) is.1.holds_later.writes
 
-    -- its path holds what was read
-    pub source_held : (a b : Option (List ℕ)) → HappenAt send.source calls a b → HoldsShort source_limit source a
-    source_held a b happen =
-        let parts = is.1.holds_later in
-        let halves = happen_parts IsRead Q is.1.later parts send.source a b (at_source (AfterSource send source Q) calls is a b happen) in
-        record { held = whole_held send.source source_limit source parts.first a halves.0 parts.holds_first halves.1; short = parts.holds_first.short }
+    -- what happens at the source's path happens by the reads
+    pub at_source : (a b : Option (List ℕ)) → HappenAt send.source calls a b → HappenAt send.source reads_of a b
+    at_source a b happen = reads_happen send.source is.1.later a b (writes_keep send.source (source_apart is.0)) (elsewhere _ calls is send.source a b (source_apart is.0) happen)
 
-    -- what the other calls leave
-    leaves_sent : (R : Option (List ℕ) → Type 0) → ((place : List ℕ) → ¬ Contains (outputs_of send code) place → (later : List Event) → Q later → AllByRecursion (KeepsPath place) later)
-        → ((place : List ℕ) (b : Option (List ℕ)) → Contains (outputs_of send code) place → HappenAt place is.1.holds_later.later (Some []) b → R b)
+    -- what is left at the outputs is left by the writes
+    leaves_carried : (R : Option (List ℕ) → Type 0) → ((place : List ℕ) (b : Option (List ℕ)) → Contains (outputs_of send code) place → HappenAt place writes_of (Some []) b → R b)
         → (before after : Option Files) → Becomes before after (Follow calls) → Becomes before after (ChangesOnly (outputs_of send code) (λ path old new. R new))
-    leaves_sent R keeps held before after change = leaves_outputs (AfterSource send source Q) calls is R
-        (λ place apart. then_keeps IsRead Q place is.1.later is.1.holds_later (λ first whole. whole_source-keeps send source first whole place) (keeps place apart))
-        (λ place b there happen. held place b there (happen_later IsRead Q is.1.later is.1.holds_later place (Some []) b (source_keeps place) happen))
+    leaves_carried R held before after change = leaves_outputs _ calls is R
+        (λ place apart. stream_keeps place is.1.later (writes_keep place apart))
+        (λ place b there happen. held place b there (writes_happen place is.1.later (Some []) b happen))
         before after change
 
-    sent_among : (event : Event) → Contains is.1.holds_later.later event → Contains calls event
-    sent_among event there = create_among (AfterSource send source Q) calls is event (later_among IsRead Q is.1.later is.1.holds_later event there)
+    read_among : (event : Event) → Contains reads_of event → Contains calls event
+    read_among event there = create_among _ calls is event (reads_among is.1.later event there)
 
-  -- the source was delivered, or as far as an append failed
-  delivered : (source : List ℕ) (calls : List Event) → Delivers send code source calls → (before after : Option Files) → Becomes before after (Follow calls)
-      → Becomes before after (ChangesOnly (outputs_of send code) (λ path old new. Holds source new))
-  delivered source calls is before after change =
-      let pieces = pieces_of source code.rate in
-      leaves_sent source (Are (deliveries send code source)) calls is (Holds source)
-      (λ place apart later these. subst (AllByRecursion (KeepsPath place)) (sym these) (appends_to-keep (outputs_of send code) pieces place apart))
-      (λ place b there happen. appends_to-held (outputs_of send code) pieces place [] b (distinct is.0) there (subst (λ es. HappenAt place es (Some []) b) is.1.holds_later.holds_later happen)
-      ∙ ap Some (concat-pieces_of source code.rate code.code.draft.some_rate))
-      before after change
+    written_among : (event : Event) → Contains writes_of event → Contains calls event
+    written_among event there = create_among _ calls is event (writes_among is.1.later event there)
 
-  part_delivered : (source : List ℕ) (calls : List Event) → AfterCreates send code (AfterSource send source (StopsWithin (deliveries send code source))) calls → (before after : Option Files)
-      → Becomes before after (Follow calls) → Becomes before after (ChangesOnly (outputs_of send code) (λ path old new. HoldsPrefix source new))
-  part_delivered source calls is before after change =
-      let pieces = pieces_of source code.rate in
-      leaves_sent source (StopsWithin (deliveries send code source)) calls is (HoldsPrefix source)
-      (λ place apart later stop. stops_keep place (deliveries send code source) later stop (appends_to-keep (outputs_of send code) pieces place apart))
-      (λ place b there happen. subst (λ bytes. HoldsPrefix bytes b) (concat-pieces_of source code.rate code.code.draft.some_rate)
-      (appends_to-stopped (outputs_of send code) pieces place is.1.holds_later.later b (distinct is.0) there is.1.holds_later.holds_later happen))
-      before after change
+    -- each output holds a prefix of what was read
+    part_left : ((place : List ℕ) (b : Option (List ℕ)) → HappenAt place writes_of (Some []) b → HoldsPrefix (bytes_appended place (deliveries send code reads_of)) b)
+        → ((a b : Option (List ℕ)) → HappenAt send.source reads_of a b → IsFrontOf (unwrap_or a []) (bytes_read reads_of))
+        → (before after : Outside) → Becomes before.files after.files (Follow calls) → LeavesPart send code before after
+    part_left held begins before after change = record {
+      read = bytes_read reads_of;
+      is_front = told_at before.files after.files calls send.source (λ file. IsFrontOf (unwrap_or file []) (bytes_read reads_of)) (λ a b happen. begins a b (at_source a b happen)) change;
+      left = leaves_carried (HoldsPrefix (bytes_read reads_of))
+          (λ place b there happen. prefix_of_read reads_of code.rate b code.code.draft.some_rate (subst (λ bytes. HoldsPrefix bytes b) (bytes_delivered reads_of place is.0 there) (held place b happen)))
+          before.files after.files change;
+    }
+
+  -- ---- the source was read and delivered in full
+
+  pub all_keeps : (place : List ℕ) (due made : List Event) → AllByRecursion (KeepsPath place) due → Are due made → AllByRecursion (KeepsPath place) made
+  all_keeps place due made keeps are = subst (AllByRecursion (KeepsPath place)) (sym are) keeps
+
+  module _ (source : List ℕ) (calls : List Event) (is : Carries send code (ReadsWhole send.source source_limit source) Are calls) where
+    abbrev ByReads : List Event → Type 0
+    ByReads = ReadsWhole send.source source_limit source
+
+    pub source_held : (a b : Option (List ℕ)) → HappenAt send.source calls a b → HoldsShort source_limit source a
+    source_held a b happen =
+        let reads = reads_of ByReads Are calls is all_keeps in
+        let whole = is.1.holds_later.reads in
+        record { held = whole_held send.source source_limit source reads a b whole (at_source ByReads Are calls is all_keeps a b happen); short = whole.short }
+
+    delivered : (before after : Option Files) → Becomes before after (Follow calls) → Becomes before after (ChangesOnly (outputs_of send code) (λ path old new. Holds source new))
+    delivered before after change =
+        let reads = reads_of ByReads Are calls is all_keeps in
+        let due = deliveries send code reads in
+        leaves_carried ByReads Are calls is all_keeps (Holds source)
+        (λ place b there happen.
+        appends_held (outputs_of send code) place due [] (Some []) b (deliveries_are reads) refl (subst (λ es. HappenAt place es (Some []) b) is.1.holds_later.writes happen)
+        ∙ ap Some (bytes_delivered reads place is.0 there ∙ ap concat (all_read send.source source_limit source reads code.rate is.1.holds_later.reads) ∙ concat-pieces_of source code.rate code.code.draft.some_rate))
+        before after change
+
+  -- ---- the source was read in part
+
+  pub part_keeps : (place : List ℕ) (due made : List Event) → AllByRecursion (KeepsPath place) due → IsFrontOf due made → AllByRecursion (KeepsPath place) made
+  part_keeps place due made keeps front = front_keeps place due made front keeps
+
+  module _ (P : List Event → Type 0) (calls : List Event) (is : Carries send code P IsFrontOf calls) (begins : (reads : List Event) (a b : Option (List ℕ)) → P reads → HappenAt send.source reads a b → IsFrontOf (unwrap_or a []) (bytes_read reads)) where
+    front_left : (before after : Outside) → Becomes before.files after.files (Follow calls) → LeavesPart send code before after
+    front_left before after change =
+        let reads = reads_of P IsFrontOf calls is part_keeps in
+        part_left P IsFrontOf calls is part_keeps
+        (λ place b happen. appends-front (outputs_of send code) (deliveries send code reads) _ place b (deliveries_are reads) is.1.holds_later.writes happen)
+        (λ a b happen. begins reads a b is.1.holds_later.reads happen)
+        before after change
+
+  -- ---- an append failed
+
+  any_begins : (reads : List Event) (a b : Option (List ℕ)) → ReadsAny send.source source_limit reads → HappenAt send.source reads a b → IsFrontOf (unwrap_or a []) (bytes_read reads)
+  any_begins reads a b (inl some) happen = reads_begin send.source reads a b some.reads happen
+  any_begins reads a b (inr whole) happen = whole_begins send.source source_limit whole.0 reads a b whole.1 happen
+
+  stopped_keeps : (place : List ℕ) (due made : List Event) → AllByRecursion (KeepsPath place) due → StopsWithin due made → AllByRecursion (KeepsPath place) made
+  stopped_keeps place due made keeps stop = stops_keep place due made stop keeps
+
+  module _ (calls : List Event) (is : Carries send code (ReadsAny send.source source_limit) StopsWithin calls) where
+    abbrev AnyReads : List Event → Type 0
+    AnyReads = ReadsAny send.source source_limit
+
+    stops_left : (before after : Outside) → Becomes before.files after.files (Follow calls) → LeavesPart send code before after
+    stops_left before after change =
+        let reads = reads_of AnyReads StopsWithin calls is stopped_keeps in
+        part_left AnyReads StopsWithin calls is stopped_keeps
+        (λ place b happen. appends-stopped (outputs_of send code) (deliveries send code reads) _ place b (deliveries_are reads) is.1.holds_later.writes happen)
+        (λ a b happen. any_begins reads a b is.1.holds_later.reads happen)
+        before after change
+
+    -- the append that failed is among the calls
+    append_fault : (path bytes : List ℕ) × Contains (outputs_of send code) path × Contains calls (append_failed path bytes)
+    append_fault =
+        let reads = reads_of AnyReads StopsWithin calls is stopped_keeps in
+        let fault = appends-fault (outputs_of send code) (deliveries send code reads) _ (deliveries_are reads) is.1.holds_later.writes in
+        (fault.0, fault.1, fault.2, written_among AnyReads StopsWithin calls is stopped_keeps _ fault.3)
 
   -- a create failed
   uncreated : (calls : List Event) → StopsAtCreate send code calls → (before after : Option Files) → Becomes before after (Follow calls) → Becomes before after (ChangesOnly (outputs_of send code) (λ path. IsSameOrEmpty))
@@ -141,71 +227,78 @@ module _ (send : Send) (code : Code) where
     these = λ path there. creates_of-stopped (outputs_of send code) path calls (old path) (new path) is.1 (follow path);
   })
 
-  -- ---- what is left, and which counts rose
+  -- ---- what is left
 
-  module _ (deeds : Deeds) (before after : Outside) (accounted : Accounted deeds before after) (calls : List Event) (among : (event : Event) → Contains calls event → Contains deeds.calls event)
-      (change : Becomes before.files after.files (Follow calls)) (held : Told before.files (λ files. HoldsCode (files send.code) (Ok code))) where
+  module _ (deeds : Deeds) (before after : Outside) (accounted : Accounted deeds before after) (held : Told before.files (λ files. HoldsCode (files send.code) (Ok code))) where
+    abbrev made : List Event
+    made = deeds.calls.on_store
+
     has_code : IsClear send code → HasCode send code before
     has_code clear = record { clear = clear; held = held }
 
-    has_source : (source : List ℕ) (Q : List Event → Type 0) → AfterCreates send code (AfterSource send source Q) calls → HasSource send source before
-    has_source source Q is = told_at before.files after.files calls send.source (HoldsShort source_limit source) (source_held source Q calls is) change
-
-    unwritten : StopsAtCreate send code calls ⊎ StopsAtAppend send code calls → LeavesUnwritten send code before after
+    unwritten : StopsAtCreate send code made ⊎ Carries send code (ReadsAny send.source source_limit) StopsWithin made → LeavesUnwritten send code before after
     unwritten (inl is) =
-        let fault = creates_of-fault (outputs_of send code) calls is.1 in
+        let fault = creates_of-fault (outputs_of send code) made is.1 in
         record {
           has_code = has_code is.0;
           output = fault.0;
           is_output = fault.1;
-          rose = accounted.failed_create fault.0 (among _ fault.2);
-          left = inl (uncreated calls is before.files after.files change);
+          rose = accounted.failed_create fault.0 fault.2;
+          left = inl (uncreated made is before.files after.files accounted.files);
         }
-    unwritten (inr (source, is)) =
-        let stop = StopsWithin (deliveries send code source) in
-        let fault = appends_to-fault (outputs_of send code) (pieces_of source code.rate) is.1.holds_later.later is.1.holds_later.holds_later in
+    unwritten (inr is) =
+        let fault = append_fault made is in
         record {
           has_code = has_code is.0;
           output = fault.0;
           is_output = fault.2;
-          rose = accounted.failed_append fault.0 fault.1 (among _ (sent_among source stop calls is _ fault.3));
-          left = inr (source, has_source source stop is, part_delivered source calls is before.files after.files change);
+          rose = accounted.failed_append fault.0 fault.1 fault.3;
+          left = inr (stops_left made is before after accounted.files);
         }
 
-    left_empty : (P : List Event → Type 0) (is : AfterCreates send code P calls) → KeepAll is.1.later → LeavesEmpty send code before after
-    left_empty P is keeps = record { has_code = has_code is.0; left = leaves_empty P calls is keeps before.files after.files change }
+    left_all : made ≡ [] → LeavesAll before after
+    left_all none = keep_files before.files after.files made (none_keep made none) accounted.files
 
-    left_all : calls ≡ [] → LeavesAll before after
-    left_all none = keep_files before.files after.files calls (none_keep calls none) change
+    sent : (source line : List ℕ) → Carries send code (ReadsWhole send.source source_limit source) Are made → LeavesSource send code source before after
+    sent source line is = record {
+      has_code = has_code is.0;
+      has_source = told_at before.files after.files made send.source (HoldsShort source_limit source) (source_held source made is) accounted.files;
+      left = delivered source made is before.files after.files accounted.files;
+    }
+
+    abbrev ToFault : List Event → Type 0
+    ToFault = ReadsToFault send.source source_limit
+
+    abbrev PastLimit : List Event → Type 0
+    PastLimit = ReadsPastLimit send.source source_limit
 
     -- what the calls after an accepted code was read leave
-    pub changes_with : (status : Status) (line : List ℕ) → RunsCode send code status line calls → ChangesTo send status line before after
-    changes_with Done line (source, line_is, is) = (
-      code,
-      source,
-      line_is,
-      record {
-        has_code = has_code is.0;
-        has_source = has_source source (Are (deliveries send code source)) is;
-        left = delivered source calls is before.files after.files change;
-      },
-    )
+    pub changes_with : (status : Status) (line : List ℕ) → RunsCode send code status line made → ChangesTo send status line before after
+    changes_with Done line (source, line_is, is) = (code, source, line_is, sent source line is)
     changes_with UnknownPattern line (unknown, line_is, none) = left_all none
     changes_with SamePath line (path, pattern, shared, line_is, none) = left_all none
     changes_with OutOfMemory line (none, line_is) = left_all none
     changes_with WriteFault line (stop, line_is) = (code, unwritten stop)
     changes_with ReadFault line (is, line_is) =
-        let fault = is.1.holds_later in
+        let reads = reads_of ToFault IsFrontOf made is part_keeps in
+        let fault = is.1.holds_later.reads in
         inr (
           code,
-          left_empty (ReadsToFault send.source source_limit) is (fault_source-keeps send is.1.later fault),
-          accounted.failed_read send.source _ fault.room (among _ (create_among (ReadsToFault send.source source_limit) calls is _ (fault_there send.source source_limit is.1.later fault))),
+          record {
+            has_code = has_code is.0;
+            rose = accounted.failed_read send.source _ fault.room (read_among ToFault IsFrontOf made is part_keeps _ (fault_there send.source source_limit reads fault));
+            left = front_left ToFault made is (λ reads a b fault happen. fault_begins send.source source_limit reads a b fault happen) before after accounted.files;
+          },
         )
     changes_with TooLong line (is, line_is) =
-        let past = ReadsPastLimit send.source source_limit in
+        let reads = reads_of PastLimit IsFrontOf made is part_keeps in
         inr (
           code,
-          left_empty past is (long_source-keeps send is.1.later is.1.holds_later),
-          told_at before.files after.files calls send.source (HoldsLong source_limit) (λ a b happen. long_held send.source source_limit is.1.later a b is.1.holds_later (at_source past calls is a b happen)) change,
+          record {
+            has_code = has_code is.0;
+            long = told_at before.files after.files made send.source (HoldsLong source_limit)
+                (λ a b happen. long_held send.source source_limit reads a b is.1.holds_later.reads (at_source PastLimit IsFrontOf made is part_keeps a b happen)) accounted.files;
+            left = front_left PastLimit made is (λ reads a b past happen. reads_begin send.source reads a b past.reads happen) before after accounted.files;
+          },
         )
     changes_with status line runs = absurd runs
