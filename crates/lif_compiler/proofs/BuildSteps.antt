@@ -35,7 +35,7 @@ order_once net order is acyclic = subst (HasEachOnce (length net.links)) (sym is
 pub enough_paths : (net : Net) (certs : List Cert) (rate : ℕ) → AreCertificates net certs → IsLeastValue certs rate → All (λ cert. rate ≤ length cert.paths) certs
 enough_paths net certs rate are least = λ k d within.
     let there = slice_get-get_or certs k d within in
-    omega (arith, least.least k (get_or certs k d) there, (are.at k (get_or certs k d) there).0.paths_value)
+    omega (arith, least.least k (get_or certs k d) there, (are.are.at k (get_or certs k d) there).0.paths_value)
 
 -- each demand has few routes
 pub few_routes : (net : Net) (certs : List Cert) (order : List ℕ) (rate : ℕ) → AreCertificates net certs → All (λ cert. rate ≤ length cert.paths) certs → rate ≤ 32 → All (λ paths. length paths ≤ 32) (routes_of_certs order rate certs)

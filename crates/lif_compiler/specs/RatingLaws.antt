@@ -9,7 +9,7 @@ use Rattle.failure_patterns.specs.DemandLaws.{few_demands, some_demand}
 use Rattle.failure_patterns.specs.Demands.{demand_of}
 use Rattle.failure_patterns.specs.Rate.{HasLeastCut, IsFirstWith}
 use Rattle.cut_witness.specs.Certificate.{AreCertificates, IsLeastValue}
-use Rattle.cut_witness.specs.CertificateLaws.{IsLeastCut-certificate, IsRate-least_value, value-certificate}
+use Rattle.cut_witness.specs.CertificateLaws.{AreCertificates-at, IsLeastCut-certificate, IsRate-least_value, value-certificate}
 use Rattle.cut_witness.specs.declared.cert.Cert.{Cert}
 use Rattle.lif_compiler.specs.Refused.{IsRateOver, IsZeroRate}
 
@@ -35,21 +35,22 @@ module _ (net : Net) (certs : List Cert) (are : AreCertificates net certs) where
     -- the demand of a certificate's number has a least cut of its value
     pub HasLeastCut-certificate : HasLeastCut net number cert.value
     HasLeastCut-certificate =
-        let at = are.at number cert there in
+        let at = AreCertificates-at net certs are number cert there in
         let Least : Demand → Type 0 = λ demand. IsLeastCut (flow_network net demand) cert.cut in
         (cert.cut, subst Least at.1 (IsLeastCut-certificate net cert at.0), at.0.cut_value)
 
     -- and its side is the least one of that demand
     pub IsLeastSide-certificate : IsLeastSide (flow_network net (demand_of net number)) cert.side
     IsLeastSide-certificate =
-        let at = are.at number cert there in
+        let at = AreCertificates-at net certs are number cert there in
         let Least : Demand → Type 0 = λ demand. IsLeastSide (flow_network net demand) cert.side in
         subst Least at.1 at.0.least_side
 
     -- each least cut of that demand has its value
     pub value_of_demand : (size : ℕ) → HasLeastCut net number size → cert.value ≡ size
     value_of_demand size has =
-        value-certificate net number size cert (are.at number cert there).0 (are.at number cert there).1 has
+        let at = AreCertificates-at net certs are number cert there in
+        value-certificate net number size cert at.0 at.1 has
 
   -- the first certificate of a value belongs to the first demand whose least cut has that size
   pub IsFirstWith-first_of_value : (value number : ℕ) → IsFirstOfValue certs value number → IsFirstWith net (λ size. size ≡ value) number value
