@@ -76,7 +76,9 @@ module _ (net new : Net) (certs : List Cert) (order : List ℕ) (rate : ℕ) (ki
     certified = are;
     network = subst (λ order. IsRenumbered order (choice_of kind) net code.net) order_is (subst (IsRenumbered order (choice_of kind) net) (sym of_net) renumbered);
     over = of_field;
-    rate = subst (IsLeastValue certs) (sym of_rate) least;
+    least = rate;
+    is_least = least;
+    rate = of_rate;
     accepted = filled.accepted code of_net of_rate of_field of_operands of_decoders;
     of_paths = λ link below.
         let of_hops : All (IsOfHop routes link) (slice_index_or operands link []) = filled.of_hops link (omega (arith, new_count)) in
