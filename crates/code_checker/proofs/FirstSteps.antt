@@ -146,7 +146,8 @@ accepted code is = (IsAccepted-identity code).1 (λ demand within. is demand wit
 pub fails_first : (code : Code) (failure : Failure) → IsFirst code (length code.net.patterns) 0 failure
     → FailsFirst code failure.demand failure.row failure.column failure.found
 fails_first code failure is = record {
+  from_on = omega arith;
   within = is.within;
-  before = λ earlier lower. is.before earlier lower (inl (pattern_place_within code.net earlier (omega (arith, lower, is.within))));
+  before = λ earlier on lower. is.before earlier lower (inl (pattern_place_within code.net earlier (omega (arith, lower, is.within))));
   entry = is.entry;
 }

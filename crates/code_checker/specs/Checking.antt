@@ -1,5 +1,5 @@
 -- Which demand of a code fails first, and where.
-use Rattle.std.specs.Prelude.{◌≡◌, ◌≢◌, ℕ, ◌<◌, List, [], slice_index, slice_index_or}
+use Rattle.std.specs.Prelude.{◌≡◌, ◌≢◌, ℕ, ◌<◌, ◌≤◌, List, [], slice_index, slice_index_or}
 use Rattle.linear_algebra.specs.Matrices.{identity, times_rows}
 use Rattle.net_model.specs.Demands.{demand_count}
 use Rattle.node_program.specs.Decoding.{decoder_matrix, decoder_vectors}
@@ -24,11 +24,16 @@ pub record DiffersFirst (size : ℕ) (rows : List (List ℕ)) (row column found 
   pub before : (j : ℕ) → j < column → entry_at rows row j ≡ entry_at (identity size) row j
   pub rows_before : (i j : ℕ) → i < row → j < size → entry_at rows i j ≡ entry_at (identity size) i j
 
--- the first demand whose product isn't the identity, and where it differs first
-pub record FailsFirst (code : Code) (demand row column found : ℕ) : Type 0 where
-  pub within : demand < demand_count code.net
-  pub before : (earlier : ℕ) → earlier < demand → demand_product code earlier ≡ identity code.rate
+-- of the demands from one number on and below another, the first whose product isn't the identity, and where it differs first
+pub record FailsFirstIn (code : Code) (from to demand row column found : ℕ) : Type 0 where
+  pub from_on : from ≤ demand
+  pub within : demand < to
+  pub before : (earlier : ℕ) → from ≤ earlier → earlier < demand → demand_product code earlier ≡ identity code.rate
   pub entry : DiffersFirst code.rate (demand_product code demand) row column found
+
+-- the first demand of all whose product isn't the identity, and where it differs first
+abbrev pub FailsFirst : Code → ℕ → ℕ → ℕ → ℕ → Type 0
+FailsFirst code demand row column found = FailsFirstIn code 0 (demand_count code.net) demand row column found
 
 -- what a refusal says
 abbrev pub IsRefusal : Code → CheckRefusal → Type 0

@@ -1,5 +1,5 @@
 -- Code files: the items of a code, one after another.
-use Rattle.std.specs.Prelude.{ℕ, List, [], ◌∷◌, ◌++◌, length, map, drop, codes}
+use Rattle.std.specs.Prelude.{◌≡◌, ℕ, List, [], ◌∷◌, ◌++◌, length, map, drop, codes}
 use Rattle.std.specs.List.{concat, flat_map}
 use Rattle.std.specs.Int.{to_be_bytes, w16}
 use Rattle.gf_tables.specs.declared.kind.FieldKind.{FieldKind}
@@ -84,3 +84,7 @@ items_of code =
 -- the code file of a code
 unfoldable pub bytes_of : Code → List ℕ
 bytes_of code = concat (items_of code)
+
+-- these bytes are the file of this code
+abbrev pub IsFileOf : List ℕ → Code → Type 0
+IsFileOf bytes code = bytes ≡ bytes_of code

@@ -1,7 +1,7 @@
 //! All of a code file.
 ghost use Rattle.std.specs.Prelude.{◌≡◌, ◌≢◌, ◌≤◌, ◌^◌, length, Err, IfOk, IfErr};
 ghost use Rattle.node_program.specs.declared.code.Code.{Code as SpecCode};
-ghost use Rattle.code_file.specs.Items.{bytes_of};
+ghost use Rattle.code_file.specs.Items.{IsFileOf};
 ghost use Rattle.code_file.specs.Reading.{contents_of};
 ghost use Rattle.code_file.specs.Gives.{Gives};
 ghost use Rattle.code_file.specs.Parts.{contents_seen};
@@ -66,9 +66,9 @@ fn code_of(parts: Parts) -> Code
 /// bytes are no code's file.
 pub fn read_code(alloc: Global, bytes: &[u8]) -> Result<Code, CodeRefusal>
     requires { length bytes.now ≤ 2 ^ 28 }
-    ensures ok { IfOk result (λ code. bytes.now ≡ bytes_of code) }
+    ensures ok { IfOk result (IsFileOf bytes.now) }
     ensures refused { IfErr result (λ why. why ≢ CodeRefusal.OutOfMemory → contents_of bytes.now ≡ Err why) }
-    ensures none { (code : SpecCode) → bytes.now ≡ bytes_of code → IfErr result (λ why. why ≡ CodeRefusal.OutOfMemory) }
+    ensures none { (code : SpecCode) → IsFileOf bytes.now code → IfErr result (λ why. why ≡ CodeRefusal.OutOfMemory) }
 {
     let parts = read_parts(alloc, bytes)?;
     Ok(code_of(parts))

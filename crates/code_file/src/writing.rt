@@ -2,7 +2,7 @@
 ghost use Rattle.std.specs.Prelude.{◌≡◌, ◌<◌, ◌≤◌, ◌++◌, ◌∷◌, [], drop, IsTrue, IfOk, OnOk};
 ghost use Rattle.std.specs.List.{concat, flat_map, list_all};
 ghost use Rattle.gf_tables.specs.Product.{mark_of, size_of};
-ghost use Rattle.code_file.specs.Items.{link_items, pattern_items, operand_items, operand_list_items, operand_table_items, decoder_items, decoder_table_items, front_items, bytes_of};
+ghost use Rattle.code_file.specs.Items.{link_items, pattern_items, operand_items, operand_list_items, operand_table_items, decoder_items, decoder_table_items, front_items, IsFileOf};
 ghost use Rattle.code_file.specs.Written.{are_elements, has_elements};
 
 use crate::pieces::{
@@ -175,7 +175,7 @@ fn put_front(
 /// The code file of a code. Its room is taken once.
 #[tactic(auto, unfolding(crate::specs::Items::items_of, crate::specs::Items::bytes_of))]
 pub fn write_code(alloc: Global, code: &Code) -> Result<Vec<u8>, AllocError>
-    ensures { IfOk result (λ bytes. bytes.items ≡ bytes_of code.now) }
+    ensures { IfOk result (λ bytes. IsFileOf bytes.items code.now) }
 {
     let mut out = Vec::with_capacity(alloc, code_room(code))?;
     put_front(&mut out, MARK, 1, &code.net, code.rate, code.field)?;

@@ -1,39 +1,54 @@
 -- The certificates of runs.
-use Rattle.std.specs.Prelude.{◌≡◌, ◌<◌, ◌≤◌, ◌⊎◌, ℕ, zero, suc, ◌+◌, ◌*◌, ◌/◌, List, [], Some, ◌∷◌, ◌++◌, length, slice_get}
-use Rattle.std.proofs.Common.{sym, ◌∙◌, ap, subst, refl, inl, inr, arith}
+use Rattle.std.specs.Prelude.{◌≡◌, ◌<◌, ◌≤◌, ℕ, zero, suc, ◌+◌, ◌*◌, ◌/◌, List, [], Some, ◌∷◌, ◌++◌, length, slice_get}
+use Rattle.std.proofs.Common.{sym, ◌∙◌, ap, subst, arith}
 use Rattle.std.proofs.Math.Nat.{div-eq_of_lt-le, div-le_of_le-mul, mul-le-mul}
 use Rattle.std.proofs.lemmas.List.{length-append}
 use Rattle.net_model.specs.Demands.{demand_count}
 use Rattle.net_model.specs.declared.net.Net.{Net}
 use Rattle.failure_patterns.specs.Demands.{demand_of}
-use Rattle.cut_witness.specs.Certificate.{AreCertificates, IsCertificate}
-use Rattle.cut_witness.specs.Runs.{AreFirstCertificates}
+use Rattle.cut_witness.specs.Certificate.{AreCertificates, AreCertificatesFrom, IsCertificate}
+use Rattle.cut_witness.specs.CertificateLaws.{AreCertificatesFrom-append}
 use Rattle.cut_witness.specs.declared.cert.Cert.{Cert}
 
--- an item of a list with one more is one of the list, or the last
-some_or_last : {X : Type 0} (xs : List X) (last : X) (place : ℕ) (x : X) → slice_get (xs ++ last ∷ []) place ≡ Some x → (slice_get xs place ≡ Some x) ⊎ ((place ≡ length xs) × (last ≡ x))
-some_or_last [] last zero x found = inr (refl, cc)
-some_or_last [] last (suc place) x found = cc
-some_or_last (y ∷ xs) last zero x found = inl found
-some_or_last (y ∷ xs) last (suc place) x found = elim (some_or_last xs last place x found) [
-  | inl before ↦ inl before
-  | inr is ↦ inr (ap suc is.0, is.1)
-]
+-- there are none at first
+pub none_yet : (net : Net) (first : ℕ) → AreCertificatesFrom net first []
+none_yet net first = record { at = λ place cert found. cc }
+
+-- that of one demand
+one_alone : (net : Net) (number : ℕ) (cert : Cert) → IsCertificate net cert → cert.demand ≡ demand_of net number → AreCertificatesFrom net number (cert ∷ [])
+one_alone net number cert is same = record { at = λ place one found. first place one found }
+  where
+    first : (place : ℕ) (one : Cert) → slice_get (cert ∷ []) place ≡ Some one → IsCertificate net one × (one.demand ≡ demand_of net (number + place))
+    first zero one found =
+        let this : cert ≡ one = cc in
+        let here : number ≡ number + 0 = omega arith in
+        let Is : Cert → Type 0 = λ some. IsCertificate net some × (some.demand ≡ demand_of net (number + 0)) in
+        subst Is this (is, same ∙ ap (demand_of net) here)
+    first (suc place) one found = absurd cc
+
+-- the certificates from one number on and below another
+pub record AreBetween (net : Net) (from to : ℕ) (certs : List Cert) : Type 0 where
+  pub count : from + length certs ≡ to
+  pub are : AreCertificatesFrom net from certs
 
 -- the certificate of one more demand
-pub one_more : (net : Net) (count : ℕ) (certs more : List Cert) (cert : Cert) → AreFirstCertificates net count certs → IsCertificate net cert → cert.demand ≡ demand_of net count → more ≡ certs ++ cert ∷ []
-    → AreFirstCertificates net (count + 1) more
-one_more net count certs more cert are is same added = record {
-  each_demand = omega (arith, are.each_demand, ap length added, length-append certs (cert ∷ []));
-  at = λ number one found.
-      let Found : List Cert → Type 0 = λ some. slice_get some number ≡ Some one in
-      elim (some_or_last certs cert number one (subst Found added found)) [
-        | inl before ↦ are.at number one before
-        | inr last ↦
-            let Is : Cert → Type 0 = λ some. IsCertificate net some × (some.demand ≡ demand_of net number) in
-            subst Is last.1 (is, same ∙ ap (demand_of net) (sym are.each_demand ∙ sym last.0))
-      ];
+pub one_more : (net : Net) (from number : ℕ) (certs more : List Cert) (cert : Cert) → AreBetween net from number certs → IsCertificate net cert → cert.demand ≡ demand_of net number → more ≡ certs ++ cert ∷ []
+    → AreBetween net from (number + 1) more
+one_more net from number certs more cert are is same added = record {
+  count = omega (arith, are.count, ap length added, length-append certs (cert ∷ []));
+  are = subst (AreCertificatesFrom net from) (sym added) (AreCertificatesFrom-append net from number certs (cert ∷ []) are.count are.are (one_alone net number cert is same));
 }
+
+-- the certificates of one more run
+pub run_more : (net : Net) (from to : ℕ) (certs made more : List Cert) → AreBetween net 0 from certs → from + length made ≡ to → AreCertificatesFrom net from made → more ≡ certs ++ made → AreBetween net 0 to more
+run_more net from to certs made more are count are_made joined = record {
+  count = omega (arith, are.count, count, ap length joined, length-append certs made);
+  are = subst (AreCertificatesFrom net 0) (sym joined) (AreCertificatesFrom-append net 0 from certs made are.count are.are are_made);
+}
+
+-- where a run starts, by the number of all demands
+pub start_of : (start run runs count all : ℕ) → start ≡ run * count / runs → count ≡ all → start ≡ run * all / runs
+start_of start run runs count all is same = is ∙ ap (λ demands. run * demands / runs) same
 
 -- no run goes past the last demand
 pub run_within : (run runs count : ℕ) → run ≤ runs → run * count / runs ≤ count
@@ -44,5 +59,7 @@ run_last : (runs count : ℕ) → 0 < runs → runs * count / runs ≡ count
 run_last runs count some = div-eq_of_lt-le runs (omega arith) (omega arith)
 
 -- after the last run there are those of all demands
-pub all_runs : (net : Net) (runs run : ℕ) (certs : List Cert) → 0 < runs → run ≡ runs → AreFirstCertificates net (run * demand_count net / runs) certs → AreCertificates net certs
-all_runs net runs run certs some last are = record { each_demand = are.each_demand ∙ ap (λ j. j * demand_count net / runs) last ∙ run_last runs (demand_count net) some; at = are.at }
+pub all_runs : (net : Net) (runs run : ℕ) (certs : List Cert) → 0 < runs → run ≡ runs → AreBetween net 0 (run * demand_count net / runs) certs → AreCertificates net certs
+all_runs net runs run certs some last are =
+    let whole : 0 + length certs ≡ demand_count net = are.count ∙ ap (λ j. j * demand_count net / runs) last ∙ run_last runs (demand_count net) some in
+    record { each_demand = omega arith; are = are.are }

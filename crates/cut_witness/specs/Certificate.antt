@@ -1,5 +1,5 @@
 -- Certificates: for each demand a flow and a cut of equal size, which is left by the least side.
-use Rattle.std.specs.Prelude.{◌≡◌, ◌<◌, ◌≤◌, ℕ, List, IsTrue, Some, length, map, slice_get, slice_index}
+use Rattle.std.specs.Prelude.{◌≡◌, ◌<◌, ◌≤◌, ◌+◌, ℕ, List, IsTrue, Some, length, map, slice_get, slice_index}
 use Rattle.net_model.specs.Demands.{demand_count}
 use Rattle.net_model.specs.Flows.{IsFlow, IsLeastSide, crossing, flow_network}
 use Rattle.net_model.specs.Lists.{is_rising}
@@ -23,10 +23,14 @@ pub record IsCertificate (net : Net) (cert : Cert) : Type 0 where
   pub cut_value : length cert.cut ≡ cert.value
   pub rising : IsTrue (is_rising (map (λ path. slice_index path 0) cert.paths))
 
+-- each is that of a demand: the first of the demand of this number, and so on in order
+pub record AreCertificatesFrom (net : Net) (first : ℕ) (certs : List Cert) : Type 0 where
+  pub at : (place : ℕ) (cert : Cert) → slice_get certs place ≡ Some cert → IsCertificate net cert × (cert.demand ≡ demand_of net (first + place))
+
 -- one for each demand, in order
 pub record AreCertificates (net : Net) (certs : List Cert) : Type 0 where
   pub each_demand : length certs ≡ demand_count net
-  pub at : (number : ℕ) (cert : Cert) → slice_get certs number ≡ Some cert → IsCertificate net cert × (cert.demand ≡ demand_of net number)
+  pub are : AreCertificatesFrom net 0 certs
 
 -- some certificate has that value, and none has a smaller one
 pub record IsLeastValue (certs : List Cert) (value : ℕ) : Type 0 where

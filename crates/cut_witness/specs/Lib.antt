@@ -1,3 +1,2 @@
 pub mod Certificate
 pub mod CertificateLaws
-pub mod Runs

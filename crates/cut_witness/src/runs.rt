@@ -1,9 +1,8 @@
 //! The demands of a network, cut into runs.
-ghost use Rattle.std.specs.Prelude.{◌≡◌, ◌<◌, ◌≤◌, ◌*◌, ◌/◌, ℕ, IfOk, OnOk, List, length};
+ghost use Rattle.std.specs.Prelude.{◌≡◌, ◌<◌, ◌≤◌, ◌+◌, ◌*◌, ◌/◌, ℕ, IfOk, List, length};
 ghost use Rattle.counted_steps.specs.Steps.{RoseByAtMost};
 ghost use Rattle.failure_patterns.specs.UsedField.{pair_demands};
-ghost use Rattle.cut_witness.specs.Certificate.{AreCertificates, IsCertificate, IsDemand};
-ghost use Rattle.cut_witness.specs.Runs.{AreFirstCertificates};
+ghost use Rattle.cut_witness.specs.Certificate.{AreCertificates, AreCertificatesFrom, IsCertificate, IsDemand};
 ghost use Rattle.link_chains.specs.Wiring.{IsWiring};
 ghost use Rattle.net_model.specs.Demands.{demand_count};
 ghost use Rattle.net_model.specs.Flows.{IsCut, flow_network};
@@ -66,7 +65,8 @@ pub fn certify_runs<G: Gate>(
         gate.enter(run);
         let from = run_start(run, runs, count);
         let to = run_start(run + 1, runs, count);
-        certify_run::<Brand>(alloc, net, wiring, from, to, &mut certs, Blank::new(1))?;
+        let mut made = certify_run::<Brand>(alloc, net, wiring, from, to, Blank::new(1))?;
+        certs.append(&mut made)?;
     }
     Ok(certs)
 }
@@ -80,29 +80,29 @@ fn run_start(run: u32, runs: u32, count: u64) -> u64
     run as u64 * count / runs as u64
 }
 
-// Appends the certificates of the demands of one run to those of the demands before it.
+// The certificates of the demands of one run: from one number on and below another.
 fn certify_run<L: Ledger>(
     alloc: Global,
     net: &Net,
     wiring: &Wiring,
     from: u64,
     to: u64,
-    certs: &mut Vec<Cert>,
     blank: Blank,
-) -> Result<(), AllocError>
+) -> Result<Vec<Cert>, AllocError>
     requires wiring { IsWiring net.now.links (length net.now.nodes) wiring.now }
-    requires before { AreFirstCertificates net.now from certs.old.items }
     requires ordered { from ≤ to }
     requires within { to ≤ demand_count net.now }
     requires name { blank.name ≡ L.name }
     requires parts { blank.parts ≡ L.parts }
     requires some_part { 0 < blank.parts }
-    ensures { OnOk result (AreFirstCertificates net.now to certs.new.items) }
+    ensures count { IfOk result (λ certs. from + length certs.items ≡ to) }
+    ensures certificates { IfOk result (λ certs. AreCertificatesFrom net.now from certs.items) }
 {
+    let mut certs = Vec::with_capacity(alloc, (to - from) as usize)?;
     let mut steps = Steps::<L>::start(blank);
     for number in from..to {
         let cert = certify_along(alloc, net, wiring, demand_at(net, number), &mut steps)?;
         certs.push(cert)?;
     }
-    Ok(())
+    Ok(certs)
 }

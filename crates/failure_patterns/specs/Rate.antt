@@ -1,4 +1,4 @@
--- The rate of a network: the least size of a least cut, over its demands.
+-- The rate of a network: the least size of a least cut, over its demands; and the first demand with such a size.
 use Rattle.std.specs.Prelude.{◌≡◌, ◌<◌, ◌≤◌, ℕ, List, length}
 use Rattle.net_model.specs.Demands.{demand_count}
 use Rattle.net_model.specs.Flows.{IsLeastCut, flow_network}
@@ -13,3 +13,10 @@ HasLeastCut net number size = (cut : List ℕ) × IsLeastCut (flow_network net (
 pub record IsRate (net : Net) (rate : ℕ) : Type 0 where
   pub demand : (number : ℕ) × (number < demand_count net) × HasLeastCut net number rate
   pub least : (number size : ℕ) → number < demand_count net → HasLeastCut net number size → rate ≤ size
+
+-- the first demand whose least cut has a size of which this holds, and that size
+pub record IsFirstWith (net : Net) (P : ℕ → Type 0) (demand size : ℕ) : Type 0 where
+  pub within : demand < demand_count net
+  pub has : HasLeastCut net demand size
+  pub holds : P size
+  pub first : (earlier other : ℕ) → earlier < demand → HasLeastCut net earlier other → ¬ P other

@@ -35,7 +35,7 @@ order_once net order is acyclic = subst (HasEachOnce (length net.links)) (sym is
 pub enough_paths : (net : Net) (certs : List Cert) (rate : ℕ) → AreCertificates net certs → IsLeastValue certs rate → All (λ cert. rate ≤ length cert.paths) certs
 enough_paths net certs rate are least = λ k d within.
     let there = slice_get-get_or certs k d within in
-    omega (arith, least.least k (get_or certs k d) there, (are.at k (get_or certs k d) there).0.paths_value)
+    omega (arith, least.least k (get_or certs k d) there, (are.are.at k (get_or certs k d) there).0.paths_value)
 
 -- each demand has few routes
 pub few_routes : (net : Net) (certs : List Cert) (order : List ℕ) (rate : ℕ) → AreCertificates net certs → All (λ cert. rate ≤ length cert.paths) certs → rate ≤ 32 → All (λ paths. length paths ≤ 32) (routes_of_certs order rate certs)
@@ -76,7 +76,9 @@ module _ (net new : Net) (certs : List Cert) (order : List ℕ) (rate : ℕ) (ki
     certified = are;
     network = subst (λ order. IsRenumbered order (choice_of kind) net code.net) order_is (subst (IsRenumbered order (choice_of kind) net) (sym of_net) renumbered);
     over = of_field;
-    rate = subst (IsLeastValue certs) (sym of_rate) least;
+    least = rate;
+    is_least = least;
+    rate = of_rate;
     accepted = filled.accepted code of_net of_rate of_field of_operands of_decoders;
     of_paths = λ link below.
         let of_hops : All (IsOfHop routes link) (slice_index_or operands link []) = filled.of_hops link (omega (arith, new_count)) in

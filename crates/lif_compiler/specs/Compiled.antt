@@ -73,6 +73,8 @@ pub record IsCompiled (net : Net) (field : FieldKind) (code : Code) (certs : Lis
   pub certified : AreCertificates net certs
   pub network : IsRenumbered (order_of net.links) (choice_of field) net code.net
   pub over : code.field ≡ field
-  pub rate : IsLeastValue certs code.rate
+  pub least : ℕ
+  pub is_least : IsLeastValue certs least
+  pub rate : code.rate ≡ least
   pub accepted : IsAccepted code
   pub of_paths : (link : ℕ) → link < length net.links → All (IsOfPaths (order_of net.links) certs code link) (operands_at code.operands link)

@@ -1,4 +1,5 @@
 pub mod Compiled
+pub mod CompiledLaws
 pub mod Refused
 pub mod RefusedLaws
 pub mod RatingLaws

@@ -93,7 +93,7 @@ module _ (net new : Net) (certs : List Cert) (order : List ℕ) (rate : ℕ) (ch
           printed = record { demand = demand; cert = cert; of_demand = found.1; of_first = below; path_there = slice_get-get_or cert.paths number [] there };
           whole = sym (length-map path (new_number order)) ∙ sym (ap length is);
           old = λ place inside.
-              let link : slice_index path place < length net.links = IsFlow-below (flow_network net cert.demand) cert.paths (are.at demand cert found.1).0.flow number [] there place 0 inside in
+              let link : slice_index path place < length net.links = IsFlow-below (flow_network net cert.demand) cert.paths (are.are.at demand cert found.1).0.flow number [] there place 0 inside in
               sym (ap (λ (route : List ℕ). old_number order (slice_index route place)) is ∙ ap (old_number order) (get_or-map (new_number order) path place 0 0 inside) ∙ old-new once (slice_index path place) link);
         },
       )

@@ -5,7 +5,7 @@ use Rattle.net_model.specs.Flows.{IsLeastSide, flow_network}
 use Rattle.net_model.specs.Walks.{IsAcyclic}
 use Rattle.net_model.specs.declared.net.Net.{Net}
 use Rattle.failure_patterns.specs.Demands.{demand_of}
-use Rattle.failure_patterns.specs.Rate.{HasLeastCut, IsRate}
+use Rattle.failure_patterns.specs.Rate.{IsFirstWith, IsRate}
 use Rattle.topo_order.specs.Order.{IsShownCycle}
 use Rattle.topo_order.specs.declared.refusal.OrderRefusal.{OrderRefusal}
 use Rattle.topo_order.specs.declared.refusal.OrderRefusal.TheVariants as of_links
@@ -17,12 +17,6 @@ abbrev pub of_order : OrderRefusal → CompileRefusal
 of_order (of_links.Cyclic links) = Cyclic links
 of_order of_links.OutOfMemory = OutOfMemory
 
--- the first demand with a least cut of this size
-pub record IsFirstWithCut (net : Net) (size demand : ℕ) : Type 0 where
-  pub within : demand < demand_count net
-  pub has : HasLeastCut net demand size
-  pub first : (earlier : ℕ) → earlier < demand → ¬ HasLeastCut net earlier size
-
 -- the network has no cycle, and at most so many demands
 pub record IsServed (net : Net) (most : ℕ) : Type 0 where
   pub acyclic : IsAcyclic net.links
@@ -30,14 +24,14 @@ pub record IsServed (net : Net) (most : ℕ) : Type 0 where
 
 -- the rate is 0: the first demand that shows it, and its least side
 pub record IsZeroRate (net : Net) (demand : ℕ) (side : List Bool) : Type 0 where
-  pub first : IsFirstWithCut net 0 demand
+  pub first : IsFirstWith net (λ size. size ≡ 0) demand 0
   pub least_side : IsLeastSide (flow_network net (demand_of net demand)) side
 
 -- the rate is above 32: the first demand that shows it, and its least cut's size
 pub record IsRateOver (net : Net) (demand least : ℕ) : Type 0 where
   pub over : 32 < least
   pub rate : IsRate net least
-  pub first : IsFirstWithCut net least demand
+  pub first : IsFirstWith net (λ size. size ≡ least) demand least
 
 -- what a refusal for its rate says of a network; no other kind of refusal is one
 abbrev pub IsBadRate : Net → CompileRefusal → Type 0

@@ -2,25 +2,17 @@
 use Rattle.std.specs.Prelude.{◌≡◌, ◌<◌, ◌≤◌, ℕ, Bool, List}
 use Rattle.std.proofs.Common.{sym, subst, arith}
 use Rattle.failure_patterns.specs.Demands.{demand_of}
-use Rattle.failure_patterns.specs.Rate.{IsRate}
-use Rattle.failure_patterns.specs.RateLaws.{IsRate-unique}
-use Rattle.lif_compiler.specs.Refused.{IsFirstWithCut, IsRateOver, IsZeroRate}
+use Rattle.failure_patterns.specs.Rate.{IsFirstWith, IsRate}
+use Rattle.failure_patterns.specs.RateLaws.{IsFirstWith-unique, IsRate-unique}
+use Rattle.lif_compiler.specs.Refused.{IsRateOver, IsZeroRate}
 use Rattle.net_model.specs.FlowLaws.{IsLeastSide-unique}
 use Rattle.net_model.specs.Flows.{IsLeastSide, flow_network}
 use Rattle.net_model.specs.declared.net.Net.{Net}
 
-first_below : (a b : ℕ) → ¬ (a < b) → ¬ (b < a) → a ≡ b
-first_below a b h k = omega arith
-
--- there is one first demand with a least cut of a size
-pub IsFirstWithCut-unique : (net : Net) (size demand other : ℕ) → IsFirstWithCut net size demand → IsFirstWithCut net size other → demand ≡ other
-IsFirstWithCut-unique net size demand other one two =
-    first_below demand other (λ before. two.first demand before one.has) (λ before. one.first other before two.has)
-
 -- a rate of 0 shows one demand and one side
 pub IsZeroRate-unique : (net : Net) (demand other : ℕ) (side beside : List Bool) → IsZeroRate net demand side → IsZeroRate net other beside → (demand ≡ other) × (side ≡ beside)
 IsZeroRate-unique net demand other side beside one two =
-    let same = IsFirstWithCut-unique net 0 demand other one.first two.first in
+    let same = (IsFirstWith-unique net (λ size. size ≡ 0) demand 0 other 0 one.first two.first).0 in
     let there : IsLeastSide (flow_network net (demand_of net demand)) beside = subst (λ d. IsLeastSide (flow_network net (demand_of net d)) beside) (sym same) two.least_side in
     (same, IsLeastSide-unique (flow_network net (demand_of net demand)) side beside one.least_side there)
 
@@ -28,7 +20,8 @@ IsZeroRate-unique net demand other side beside one two =
 pub IsRateOver-unique : (net : Net) (demand other least beside : ℕ) → IsRateOver net demand least → IsRateOver net other beside → (demand ≡ other) × (least ≡ beside)
 IsRateOver-unique net demand other least beside one two =
     let same = IsRate-unique net least beside one.rate two.rate in
-    (IsFirstWithCut-unique net least demand other one.first (subst (λ size. IsFirstWithCut net size other) (sym same) two.first), same)
+    let there : IsFirstWith net (λ size. size ≡ least) other least = subst (λ wanted. IsFirstWith net (λ size. size ≡ wanted) other wanted) (sym same) two.first in
+    ((IsFirstWith-unique net (λ size. size ≡ least) demand least other least one.first there).0, same)
 
 -- where the rate is 0, none is greater
 pub IsZeroRate-only : (net : Net) (rate demand : ℕ) (side : List Bool) → IsRate net rate → 0 < rate → IsZeroRate net demand side → ⊥

@@ -9,6 +9,7 @@ use Rattle.std.proofs.lemmas.List.Elements.{All-from_get_or, All-take, All-weake
 use Rattle.std.proofs.lemmas.List.Folds.{concat-append, list_any-append}
 use Rattle.std.proofs.lemmas.Option.{get_or_from_slice_get, slice_get-get_or, slice_get-map, slice_get_cases, unwrap_or-slice_get}
 use Rattle.cut_witness.specs.Certificate.{AreCertificates}
+use Rattle.cut_witness.specs.CertificateLaws.{AreCertificates-at}
 use Rattle.cut_witness.specs.declared.cert.Cert.{Cert}
 use Rattle.failure_patterns.specs.Demands.{demand_of}
 use Rattle.net_model.specs.Demands.{demand_count}
@@ -45,7 +46,7 @@ IsFlow-below network paths is = All-weaker (IsPath network) (All (λ link. link 
 pub AreCertificates-below : (net : Net) (certs : List Cert) → AreCertificates net certs → All (λ cert. All (All (λ link. link < length net.links)) cert.paths) certs
 AreCertificates-below net certs are number none within =
     let cert = get_or certs number none in
-    IsFlow-below (flow_network net cert.demand) cert.paths (are.at number cert (slice_get-get_or certs number none within)).0.flow
+    IsFlow-below (flow_network net cert.demand) cert.paths (are.are.at number cert (slice_get-get_or certs number none within)).0.flow
 
 -- the routes of the demands of a network, by its certificates
 module _ (net : Net) (certs : List Cert) (order : List ℕ) (rate : ℕ) (are : AreCertificates net certs) where
@@ -68,7 +69,7 @@ module _ (net : Net) (certs : List Cert) (order : List ℕ) (rate : ℕ) (are : 
   IsFlow-routes once number within =
       let found = cert_of number within in
       let cert = found.0 in
-      let good = are.at number cert found.1 in
+      let good = AreCertificates-at net certs are number cert found.1 in
       let network = flow_network net (demand_of net number) in
       let flow : IsFlow network cert.paths = subst (λ demand. IsFlow (flow_network net demand) cert.paths) good.1 good.0.flow in
       subst (IsFlow (renumbered_network network order)) (sym (routes_there number cert found.1)) (IsFlow-new network once (take rate cert.paths) (IsFlow-take network rate cert.paths flow))
