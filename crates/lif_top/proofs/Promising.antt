@@ -5,13 +5,12 @@ use Rattle.std.proofs.lemmas.Bool.{false≢true}
 use Rattle.lif_outside.specs.declared.sink.Sink.{Ghosts as SinkGhosts}
 use Rattle.lif_outside.specs.declared.store.Store.{Ghosts as StoreGhosts}
 use Rattle.lif_outside.specs.Accounts.{SinkAccounts, StoreAccounts}
-use Rattle.lif_outside.specs.Calls.{Calls, Does, MakesPuts, Objects, store_calls}
-use Rattle.lif_outside.specs.DeedLaws.{Accounted-from_calls}
+use Rattle.lif_outside.specs.Calls.{Calls, MakesPuts, Objects, store_calls}
 use Rattle.lif_outside.specs.Events.{Event}
 use Rattle.lif_outside.specs.Puts.{Put}
-use Rattle.top_base.specs.Outcome.{Concludes, SaysOutcome, status_unsaid}
-use Rattle.top_base.specs.Performs.{Behaviour, Performs, RunsOnStore}
-use Rattle.top_base.specs.PerformingLaws.{IsKnown, at_once_known, performs}
+use Rattle.top_base.specs.Outcome.{SaysOutcome, status_unsaid}
+use Rattle.top_base.specs.Performs.{RunsOnStore}
+use Rattle.top_base.specs.PerformingLaws.{IsKnown, at_once_known, performs_said}
 use Rattle.top_base.specs.Words.{Command, check, command_of, compile, cuts, order, send}
 use Rattle.top_base.specs.declared.outcome.Outcome.{Outcome}
 use Rattle.top_base.specs.declared.status.Status.{Status}
@@ -59,23 +58,12 @@ usage_of None outcome status calls puts runs says = ((λ is. refl), (λ none. sa
 usage_of (Some command) outcome status calls puts runs says =
     ((λ is. absurd (said_used outcome status puts (command_used command outcome calls runs) says is)), (λ none. absurd (cc)))
 
--- what is promised of what the words do, by its calls and the puts of its line
-module _ {S C : Type 0} {g : StoreGhosts S} {h : SinkGhosts C} (words : List (List ℕ)) (o : Objects g h) (status : Status)
-    (store_accounts : (events : List Event) → g.calls events o.store_old o.store_new → StoreAccounts g.files g.read_faults g.write_faults g.made events o.store_old o.store_new)
-    (say_accounts : (puts : List Put) → h.puts puts o.say_old o.say_new → SinkAccounts h.written h.faults puts o.say_old o.say_new) where
-  -- of any of what a command does
-  pub performs_said : (does : Behaviour) → IsKnown does → (outcome : Outcome) → RunsOnStore g does o.store_old o.store_new outcome → MakesPuts h o.say_old o.say_new (SaysOutcome outcome status) → Performs does o status
-  performs_said does known outcome calls puts =
-      let done : Does o (Concludes does.runs status) = record {
-        deeds = record { calls = store_calls calls.made; puts = puts.made };
-        on_store = calls.lead;
-        on_say = puts.lead;
-        holds = record { outcome = outcome; runs = calls.holds; says = puts.holds };
-      } in
-      performs does known o status done (Accounted-from_calls o done.deeds (store_accounts calls.made calls.lead) (say_accounts puts.made puts.lead))
-
-  pub promises : (outcome : Outcome) → RunsOnStore g (does_form (command_of words)) o.store_old o.store_new outcome → MakesPuts h o.say_old o.say_new (SaysOutcome outcome status) → Promises words o status
-  promises outcome calls puts = record {
-    usage = usage_of (command_of words) outcome status (store_calls calls.made) puts.made calls.holds puts.holds;
-    performed = performs_said (does_form (command_of words)) (form_known (command_of words)) outcome calls puts;
-  }
+-- what is promised of the words, by the calls and the puts of their line
+pub promises : {S C : Type 0} {g : StoreGhosts S} {h : SinkGhosts C} (words : List (List ℕ)) (o : Objects g h) (status : Status)
+    → ((events : List Event) → g.calls events o.store_old o.store_new → StoreAccounts g.files g.read_faults g.write_faults g.made events o.store_old o.store_new)
+    → ((puts : List Put) → h.puts puts o.say_old o.say_new → SinkAccounts h.written h.faults puts o.say_old o.say_new)
+    → (outcome : Outcome) → RunsOnStore g (does_form (command_of words)) o.store_old o.store_new outcome → MakesPuts h o.say_old o.say_new (SaysOutcome outcome status) → Promises words o status
+promises words o status store_accounts say_accounts outcome calls puts = record {
+  usage = usage_of (command_of words) outcome status (store_calls calls.made) puts.made calls.holds puts.holds;
+  performed = performs_said o status store_accounts say_accounts (does_form (command_of words)) (form_known (command_of words)) outcome calls puts;
+}

@@ -3,7 +3,7 @@ use Rattle.std.specs.Prelude.{◌≡◌, ◌⊎◌, ℕ, List, Option, Result, E
 use Rattle.lif_outside.specs.Events.{Event}
 use Rattle.lif_outside.specs.Files.{Holds}
 use Rattle.code_checker.specs.Checking.{FailsFirst}
-use Rattle.code_file.specs.Items.{bytes_of}
+use Rattle.code_file.specs.Items.{IsFileOf}
 use Rattle.code_file.specs.Reading.{contents_of}
 use Rattle.node_program.specs.Decoding.{IsAccepted}
 use Rattle.node_program.specs.declared.code.Code.{Code}
@@ -16,10 +16,6 @@ use Rattle.top_base.specs.declared.status.Status.TheVariants.{CodeRefused, Check
 -- the greatest length of a code file
 abbrev pub code_limit : ℕ
 code_limit = 268435456
-
--- these bytes are the file of this code
-abbrev pub IsFileOf : List ℕ → Code → Type 0
-IsFileOf bytes code = bytes ≡ bytes_of code
 
 -- the bytes are the file of this code, and it is accepted
 pub record IsCodeOf (bytes : List ℕ) (code : Code) : Type 0 where

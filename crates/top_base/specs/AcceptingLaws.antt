@@ -31,7 +31,7 @@ same_entry size rows i j found k l other one two =
 -- the first demand that fails
 not_earlier : (code : Code) (demand i j found demand' k l other : ℕ) → FailsFirst code demand i j found → FailsFirst code demand' k l other → ¬ (demand < demand')
 not_earlier code demand i j found demand' k l other one two lt =
-    one.entry.differs (one.entry.value ∙ ap (λ (rows : List (List ℕ)). entry_at rows i j) (two.before demand lt))
+    one.entry.differs (one.entry.value ∙ ap (λ (rows : List (List ℕ)). entry_at rows i j) (two.before demand one.from_on lt))
 
 -- the first demand that fails, and its first entry
 same_fails : (code : Code) (demand i j found demand' k l other : ℕ) → FailsFirst code demand i j found → FailsFirst code demand' k l other

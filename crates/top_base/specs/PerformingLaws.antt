@@ -4,18 +4,20 @@ use Rattle.std.specs.Prelude.{◌⊎◌, Option, IsTrue, IsFalse}
 use Rattle.std.proofs.lemmas.Bool.{false≢true}
 use Rattle.lif_outside.specs.declared.sink.Sink.{Ghosts as SinkGhosts}
 use Rattle.lif_outside.specs.declared.store.Store.{Ghosts as StoreGhosts}
-use Rattle.lif_outside.specs.Calls.{Calls, Deeds, Does, Objects, Outside, outside_after, outside_before}
-use Rattle.lif_outside.specs.DeedLaws.{Accounted}
+use Rattle.lif_outside.specs.Accounts.{SinkAccounts, StoreAccounts}
+use Rattle.lif_outside.specs.Calls.{Calls, Deeds, Does, MakesPuts, Objects, Outside, outside_after, outside_before, store_calls}
+use Rattle.lif_outside.specs.DeedLaws.{Accounted, Accounted-from_calls}
+use Rattle.lif_outside.specs.Events.{Event}
 use Rattle.lif_outside.specs.FaultLaws.{HaveFailed}
 use Rattle.lif_outside.specs.Files.{Files}
-use Rattle.lif_outside.specs.Puts.{SaysAll, SaysPart}
+use Rattle.lif_outside.specs.Puts.{Put, SaysAll, SaysPart}
 use Rattle.lif_outside.specs.PutLaws.{says_all-grow, says_part-grow, says_part-failed, says_part-there}
 use Rattle.lif_outside.specs.Told.{Told}
 use Rattle.lif_outside.specs.ToldLaws.{becomes_weaker}
 use Rattle.top_base.specs.Causes.{HasCauses}
 use Rattle.top_base.specs.LeavingLaws.{keep_files, none_keep}
 use Rattle.top_base.specs.Outcome.{AddsOutcome, AreAlike, Concludes, SaysOutcome, SaysWell, any_cycle, fault_line, is_fault, is_of_inputs, status_unsaid}
-use Rattle.top_base.specs.Performs.{Answers, Behaviour, Decision, IsDue, IsDueAsTold, Leaves, Performs, at_once, by_files, by_words}
+use Rattle.top_base.specs.Performs.{Answers, Behaviour, Decision, IsDue, IsDueAsTold, Leaves, Performs, RunsOnStore, at_once, by_files, by_words}
 use Rattle.top_base.specs.declared.outcome.Outcome.{Outcome}
 use Rattle.top_base.specs.declared.status.Status.{Status}
 use Rattle.top_base.specs.declared.status.Status.TheVariants.{Done, NetRefused, ReadFault, WriteFault, OutOfMemory, LinkFault}
@@ -223,3 +225,17 @@ at_once_known expected no_fault line = record {
   alike = λ one other is is'. ap (λ (o : Outcome). any_cycle o.status) (is ∙ sym is');
   faultless = λ due outcome calls before after is runs change well. subst (λ (o : Outcome). IsFalse (is_fault o.status)) (sym runs.0) no_fault;
 }
+
+-- what is promised of a command that works on the store alone, by its calls and the puts of its line
+pub performs_said : {S C : Type 0} {g : StoreGhosts S} {h : SinkGhosts C} (o : Objects g h) (status : Status)
+    → ((events : List Event) → g.calls events o.store_old o.store_new → StoreAccounts g.files g.read_faults g.write_faults g.made events o.store_old o.store_new)
+    → ((puts : List Put) → h.puts puts o.say_old o.say_new → SinkAccounts h.written h.faults puts o.say_old o.say_new)
+    → (command : Behaviour) → IsKnown command → (outcome : Outcome) → RunsOnStore g command o.store_old o.store_new outcome → MakesPuts h o.say_old o.say_new (SaysOutcome outcome status) → Performs command o status
+performs_said o status store_accounts say_accounts command of_command outcome calls puts =
+    let done : Does o (Concludes command.runs status) = record {
+      deeds = record { calls = store_calls calls.made; puts = puts.made };
+      on_store = calls.lead;
+      on_say = puts.lead;
+      holds = record { outcome = outcome; runs = calls.holds; says = puts.holds };
+    } in
+    performs command of_command o status done (Accounted-from_calls o done.deeds (store_accounts calls.made calls.lead) (say_accounts puts.made puts.lead))

@@ -1,6 +1,7 @@
 use Rattle.std.proofs.Common.{ap, ◌∙◌}
 use Rattle.code_file.specs.Items.{bytes_of}
 use Rattle.node_program.specs.Code.{choice_of}
+use Rattle.report_text.specs.Report.{report_of}
 use Rattle.top_base.specs.Lines.{compiled_line}
 use Rattle.top_tools.proofs.MadeLaws.{same_count}
 use Rattle.top_tools.proofs.making.of_code.Goals as goal
@@ -12,12 +13,13 @@ returns c = λ given.
     let net = c.args.net.now in
     let code = c.args.code.now in
     let report = c.in_ok-report_of.field-0.items in
+    let certs = c.args.certs.now in
     record {
       field = code.field;
       served = c.requires.served;
       code = code;
-      certs = c.args.certs.now;
+      certs = certs;
       compiled = c.requires.compiled;
-      files_are = ap (λ bytes. files_of given bytes report) c.in_ok-write_code.ensures ∙ ap (λ text. files_of given (bytes_of code) text) c.in_ok-report_of.ensures;
+      files_are = ap (λ bytes. files_of given bytes report) c.in_ok-write_code.ensures ∙ ap (files_of given (bytes_of code)) (c.in_ok-report_of.ensures ∙ ap (λ rate. report_of net rate certs) c.requires.compiled.rate);
       line_is = c.compiled.ensures ∙ ap (compiled_line code.rate code.field) (same_count (order_of net.links) (choice_of code.field) net code.net c.requires.compiled.network);
     }

@@ -10,4 +10,4 @@ entry-requires c =
     let place = c.loop-cert.cert-index in
     let cert = c.cert-item.result in
     let there = slice_get-get_or certs place cert c.loop-cert-test.true ∙ ap (λ (one : Cert). Some one) (sym c.cert-item.is) in
-    IsPrintable-certificate c.args.net.now cert (c.requires.at place cert there).0
+    IsPrintable-certificate c.args.net.now cert (c.requires.are.at place cert there).0
