@@ -27,7 +27,7 @@ use Rattle.top_base.specs.declared.status.Status.TheVariants.{LinkFault, OutOfMe
 any-keeps : (path place : List ℕ) (limit : ℕ) (calls : List Event) → ReadsAny path limit calls → AllByRecursion (KeepsPath place) calls
 any-keeps path place limit calls any = ⊎_elim (λ some. reads_keep 0 path place calls some.reads) (λ whole. whole_keeps path place limit whole.0 calls whole.1) any
 
-any-unfailed : (path : List ℕ) (limit : ℕ) (calls : List Event) → ReadsAny path limit calls → HaveFailed false false calls
+pub any-unfailed : (path : List ℕ) (limit : ℕ) (calls : List Event) → ReadsAny path limit calls → HaveFailed false false calls
 any-unfailed path limit calls any = ⊎_elim (λ some. reads_unfailed 0 path calls some.reads) (λ whole. whole_unfailed path limit whole.0 calls whole.1) any
 
 -- a file that was read whole

@@ -10,6 +10,7 @@ use Rattle.lif_outside.specs.SequenceLaws.{then_join}
 use Rattle.lif_top.proofs.SendCalls.{delivered, no_source, same_deliveries, unwritten, write_fault}
 use Rattle.lif_top.proofs.Turning.{created_there}
 use Rattle.top_base.specs.Given.{given_in}
+use Rattle.top_base.specs.Lines.{sent_line}
 use Rattle.lif_top.specs.Send.Given.{source_limit}
 use Rattle.lif_top.specs.Send.Ready.{AreCounts, paths_of}
 use Rattle.lif_top.specs.Send.Runs.{RunsCode}
@@ -49,7 +50,7 @@ returns-in-Ok-carry_source g c =
     (calls_then g.met.S.Store.more_calls _ _ _ c.in-Ok.ensures.created
     (calls_then g.met.S.Store.more_calls Reads Writes (Then Reads Writes) c.in-Ok-read_whole.ensures.whole c.in-Ok-carry_source.ensures.delivered (λ reads writes one other. then_join Reads Writes reads writes one other))
     (λ first later one both.
-    subst (λ calls. RunsCode send code Done _ (first ++ calls)) (sym both.events_are)
+    subst (λ calls. RunsCode send code Done (sent_line counts.bytes counts.generations counts.sinks) (first ++ calls)) (sym both.events_are)
     (delivered send code c.requires.clear first (one ∙ ap creates_of c.requires.paths) source both.first both.later both.holds_first counts are
     (both.holds_later ∙ same_deliveries send code paths other c.deref.result.now source both.first c.requires.paths c.requires.at_work c.deref.ensures.value both.holds_first))))
 
