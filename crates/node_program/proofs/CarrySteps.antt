@@ -1,6 +1,7 @@
 -- How a link's row is made what the link carries, one operand after another.
-use Rattle.std.proofs.Common.{◌≡◌, ◌≢◌, ℕ, suc, ◌+◌, ◌<◌, Bool, true, false, List, [], length, map, take, replicate, get_or, refl, sym, ap, ◌∙◌, subst, arith, slice_index, slice_set}
+use Rattle.std.proofs.Common.{◌≡◌, ◌≢◌, ℕ, suc, ◌+◌, ◌*◌, ◌<◌, Bool, true, false, List, [], length, map, take, replicate, get_or, refl, sym, ap, ◌∙◌, subst, arith, slice_index, slice_set}
 use Rattle.std.proofs.lemmas.List.{length-map, length-set, get_or-map, get_or-set_same, get_or-set_other, take-map}
+use Rattle.counted_steps.specs.Steps.{RoseBy}
 use Rattle.field_vectors.specs.Elements.{plus_multiple}
 use Rattle.field_vectors.specs.Grid.{Grid, IsMatrix, entry_of, row_of, with_row}
 use Rattle.field_vectors.specs.NumberLaws.{numbers-plus_multiple, numbers-with_sum, numbers-zeros}
@@ -11,7 +12,7 @@ use Rattle.linear_algebra.specs.CombinationLaws.{combination-take_more}
 use Rattle.linear_algebra.specs.Elements.{numbers}
 use Rattle.linear_algebra.specs.RowLaws.{unit_row-IsRow}
 use Rattle.linear_algebra.specs.Rows.{add_rows, scale_row, combination, unit_row}
-use Rattle.node_program.specs.Carried.{source_vector, numbers_at, IsCarried}
+use Rattle.node_program.specs.Carried.{source_vector, numbers_at, IsCarried, carry_steps}
 use Rattle.node_program.specs.declared.Operand.{Operand}
 
 -- a matrix with another row has as many columns
@@ -33,6 +34,23 @@ carried_none field number nil leaves link m none zeros =
       own = ap (numbers number) zeros ∙ numbers-zeros number nil none m.columns;
       others = λ row apart. refl;
     }
+
+-- no operand takes a step
+pub steps_none : (leaves : Bool) (columns old : ℕ) → RoseBy (carry_steps leaves 0 columns) old old
+steps_none true columns old = omega arith
+steps_none false columns old = omega arith
+
+-- nor does one more of a link that leaves the source
+pub steps_same : (leaves : Bool) (k columns old now : ℕ) → leaves ≡ true → RoseBy (carry_steps leaves k columns) old now
+    → RoseBy (carry_steps leaves (k + 1) columns) old now
+steps_same true k columns old now leaving rose = rose
+steps_same false k columns old now leaving rose = cc
+
+-- one more of another link takes a step for each column
+pub steps_more : (leaves : Bool) (k columns width old m now : ℕ) → leaves ≡ false → width ≡ columns → RoseBy (carry_steps leaves k columns) old m
+    → RoseBy width m now → RoseBy (carry_steps leaves (k + 1) columns) old now
+steps_more true k columns width old m now inner wide so_far rose = cc
+steps_more false k columns width old m now inner wide so_far rose = grind arith
 
 -- the sum over the first operands, with one more
 sum_more : (field : FieldKind) (width k : ℕ) (vector : Operand → List ℕ) (operands : List Operand) (d : Operand) → k < length operands

@@ -1,5 +1,5 @@
 -- What a link carries, by the vectors of the links that it reads.
-use Rattle.std.specs.Prelude.{◌≡◌, ◌≢◌, ℕ, Bool, true, false, List, length, map}
+use Rattle.std.specs.Prelude.{◌≡◌, ◌≢◌, ◌*◌, ℕ, Bool, true, false, List, length, map}
 use Rattle.field_vectors.specs.Grid.{Grid, row_of}
 use Rattle.gf_tables.specs.declared.kind.FieldKind.{FieldKind}
 use Rattle.linear_algebra.specs.Elements.{numbers}
@@ -23,3 +23,9 @@ pub record IsCarried {A : Type 0} (field : FieldKind) (number : A → ℕ) (leav
   pub own : numbers_at number new link
       ≡ combination field old.columns (map (λ operand. operand.times) operands) (map (λ operand. source_vector leaves old.columns (numbers_at number old) operand.from) operands)
   pub others : (row : ℕ) → row ≢ link → row_of new row ≡ row_of old row
+
+-- the steps in which a row is made of so many operands, by the columns: a step for each column of each operand's row, and
+-- none where the link leaves the source
+abbrev pub carry_steps : Bool → ℕ → ℕ → ℕ
+carry_steps true operands columns = 0
+carry_steps false operands columns = operands * columns

@@ -35,6 +35,10 @@ module _ (cap sum part a : ℕ) where
   pub times_name_room : sum ≡ min (part * 33) cap → part ≡ min a cap → sum ≡ min (a * 33) cap
   times_name_room is so_far = omega arith
 
+-- the room of lines may be capped before it is added
+pub lines_too : (cap all names lines : ℕ) → all ≡ min (names + min lines cap + 64) cap → all ≡ min (names + lines + 64) cap
+lines_too cap all names lines is = omega arith
+
 -- what holds names, lines of paths and words holds an entry of no more bytes
-pub holds : (cap all names lines length : ℕ) → length ≤ names + lines + 64 → all ≡ min (names + min lines cap + 64) cap → min length cap ≤ all
+pub holds : (cap all names lines length : ℕ) → length ≤ names + lines + 64 → all ≡ min (names + lines + 64) cap → min length cap ≤ all
 holds cap all names lines length short is = omega arith

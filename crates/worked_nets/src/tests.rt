@@ -1,6 +1,7 @@
 //! How a command that takes a network ends, and what it says.
 mod cuts;
 mod orders;
+mod sizes;
 
 use lif_outside::{Call, Fail, MemSink, MemStore, NoGate};
 use lif_top::{Status, lif};

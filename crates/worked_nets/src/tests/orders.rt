@@ -204,7 +204,7 @@ fn texts_of_no_network_are_refused(rt: HostRuntime) -> Result<(), test::Fail> {
 }
 
 // Lines of numbers from 0 on, behind others.
-fn numbered(
+pub(super) fn numbered(
     alloc: Global,
     front: &str,
     before: &str,

@@ -1,5 +1,5 @@
 use Rattle.std.proofs.Common.{refl, ◌∙◌}
-use Rattle.node_program.proofs.CarrySteps.{same_columns, same_height, carried_none, source_added, link_added}
+use Rattle.node_program.proofs.CarrySteps.{same_columns, same_height, carried_none, source_added, link_added, steps_none, steps_same, steps_more}
 use Rattle.node_program.specs.declared.Operand.{Operand}
 use Rattle.node_program.proofs.carrying.carry.Goals as goal
 use Rattle.node_program.proofs.carrying.carry.Goals.{then-leaves, else-leaves}
@@ -11,6 +11,7 @@ loop-operand-init g c =
       height = refl;
       carried = λ kind of_kind.
           carried_none kind g.F.Field.number g.F.Field.zero c.args.leaves c.args.link c.args.vectors.now g.met.F.Field.number_zero c.requires.zeros;
+      ticks = steps_none c.args.leaves c.args.vectors.now.columns _;
     }
 
 pub loop-operand-preserved : goal.loop-operand-preserved
@@ -36,6 +37,7 @@ loop-operand-preserved g c =
                 c.rows-rows.ensures.kept (is.carried kind of_kind)
                 w.at.result w.add-sum.result w.if-leaves.true (c.requires.rows w.if-leaves.true k d more)
                 w.at.ensures.value w.add-sum.ensures.value written;
+            ticks = w.steps-is ∙ steps_same c.args.leaves k old.columns _ _ w.if-leaves.true is.ticks;
           }
       | else-leaves w ↦
           let written = w.vectors-is ∙ w.add_row.ensures.value in
@@ -48,5 +50,6 @@ loop-operand-preserved g c =
                 c.of_number-times.result more c.requires.link below c.of_number-times.ensures.value c.of_number-times.ensures.element
                 c.rows-rows.ensures.kept (is.carried kind of_kind)
                 w.if-leaves.false other.0 other.1 written;
+            ticks = w.steps-is ∙ steps_more c.args.leaves k old.columns m.columns _ _ _ w.if-leaves.false is.columns is.ticks w.add_row.ensures.ticks;
           }
     ]

@@ -25,7 +25,7 @@ loop-link-preserved g c =
           let Reading : List Operand → Type 0 = λ operands. IsCarried code.field number (leaves_source code.net link) operands link old new in
           subst Made (sym w.vectors-is)
           (carried_before number nil code c.args.pattern link old new within (sym c.is_failed.ensures ∙ w.if-not-is_failed.true) before
-          (subst Reading w.operands_of.ensures.value (subst Leaving w.leaves_source-leaves.ensures (w.carry.ensures code.field c.requires.field))))
+          (subst Reading w.operands_of.ensures.value (subst Leaving w.leaves_source-leaves.ensures (w.carry.ensures.carried code.field c.requires.field))))
       | else-not-is_failed w ↦
           subst Made (sym w.vectors-is)
           (failed_before number nil code c.args.pattern link old g.met.F.Field.number_zero within

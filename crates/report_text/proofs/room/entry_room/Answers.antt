@@ -1,10 +1,10 @@
 use Rattle.std.proofs.Common.{◌≡◌, ◌-◌, ◌^◌, min, length, sum_by, ◌+◌, ◌*◌, arith}
 use Rattle.report_text.specs.Report.{entry_text}
-use Rattle.report_text.proofs.Lengths.{added, entry_text-short, holds, times_name_room}
+use Rattle.report_text.proofs.Lengths.{added, entry_text-short, holds, lines_too, times_name_room}
 use Rattle.report_text.proofs.room.entry_room.Goals as goal
 
 pub returns : goal.returns
-returns c = λ net small whole.
+returns c =
     let cert = c.args.cert.now in
     let cap = 2 ^ 64 - 1 in
     let links = sum_by length cert.paths in
@@ -19,5 +19,11 @@ returns c = λ net small whole.
     let of_names : c.saturating_mul.result ≡ min names cap = times_name_room cap c.saturating_mul.result c.saturating_add-names.result (links + cut + side + 2) c.saturating_mul.ensures and_demand in
     let of_paths : c.saturating_mul-paths.result ≡ min lines cap = rw (← c.len-3.ensures) c.saturating_mul-paths.ensures in
     let of_both : c.saturating_add-3.result ≡ min (names + c.saturating_mul-paths.result) cap = added cap c.saturating_add-3.result c.saturating_mul.result names c.saturating_mul-paths.result c.saturating_add-3.ensures of_names in
-    let of_all : c.saturating_add-4.result ≡ min (names + min lines cap + 64) cap = added cap c.saturating_add-4.result c.saturating_add-3.result (names + min lines cap) 64 c.saturating_add-4.ensures (rw (← of_paths) of_both) in
-    holds cap c.saturating_add-4.result names lines (length (entry_text net cert)) (omega (arith, entry_text-short net cert small whole)) of_all
+    let of_all : c.saturating_add-4.result ≡ min (names + lines + 64) cap =
+    lines_too cap c.saturating_add-4.result names lines
+    (added cap c.saturating_add-4.result c.saturating_add-3.result (names + min lines cap) 64 c.saturating_add-4.ensures (rw (← of_paths) of_both)) in
+    record {
+      enough = λ net small whole.
+          holds cap c.saturating_add-4.result names lines (length (entry_text net cert)) (omega (arith, entry_text-short net cert small whole)) of_all;
+      exact = of_all;
+    }
