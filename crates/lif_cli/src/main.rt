@@ -1,9 +1,10 @@
 //! The program: the top call over its words, the files of the system and standard output.
 #![tactic(auto)]
 
-mod appending;
 mod disk;
 mod faults;
+mod files;
+mod kept;
 mod pieces;
 mod run;
 mod say;
@@ -12,7 +13,7 @@ mod tests;
 
 use disk::DiskStore;
 use run::{Words, run};
-use say::StdSay;
+use say::Say;
 use std::io::ErrorKind;
 use std::process::ExitCode;
 use std::rt::Env;
@@ -36,6 +37,6 @@ fn words_or_why<R: Env + AllocGlobal>(rt: &R) -> Words {
 fn main(rt: HostRuntime) -> ExitCode {
     let words = words_or_why(&rt);
     let mut store = DiskStore::new(&rt);
-    let mut say = StdSay::new(&rt);
+    let mut say = Say::new(io::writer(&rt));
     run(&rt, rt.alloc(), words, &mut store, &mut say)
 }
