@@ -69,7 +69,7 @@ impl<'r, R: Files + AllocGlobal> Store for DiskStore<'r, R> {
 
         // What came was read from there in some file that was opened.
         ensures bytes { IfOk result (λ n. (opened : _) × (read : _)
-            × GivesFrom R.File.stream_position R.File.stream_bytes R.File.remaining at (length into.old) (take n into.new) opened read) }
+            × GivesFrom R.File.Seek R.File.Read at (length into.old) (take n into.new) opened read) }
 
         // A fault is counted exactly where the read fails.
         ensures faults_ok { OnOk result (read_faults_of self.new ≡ read_faults_of self.old) }

@@ -78,7 +78,7 @@ pub fn read_at<R: Files>(
     ensures count { IfOk result (λ n. n ≤ length into.old) }
     ensures rest { IfOk result (λ n. drop n into.new ≡ drop n into.old) }
     ensures bytes { IfOk result (λ n. (opened : _) × (read : _)
-        × GivesFrom R.File.stream_position R.File.stream_bytes R.File.remaining at (length into.old) (take n into.new) opened read) }
+        × GivesFrom R.File.Seek R.File.Read at (length into.old) (take n into.new) opened read) }
 {
     let mut file = open(rt, kept, &for_reads(), path)?;
     read_from(&mut file, at, into)

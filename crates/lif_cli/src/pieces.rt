@@ -75,11 +75,12 @@ pub fn read_full<F: Read>(file: &mut F, into: &mut [u8]) -> io::Result<usize>
 pub fn read_from<F: Read + Seek>(file: &mut F, at: u64, into: &mut [u8]) -> io::Result<usize>
     ensures count { IfOk result (λ n. n ≤ length into.old) }
     ensures rest { IfOk result (λ n. drop n into.new ≡ drop n into.old) }
-    ensures bytes { IfOk result (λ n. GivesFrom F.stream_position F.stream_bytes F.remaining at (length into.old) (take n into.new) file.old file.new) }
+    ensures bytes { IfOk result (λ n. GivesFrom F.Seek F.Read at (length into.old) (take n into.new) file.old file.new) }
 
     // Where a file tells its place and its stream, and reads give that: these are its bytes from there on.
-    ensures stream { IfOk result (λ n. ReadsStream F.stream_position F.stream_bytes F.remaining → (was : ℕ) (held : List ℕ)
-        → F.stream_position file.old ≡ Some was → F.stream_bytes file.old ≡ Some held → take n into.new ≡ take (length into.old) (drop at held)) }
+    ensures stream { IfOk result (λ n. ReadsStream F.Seek F.Read → (was : ℕ) (held : List ℕ)
+        → F.stream_position file.old ≡ Some was → F.stream_bytes file.old ≡ Some held
+        → take n into.new ≡ take (length into.old) (drop at held)) }
 {
     move_to(file, at)?;
     read_full(file, into)
