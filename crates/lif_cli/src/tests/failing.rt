@@ -1,5 +1,5 @@
 //! Whole runs over files in memory, of which each call fails in turn: the calls on the store are those of the run in
-//! which none fails, up to the one that failed.
+//! which none fails, up to the one that failed, and nothing comes behind that.
 use super::memory::MemFiles;
 use super::{behind_reads, varied_bytes, words_of};
 use crate::disk::DiskStore;
@@ -183,6 +183,7 @@ fn goes<R: Threads + Sync>(
     let mut say = MemSink::new(alloc, Vec::new(alloc));
     let status = run(rt, alloc, words, &mut store, &mut say);
     store.is_whole()
+        && !files.went_on()
         && goes_as(status, say.bytes(), store.log(), whole)
         && has_files(files, source, status == ExitCode::SUCCESS)
 }

@@ -29,19 +29,37 @@ struct Memory {
     held: RefCell<Vec<Held>>,
     calls: Cell<u64>,
     failing: u64,
+    // Whether a call has failed, and whether more than files being closed came behind it.
+    failed: Cell<bool>,
+    went_on: Cell<bool>,
     open: Cell<usize>,
     most_open: usize,
 }
 
 impl Memory {
-    // Counts a call, which may be the one that fails.
-    fn turn(&self) -> io::Result<()> {
+    // Counts a call, and answers whether it is the one that fails.
+    fn count(&self) -> bool {
         let turn = self.calls.get().saturating_add(1);
         self.calls.set(turn);
-        if turn == self.failing {
+        turn == self.failing
+    }
+
+    // Counts a call, which may be the one that fails.
+    fn turn(&self) -> io::Result<()> {
+        if self.failed.get() {
+            self.went_on.set(true);
+        }
+        if self.count() {
+            self.failed.set(true);
             return Err(io::Error::from(ErrorKind::Other));
         }
         Ok(())
+    }
+
+    // Counts a file that is closed. Nobody is told where that fails.
+    fn close(&self) {
+        let _fails = self.count();
+        self.open.set(self.open.get().saturating_sub(1));
     }
 
     // The number of the file of a path.
@@ -131,6 +149,8 @@ impl MemFiles {
             held: RefCell::new(Vec::new(alloc)),
             calls: Cell::new(0),
             failing,
+            failed: Cell::new(false),
+            went_on: Cell::new(false),
             open: Cell::new(0),
             most_open,
         };
@@ -162,6 +182,11 @@ impl MemFiles {
         }
     }
 
+    /// Whether a file was opened, moved in, read, written or flushed behind a call that failed.
+    pub fn went_on(&self) -> bool {
+        self.memory.went_on.get()
+    }
+
     /// How many calls were made.
     pub fn calls(&self) -> u64 {
         self.memory.calls.get()
@@ -182,8 +207,7 @@ impl Drop for MemFile {
             place: _,
             at: _,
         } = self;
-        let _closed = memory.turn();
-        memory.open.set(memory.open.get().saturating_sub(1));
+        memory.close();
     }
 }
 
