@@ -67,7 +67,8 @@ fn open<R: Files>(
     opened
 }
 
-/// Reads bytes of a file from a place on, and answers how many came: fewer than there is room for only at its end.
+/// Reads bytes of a file from a place on, and answers how many came: fewer than there is room for
+/// only at its end.
 pub fn read_at<R: Files>(
     rt: &R,
     kept: &mut KeptFiles<R::File>,

@@ -8,8 +8,8 @@ use std::alloc::Global;
 use std::io;
 use std::io::Write;
 
-/// How many files are kept open at most.
-pub const MOST_KEPT: usize = 512;
+/// How many files are kept open at most, where the system has handles for them.
+pub const MOST_OPEN: usize = 512;
 
 /// The files that are kept open for bytes at their ends, by their paths.
 #[derive(Drop)]
@@ -49,7 +49,7 @@ impl<F: Drop> KeptFiles<F> {
     fn make_room(&mut self)
         ensures { OnlyCloses self.old self.new }
     {
-        if self.files.len() >= MOST_KEPT {
+        if self.files.len() >= MOST_OPEN {
             self.close_first();
         }
     }
@@ -75,7 +75,8 @@ impl<F: Write + Drop> KeptFiles<F> {
     pub fn append(&mut self, path: &str, bytes: &[u8]) -> Option<io::Result<()>>
         ensures absent { IfNone result (handle_of self.old path.now ≡ None) }
         ensures still { IfNone result (handle_of self.new path.now ≡ None) }
-        ensures gains { IfSome result (λ outcome. OnOk outcome (Gains path.now F.contents bytes.now self.old self.new)) }
+        ensures gains { IfSome result (λ outcome.
+            OnOk outcome (Gains path.now F.contents bytes.now self.old self.new)) }
         ensures closes { IfSome result (λ outcome. OnErr outcome (handle_of self.new path.now ≡ None)) }
         ensures others { KeepsOthers path.now self.old self.new }
     {

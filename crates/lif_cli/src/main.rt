@@ -1,6 +1,9 @@
 //! The program: the top call over its words, the files of the system and standard output.
 #![tactic(auto)]
 
+ghost use Rattle.std.specs.Prelude.{◌≡◌, ◌≢◌};
+ghost use Rattle.std.specs.IoError.{error_kind};
+
 mod disk;
 mod faults;
 mod files;
@@ -25,12 +28,22 @@ fn words<R: Env + AllocGlobal>(rt: &R) -> io::Result<Vec<String>> {
     Ok(words)
 }
 
-/// The same, or why they can't be had.
+/// Why the words can't be had.
+fn why(error: &io::Error) -> Words
+    ensures memory { error_kind error.now ≡ ErrorKind.OutOfMemory → result ≡ Words.NoMemory }
+    ensures text { error_kind error.now ≢ ErrorKind.OutOfMemory → result ≡ Words.NotText }
+{
+    match error.kind() {
+        ErrorKind::OutOfMemory => Words::NoMemory,
+        _ => Words::NotText,
+    }
+}
+
+/// The words, or why they can't be had.
 fn words_or_why<R: Env + AllocGlobal>(rt: &R) -> Words {
     match words(rt) {
         Ok(words) => Words::Given(words),
-        Err(error) if error.kind() == ErrorKind::OutOfMemory => Words::NoMemory,
-        Err(_) => Words::NotText,
+        Err(error) => why(&error),
     }
 }
 
