@@ -255,8 +255,9 @@ fn write_many<R: Files + AllocGlobal>(
 ) -> Result<(), Failed> {
     for path in paths {
         store.create(path)?;
+        store.append(path, path.as_bytes())?;
     }
-    for _round in 0..3 {
+    for _round in 0..2 {
         for path in paths {
             store.append(path, path.as_bytes())?;
         }
