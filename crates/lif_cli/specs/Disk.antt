@@ -1,33 +1,39 @@
--- What a store over the files of the system shows.
+-- What a store over the files of a system shows.
 use Rattle.std.specs.Prelude.{ℕ, List, Option, None}
 use Rattle.lif_outside.specs.Accounts.{StoreAccounts}
 use Rattle.lif_outside.specs.Events.{Event}
 use Rattle.lif_outside.specs.Files.{Files}
 use Rattle.lif_cli.specs.declared.disk.DiskStore.{DiskStore}
+use Rattle.lif_cli.specs.declared.kept.KeptFiles.{KeptFiles}
 
--- how often a read has failed
-abbrev pub read_faults_of : DiskStore → ℕ
-read_faults_of store = store.read_faults
+module _ {R F D : Type 0} where
+  -- the files that are kept open
+  abbrev pub kept_of : DiskStore R F D → KeptFiles F
+  kept_of store = store.kept
 
--- how often a create or an append has failed
-abbrev pub write_faults_of : DiskStore → ℕ
-write_faults_of store = store.write_faults
+  -- how often a read has failed
+  abbrev pub read_faults_of : DiskStore R F D → ℕ
+  read_faults_of store = store.read_faults
 
--- the counts of a path: all paths have one
-abbrev pub path_read_faults : DiskStore → List ℕ → ℕ
-path_read_faults store path = read_faults_of store
+  -- how often a create or an append has failed
+  abbrev pub write_faults_of : DiskStore R F D → ℕ
+  write_faults_of store = store.write_faults
 
-abbrev pub path_write_faults : DiskStore → List ℕ → ℕ
-path_write_faults store path = write_faults_of store
+  -- the counts of a path: all paths have one
+  abbrev pub path_read_faults : DiskStore R F D → List ℕ → ℕ
+  path_read_faults store path = read_faults_of store
 
--- any path may be appended to: where no file is, that is a fault
-abbrev pub any_path : DiskStore → List ℕ → Type 0
-any_path store path = Unit {0}
+  abbrev pub path_write_faults : DiskStore R F D → List ℕ → ℕ
+  path_write_faults store path = write_faults_of store
 
--- it tells nothing of the files
-abbrev pub no_files : DiskStore → Option Files
-no_files store = None
+  -- any path may be appended to: where no file is, that is a fault
+  abbrev pub any_path : DiskStore R F D → List ℕ → Type 0
+  any_path store path = Unit {0}
 
--- calls lead from one state to another where the counts account for them
-abbrev pub calls_on_disk : List Event → DiskStore → DiskStore → Type 0
-calls_on_disk events old new = StoreAccounts no_files path_read_faults path_write_faults any_path events old new
+  -- it tells nothing of the files
+  abbrev pub no_files : DiskStore R F D → Option Files
+  no_files store = None
+
+  -- calls lead from one state to another where the counts account for them
+  abbrev pub calls_on_disk : List Event → DiskStore R F D → DiskStore R F D → Type 0
+  calls_on_disk events old new = StoreAccounts no_files path_read_faults path_write_faults any_path events old new

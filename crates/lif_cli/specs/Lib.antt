@@ -1,3 +1,5 @@
 pub mod Disk
+pub mod Kept
+pub mod Reading
 pub mod Run
 pub mod Say

@@ -1,17 +1,23 @@
--- What a sink over standard output shows.
-use Rattle.std.specs.Prelude.{ℕ, List, Option, None}
+-- What a sink over a writer shows.
+use Rattle.std.specs.Prelude.{ℕ, List, Option}
 use Rattle.lif_outside.specs.Accounts.{SinkAccounts}
 use Rattle.lif_outside.specs.Puts.{Put}
-use Rattle.lif_cli.specs.declared.say.StdSay.{StdSay}
+use Rattle.lif_cli.specs.declared.say.Say.{Say}
 
--- how often a put has failed
-abbrev pub faults_of : StdSay → ℕ
-faults_of say = say.faults
+module _ {W : Type 0} where
+  -- where the bytes go
+  abbrev pub writer_of : Say W → W
+  writer_of say = say.to
 
--- it tells nothing of what was written
-abbrev pub no_bytes : StdSay → Option (List ℕ)
-no_bytes say = None
+  -- how often a put has failed
+  abbrev pub faults_of : Say W → ℕ
+  faults_of say = say.faults
 
--- puts lead from one state to another where the count accounts for them
-abbrev pub puts_on_output : List Put → StdSay → StdSay → Type 0
-puts_on_output puts old new = SinkAccounts no_bytes faults_of puts old new
+  module _ (contents : W → Option (List ℕ)) where
+    -- what the writer holds, where it tells that
+    abbrev pub bytes_of : Say W → Option (List ℕ)
+    bytes_of say = contents (writer_of say)
+
+    -- puts lead from one state to another where the bytes and the count account for them
+    abbrev pub puts_on_writer : List Put → Say W → Say W → Type 0
+    puts_on_writer puts old new = SinkAccounts bytes_of faults_of puts old new

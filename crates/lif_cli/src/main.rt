@@ -1,9 +1,13 @@
 //! The program: the top call over its words, the files of the system and standard output.
 #![tactic(auto)]
 
-mod appending;
+ghost use Rattle.std.specs.Prelude.{◌≡◌, ◌≢◌};
+ghost use Rattle.std.specs.IoError.{error_kind};
+
 mod disk;
 mod faults;
+mod files;
+mod kept;
 mod pieces;
 mod run;
 mod say;
@@ -12,7 +16,7 @@ mod tests;
 
 use disk::DiskStore;
 use run::{Words, run};
-use say::StdSay;
+use say::Say;
 use std::io::ErrorKind;
 use std::process::ExitCode;
 use std::rt::Env;
@@ -24,18 +28,28 @@ fn words<R: Env + AllocGlobal>(rt: &R) -> io::Result<Vec<String>> {
     Ok(words)
 }
 
-/// The same, or why they can't be had.
+/// Why the words can't be had.
+fn why(error: &io::Error) -> Words
+    ensures memory { error_kind error.now ≡ ErrorKind.OutOfMemory → result ≡ Words.NoMemory }
+    ensures text { error_kind error.now ≢ ErrorKind.OutOfMemory → result ≡ Words.NotText }
+{
+    match error.kind() {
+        ErrorKind::OutOfMemory => Words::NoMemory,
+        _ => Words::NotText,
+    }
+}
+
+/// The words, or why they can't be had.
 fn words_or_why<R: Env + AllocGlobal>(rt: &R) -> Words {
     match words(rt) {
         Ok(words) => Words::Given(words),
-        Err(error) if error.kind() == ErrorKind::OutOfMemory => Words::NoMemory,
-        Err(_) => Words::NotText,
+        Err(error) => why(&error),
     }
 }
 
 fn main(rt: HostRuntime) -> ExitCode {
     let words = words_or_why(&rt);
     let mut store = DiskStore::new(&rt);
-    let mut say = StdSay::new(&rt);
+    let mut say = Say::new(io::writer(&rt));
     run(&rt, rt.alloc(), words, &mut store, &mut say)
 }

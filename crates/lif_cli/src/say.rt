@@ -1,76 +1,76 @@
-//! A sink over standard output.
-ghost use Rattle.std.specs.Prelude.{◌≡◌, ◌≤◌, ℕ, ◌∷◌, [], take, OnOk, OnErr};
+//! A sink over a writer, as standard output is.
+ghost use Rattle.std.specs.Prelude.{◌≡◌, ℕ, ◌∷◌, [], take, OnOk, OnErr};
 ghost use Rattle.std.specs.Io.KnownBytes.{Appends};
 ghost use Rattle.lif_outside.specs.AccountLaws.{puts_none, puts_then};
 ghost use Rattle.lif_outside.specs.Counts.{one_more};
 ghost use Rattle.lif_outside.specs.Puts.{put_event};
-ghost use Rattle.lif_cli.specs.Say.{faults_of, no_bytes, puts_on_output};
+ghost use Rattle.lif_cli.specs.Say.{writer_of, faults_of, bytes_of, puts_on_writer};
+
+#[cfg(test)]
+mod tests;
 
 use crate::faults::counted;
 use crate::pieces::write_full;
 use lif_outside::{Failed, Sink};
-use std::io;
-use std::io::Write;
+use std::io::{Print, Printer, Write};
 
-/// Standard output. It tells nothing of what was written.
+/// A writer that tells what it holds in each state or in none.
+pub trait Teller: Write {
+    ghost use Rattle.std.specs.Prelude.{◌≡◌, is_some};
+
+    /// What is told in one state is told in each.
+    ghost steady: { (old new : Self) → is_some (Self.contents new) ≡ is_some (Self.contents old) };
+}
+
+/// Standard output tells nothing of what was written.
+impl<P: Print> Teller for Printer<'_, P> {
+    ghost use Rattle.std.specs.Prelude.{refl};
+
+    ghost steady = { λ old new. refl };
+}
+
+/// A writer as a sink. It tells what was written where the writer does.
 #[derive(Drop)]
-pub struct StdSay<'r> {
-    rt: &'r HostRuntime,
+pub struct Say<W> {
+    to: W,
     faults: u64,
 }
 
-impl<'r> StdSay<'r> {
+impl<W: Teller> Say<W> {
     /// A sink that has had no fault.
-    pub fn new(rt: &'r HostRuntime) -> StdSay<'r>
-        ensures { faults_of result ≡ 0 }
+    pub fn new(to: W) -> Say<W>
+        ensures writer { writer_of result ≡ to }
+        ensures faults { faults_of result ≡ 0 }
     {
-        StdSay { rt, faults: 0 }
+        Say { to, faults: 0 }
     }
 }
 
-/// Writes all bytes to a writer, and counts a fault where that fails. Then a prefix of them was written.
-pub fn put_to<W: Write>(to: &mut W, bytes: &[u8], faults: &mut u64) -> Result<(), Failed>
-    ensures ok { OnOk result (Appends (W.contents to.old) (W.contents to.new) bytes.now) }
-    ensures err { OnErr result ((n : ℕ) × Appends (W.contents to.old) (W.contents to.new) (take n bytes.now)) }
-    ensures faults_ok { OnOk result (faults.new ≡ faults.old) }
-    ensures faults_err { OnErr result (faults.new ≡ one_more faults.old) }
-    ensures later { faults.old ≤ faults.new }
-{
-    counted(write_full(to, bytes), faults)
-}
-
-impl<'r> Sink for StdSay<'r> {
-    ghost written = { no_bytes };
+impl<W: Teller> Sink for Say<W> {
+    ghost written = { bytes_of W.contents };
 
     ghost faults = { faults_of };
 
-    ghost puts = { puts_on_output };
+    ghost puts = { puts_on_writer W.contents };
 
-    ghost no_puts = { puts_none no_bytes faults_of };
+    ghost no_puts = { puts_none (bytes_of W.contents) faults_of };
 
-    ghost more_puts = { puts_then no_bytes faults_of };
+    ghost more_puts = { puts_then (bytes_of W.contents) faults_of };
 
     ghost accounts = { λ _ _ _ h. h };
 
     fn put(&mut self, bytes: &[u8]) -> Result<(), Failed>
-        ensures put { puts_on_output (put_event bytes.now result ∷ []) self.old self.new }
+        ensures put { puts_on_writer W.contents (put_event bytes.now result ∷ []) self.old self.new }
+
+        // All bytes are written, or else a prefix of them was.
+        ensures ok { OnOk result (Appends (bytes_of W.contents self.old) (bytes_of W.contents self.new) bytes.now) }
+        ensures err { OnErr result ((n : ℕ) × Appends (bytes_of W.contents self.old) (bytes_of W.contents self.new) (take n bytes.now)) }
 
         // A fault is counted exactly where the put fails.
         ensures faults_ok { OnOk result (faults_of self.new ≡ faults_of self.old) }
         ensures faults_err { OnErr result (faults_of self.new ≡ one_more (faults_of self.old)) }
     {
-        put_to(&mut io::writer(self.rt), bytes, &mut self.faults)
-    }
-}
-
-#[cfg(test)]
-mod tests {
-    use super::*;
-
-    #[test]
-    fn puts_a_line(rt: HostRuntime) {
-        let mut say = StdSay::new(&rt);
-        assert!(rt; say.put(b"a line of the test\n").is_ok());
-        assert_eq!(rt; say.faults, 0);
+        let outcome = write_full(&mut self.to, bytes);
+        counted(outcome, &mut self.faults)
     }
 }

@@ -2,6 +2,10 @@
 //! file.
 ghost use Rattle.std.specs.Prelude.{◌≤◌, ◌^◌};
 
+mod failing;
+pub mod memory;
+mod words;
+
 use crate::disk::DiskStore;
 use crate::run::{Words, run};
 use lif_outside::MemSink;
@@ -57,9 +61,9 @@ fn bytes_read<'a>(event: &'a Event, path: &str, place: usize) -> Option<&'a [u8]
     }
 }
 
-// Where the log begins with reads of a file that holds these bytes, from its start on without a gap until one gave
-// nothing, what follows them.
-fn behind_reads<'a>(log: &'a [Event], path: &str, held: &[u8]) -> Option<&'a [Event]> {
+/// Where the log begins with reads of a file that holds these bytes, from its start on without a gap until one gave
+/// nothing, what follows them.
+pub fn behind_reads<'a>(log: &'a [Event], path: &str, held: &[u8]) -> Option<&'a [Event]> {
     let mut place = 0usize;
     for (index, event) in log.iter().enumerate() {
         let rest = held.get(place..)?;
@@ -129,17 +133,17 @@ fn has_output(rt: &HostRuntime, source: &[u8]) -> io::Result<bool> {
     Ok(output.as_slice() == source && has_names(rt, &["code", "out.t", "source"])?)
 }
 
-// The words that send the source.
-fn words_of_send(alloc: Global) -> Result<Words, AllocError> {
-    let mut words = Vec::new(alloc);
-    for word in ["send", CODE, "none", "1", SOURCE, PREFIX] {
-        words.push(String::from_str(alloc, word)?)?;
+/// These words.
+pub fn words_of(alloc: Global, words: &[&str]) -> Result<Words, AllocError> {
+    let mut given = Vec::new(alloc);
+    for word in words {
+        given.push(String::from_str(alloc, word)?)?;
     }
-    Ok(Words::Given(words))
+    Ok(Words::Given(given))
 }
 
 // Whether the calls on the disk are those of the source that was sent.
-fn has_delivered(store: &Logged<DiskStore>, source: &[u8]) -> bool {
+fn has_delivered(store: &Logged<DiskStore<HostRuntime>>, source: &[u8]) -> bool {
     store.is_whole() && is_delivery(store.log(), ONE_LINK, source)
 }
 
@@ -148,7 +152,7 @@ fn sends<R: Threads + Sync>(
     rt: &R,
     alloc: Global,
     words: Words,
-    disk: DiskStore,
+    disk: DiskStore<HostRuntime>,
     source: &[u8],
 ) -> bool {
     let mut store = Logged::new(alloc, disk);
@@ -163,7 +167,7 @@ fn sends<R: Threads + Sync>(
 fn a_run_makes_the_promised_calls(rt: HostRuntime) -> Result<(), Fail> {
     let source = varied_bytes(rt.alloc(), 70_000)?;
     assert!(rt; make_folder(&rt, &source)?);
-    let words = words_of_send(rt.alloc())?;
+    let words = words_of(rt.alloc(), &["send", CODE, "none", "1", SOURCE, PREFIX])?;
     assert!(rt; sends(&rt, rt.alloc(), words, DiskStore::new(&rt), &source));
     assert!(rt; has_output(&rt, &source)?, "the output isn't the source");
     fs::remove_dir_all(&rt, FOLDER)?;

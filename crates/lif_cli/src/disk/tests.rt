@@ -1,8 +1,12 @@
 //! What no clause says: what the files of the system hold, and which calls fail.
 use super::*;
+use crate::tests::memory::MemFiles;
 use crate::tests::varied_bytes;
 use std::alloc::{AllocError, Global};
+use std::fs::{OpenFile, OpenOptions};
+use std::io::{Seek, SeekFrom, Write};
 use std::test::Fail;
+use std::{fs, io};
 
 const SEVENS: &[u8] = &[7; 5000];
 
@@ -19,7 +23,8 @@ enum Step {
     Read(&'static str, u32, usize, &'static [u8]),
     CreateFails(&'static str),
     AppendFails(&'static str),
-    ReadFails(&'static str),
+    // From a place on.
+    ReadFails(&'static str, u32),
     // The file is taken from the system.
     Remove(&'static str),
     // So many reads have failed, and so many creates and appends.
@@ -27,7 +32,13 @@ enum Step {
 }
 
 // Whether a read from a place on gives so many bytes, and a buffer of dots is this one then.
-fn gives(store: &mut DiskStore, path: &str, at: u32, count: usize, buffer: &[u8]) -> bool {
+fn gives(
+    store: &mut DiskStore<HostRuntime>,
+    path: &str,
+    at: u32,
+    count: usize,
+    buffer: &[u8],
+) -> bool {
     let mut into = [b'.'; 5000];
     let Some(into) = into.get_mut(..buffer.len()) else {
         return false;
@@ -36,14 +47,14 @@ fn gives(store: &mut DiskStore, path: &str, at: u32, count: usize, buffer: &[u8]
 }
 
 // Whether a step goes as it says.
-fn goes(rt: &HostRuntime, store: &mut DiskStore, step: &Step) -> bool {
+fn goes(rt: &HostRuntime, store: &mut DiskStore<HostRuntime>, step: &Step) -> bool {
     match step {
         Step::Create(path) => store.create(path).is_ok(),
         Step::Append(path, bytes) => store.append(path, bytes).is_ok(),
         Step::Read(path, at, count, buffer) => gives(store, path, *at, *count, buffer),
         Step::CreateFails(path) => store.create(path).is_err(),
         Step::AppendFails(path) => store.append(path, b"d").is_err(),
-        Step::ReadFails(path) => store.read(path, 0, &mut [0; 3]).is_err(),
+        Step::ReadFails(path, at) => store.read(path, *at as u64, &mut [0; 3]).is_err(),
         Step::Remove(path) => fs::remove_file(rt, path).is_ok(),
         Step::Faults(reads, writes) => {
             store.read_faults == *reads && store.write_faults == *writes
@@ -52,7 +63,11 @@ fn goes(rt: &HostRuntime, store: &mut DiskStore, step: &Step) -> bool {
 }
 
 // The first step that doesn't go as it says, by its place.
-fn first_wrong(rt: &HostRuntime, store: &mut DiskStore, steps: &[Step]) -> Option<usize> {
+fn first_wrong(
+    rt: &HostRuntime,
+    store: &mut DiskStore<HostRuntime>,
+    steps: &[Step],
+) -> Option<usize> {
     for (place, step) in steps.iter().enumerate() {
         if !goes(rt, store, step) {
             return Some(place);
@@ -82,7 +97,7 @@ fn keeps_bytes_on_disk(rt: HostRuntime) {
         Step::Faults(0, 0),
         Step::Remove("disk-store-test"),
         Step::Remove("another"),
-        Step::ReadFails("disk-store-test"),
+        Step::ReadFails("disk-store-test", 0),
         Step::AppendFails("disk-store-test"),
         Step::CreateFails("no-such-folder/file"),
         Step::Faults(1, 2),
@@ -95,14 +110,17 @@ fn keeps_bytes_on_disk(rt: HostRuntime) {
 fn faults_of_the_system_are_counted(rt: HostRuntime) {
     let (folder, missing) = ("disk-store-folder-test", "disk-store-missing-test");
     let steps: &[Step] = &[
-        Step::ReadFails("disk-store-folder-test"),
+        Step::ReadFails("disk-store-folder-test", 0),
+        Step::ReadFails("disk-store-folder-test", 70_000),
         Step::AppendFails("disk-store-folder-test"),
-        Step::ReadFails("disk-store-missing-test"),
+        Step::ReadFails("disk-store-missing-test", 0),
         Step::AppendFails("disk-store-missing-test"),
-        // The device that is always full.
+        // The device that is always full, and stays open where nothing is added.
+        Step::Append("/dev/full", b""),
+        Step::AppendFails("/dev/full"),
         Step::AppendFails("/dev/full"),
         Step::CreateFails("disk-store-folder-test"),
-        Step::Faults(2, 4),
+        Step::Faults(3, 5),
     ];
     assert!(rt; fs::create_dir_all(&rt, folder).is_ok());
     let mut store = DiskStore::new(&rt);
@@ -112,7 +130,11 @@ fn faults_of_the_system_are_counted(rt: HostRuntime) {
 }
 
 // Makes a file, and adds these bytes to its end by long pieces.
-fn write_by_pieces(store: &mut DiskStore, path: &str, bytes: &[u8]) -> Result<(), Failed> {
+fn write_by_pieces(
+    store: &mut DiskStore<HostRuntime>,
+    path: &str,
+    bytes: &[u8],
+) -> Result<(), Failed> {
     store.create(path)?;
     for piece in bytes.chunks(65_536) {
         store.append(path, piece)?;
@@ -121,7 +143,13 @@ fn write_by_pieces(store: &mut DiskStore, path: &str, bytes: &[u8]) -> Result<()
 }
 
 // Whether a read from a place on fills the buffer with what is held there.
-fn fills(store: &mut DiskStore, path: &str, at: u32, into: &mut [u8], held: &[u8]) -> bool {
+fn fills(
+    store: &mut DiskStore<HostRuntime>,
+    path: &str,
+    at: u32,
+    into: &mut [u8],
+    held: &[u8],
+) -> bool {
     let outcome = store.read(path, at as u64, into);
     let want = held
         .get(at as usize..)
@@ -130,7 +158,7 @@ fn fills(store: &mut DiskStore, path: &str, at: u32, into: &mut [u8], held: &[u8
 }
 
 // Whether short and long reads give what a long file holds, and none what is behind its end.
-fn holds_long(store: &mut DiskStore, path: &str, held: &[u8]) -> bool {
+fn holds_long(store: &mut DiskStore<HostRuntime>, path: &str, held: &[u8]) -> bool {
     for at in [0, 1019, 65_535, 65_536, 66_000] {
         if !fills(store, path, at, &mut [0; 3], held)
             || !fills(store, path, at, &mut [0; 1024], held)
@@ -158,6 +186,59 @@ fn long_appends_are_kept(rt: HostRuntime) -> Result<(), Fail> {
     Ok(())
 }
 
+// Whether the byte at a place of the long file is this one.
+fn has_byte(store: &mut DiskStore<HostRuntime>, path: &str, at: u64, byte: u8) -> bool {
+    let mut into = [b'.'; 1];
+    at <= 1 << 41 && store.read(path, at, &mut into) == Ok(1) && into == [byte]
+}
+
+// Writes one byte at each power of two up to 2^31: its exponent.
+fn write_powers(rt: &HostRuntime, path: &str) -> io::Result<()> {
+    let mut file = OpenOptions::new().write(true).open(rt, path)?;
+    for exponent in 0..32u8 {
+        file.seek(SeekFrom::Start(1 << exponent))?;
+        file.write_all(&[exponent])?;
+    }
+    Ok(())
+}
+
+// Whether a read from each power of two on gives the byte that is there, and the last one the end.
+fn has_powers(store: &mut DiskStore<HostRuntime>, path: &str) -> bool {
+    for exponent in 0..32u8 {
+        if !has_byte(store, path, 1 << exponent, exponent) {
+            return false;
+        }
+    }
+    store.read(path, 1 << 31, &mut [0; 2]) == Ok(1)
+}
+
+#[test]
+fn reads_begin_far_behind(rt: HostRuntime) -> Result<(), Fail> {
+    let path = "disk-store-far-test";
+    let mut store = DiskStore::new(&rt);
+    assert!(rt; store.create(path).is_ok());
+    write_powers(&rt, path)?;
+    assert!(rt; has_powers(&mut store, path));
+    fs::remove_file(&rt, path)?;
+    Ok(())
+}
+
+#[test]
+fn a_long_file_is_made_anew(rt: HostRuntime) -> Result<(), Fail> {
+    let path = "disk-store-anew-test";
+    let mut store = DiskStore::new(&rt);
+    assert!(rt; store.create(path).is_ok());
+    OpenOptions::new()
+        .write(true)
+        .open(&rt, path)?
+        .set_len(5_000_000)?;
+    assert_eq!(rt; store.read(path, 4_000_000, &mut [1; 9]), Ok(9));
+    assert!(rt; store.create(path).is_ok());
+    assert_eq!(rt; fs::metadata(&rt, path)?.len(), 0);
+    fs::remove_file(&rt, path)?;
+    Ok(())
+}
+
 // The paths of many files in a folder.
 fn paths_in(alloc: Global, folder: &str) -> Result<Vec<String>, AllocError> {
     let mut paths = Vec::new(alloc);
@@ -168,11 +249,15 @@ fn paths_in(alloc: Global, folder: &str) -> Result<Vec<String>, AllocError> {
 }
 
 // Makes many files, and adds to each its path three times, by turns.
-fn write_many(store: &mut DiskStore, paths: &[String]) -> Result<(), Failed> {
+fn write_many<R: Files + AllocGlobal>(
+    store: &mut DiskStore<'_, R>,
+    paths: &[String],
+) -> Result<(), Failed> {
     for path in paths {
         store.create(path)?;
+        store.append(path, path.as_bytes())?;
     }
-    for _round in 0..3 {
+    for _round in 0..2 {
         for path in paths {
             store.append(path, path.as_bytes())?;
         }
@@ -181,7 +266,7 @@ fn write_many(store: &mut DiskStore, paths: &[String]) -> Result<(), Failed> {
 }
 
 // Whether a file holds its path three times, and nothing more.
-fn holds_path_thrice(store: &mut DiskStore, path: &str) -> bool {
+fn holds_path_thrice<R: Files + AllocGlobal>(store: &mut DiskStore<'_, R>, path: &str) -> bool {
     let mut into = [0; 100];
     let Ok(count) = store.read(path, 0, &mut into) else {
         return false;
@@ -196,22 +281,12 @@ fn holds_path_thrice(store: &mut DiskStore, path: &str) -> bool {
     rest.is_empty()
 }
 
-// Whether each file holds its path three times. Those that do are taken from the system.
-fn hold_paths_thrice(rt: &HostRuntime, store: &mut DiskStore, paths: &[String]) -> bool {
-    for path in paths {
-        if !holds_path_thrice(store, path) || fs::remove_file(rt, path).is_err() {
-            return false;
-        }
-    }
-    true
-}
-
 // Whether many files are written by turns and read without a fault.
-fn keeps_many(rt: &HostRuntime, paths: &[String]) -> bool {
+fn keeps_many<R: Files + AllocGlobal>(rt: &R, paths: &[String]) -> bool {
     let mut store = DiskStore::new(rt);
     write_many(&mut store, paths).is_ok()
-        && hold_paths_thrice(rt, &mut store, paths)
-        && goes(rt, &mut store, &Step::Faults(0, 0))
+        && paths.iter().all(|path| holds_path_thrice(&mut store, path))
+        && (store.read_faults, store.write_faults) == (0, 0)
 }
 
 #[test]
@@ -220,6 +295,16 @@ fn more_files_than_stay_open_are_appended_to(rt: HostRuntime) -> Result<(), Fail
     fs::create_dir(&rt, folder)?;
     let paths = paths_in(rt.alloc(), folder)?;
     assert!(rt; keeps_many(&rt, &paths));
-    fs::remove_dir(&rt, folder)?;
+    fs::remove_dir_all(&rt, folder)?;
+    Ok(())
+}
+
+#[test]
+fn handles_may_be_wanting(rt: HostRuntime) -> Result<(), Fail> {
+    let paths = paths_in(rt.alloc(), "many")?;
+    for handles in [256, 1] {
+        let files = MemFiles::new(rt.alloc(), 0, handles)?;
+        assert!(rt; keeps_many(&files, &paths), "{handles}");
+    }
     Ok(())
 }

@@ -1,5 +1,8 @@
 //! What no clause says: that all moves while there is room, and that all that was written is flushed.
+ghost use Rattle.std.specs.Prelude.{◌≡◌, length, take, drop, IfOk};
+
 use super::*;
+use std::io::Cursor;
 
 // Four bytes that move one by one. Before each of them calls are interrupted, and past the end a write fails.
 #[derive(Drop)]
@@ -110,4 +113,20 @@ fn a_flush_that_fails_is_told(rt: HostRuntime) {
     let failed = failure(write_full(&mut to, b"ab"));
     assert_eq!(rt; failed, Some(ErrorKind::QuotaExceeded));
     assert_eq!(rt; (to.bytes, to.flushes), (*b"ab..", 1));
+}
+
+// Reads from memory, which tells its place and its bytes: those from the place on come.
+fn read_in_memory(held: &[u8], at: u64, into: &mut [u8]) -> io::Result<usize>
+    ensures { IfOk result (λ n. take n into.new ≡ take (length into.old) (drop at held.now)) }
+{
+    let mut file = Cursor::new(held);
+    let count = read_from(&mut file, at, into)?;
+    Ok(count)
+}
+
+#[test]
+fn bytes_in_memory_are_read(rt: HostRuntime) {
+    let mut into = *b"....";
+    assert!(rt; matches!(read_in_memory(b"abcdef", 3, &mut into), Ok(3)));
+    assert_eq!(rt; into, *b"def.");
 }

@@ -1,0 +1,237 @@
+//! Whole runs over files in memory, of which each call fails in turn: the calls on the store are those of the run in
+//! which none fails, up to the one that failed, and nothing comes behind that.
+use super::memory::MemFiles;
+use super::{behind_reads, varied_bytes, words_of};
+use crate::disk::DiskStore;
+use crate::run::{Words, run};
+use lif_outside::MemSink;
+use logged_store::{Event, Logged};
+use std::alloc::Global;
+use std::io;
+use std::process::ExitCode;
+use std::test::Fail;
+use std::thread::Threads;
+
+// The code of the butterfly.
+const BUTTERFLY: &[u8] = b"LIFC\x01\x08\x02\
+    \x00\x07\x01s\x02t1\x02t2\x01a\x01b\x01c\x01d\
+    \x00\x09\
+    \x03s-a\x00\x00\x00\x03\
+    \x03s-b\x00\x00\x00\x04\
+    \x04a-t1\x00\x03\x00\x01\
+    \x04b-t2\x00\x04\x00\x02\
+    \x03a-c\x00\x03\x00\x05\
+    \x03b-c\x00\x04\x00\x05\
+    \x03c-d\x00\x05\x00\x06\
+    \x04d-t1\x00\x06\x00\x01\
+    \x04d-t2\x00\x06\x00\x02\
+    \x00\x00\
+    \x00\x02\x00\x01\x00\x02\
+    \x00\x00\
+    \x00\x01\x00\x00\x01\
+    \x00\x01\x00\x01\x01\
+    \x00\x01\x00\x00\x01\
+    \x00\x01\x00\x01\x01\
+    \x00\x01\x00\x00\x01\
+    \x00\x01\x00\x01\x01\
+    \x00\x02\x00\x04\x01\x00\x05\x01\
+    \x00\x01\x00\x06\x01\
+    \x00\x01\x00\x06\x01\
+    \x00\x02\x00\x07\x01\x00\x01\x01\
+    \x00\x03\x00\x08\x01\x01\x01\x00";
+
+const WORDS: &[&str] = &["send", "code", "none", "1", "source", "out"];
+
+// More calls than a run makes.
+const MOST_CALLS: u64 = 10_000;
+
+const SENT: &[u8] = b"sent 10000 bytes in 5 generations to 2 sinks\n";
+
+// Whether a call is the failure of another.
+fn is_failed(last: &Event, next: &Event) -> bool {
+    match next {
+        Event::Read { path, at, room, .. } => is_failed_read(last, path.as_str(), *at, *room),
+        Event::Created { path } => is_failed_create(last, path.as_str()),
+        Event::Appended { path, bytes } => is_failed_append(last, path.as_str(), bytes),
+        _ => false,
+    }
+}
+
+fn is_failed_read(last: &Event, path: &str, at: u64, room: usize) -> bool {
+    match last {
+        Event::ReadFailed {
+            path: other,
+            at: place,
+            room: wanted,
+        } => other.as_str() == path && *place == at && *wanted == room,
+        _ => false,
+    }
+}
+
+fn is_failed_create(last: &Event, path: &str) -> bool {
+    match last {
+        Event::CreateFailed { path: other } => other.as_str() == path,
+        _ => false,
+    }
+}
+
+fn is_failed_append(last: &Event, path: &str, bytes: &[u8]) -> bool {
+    match last {
+        Event::AppendFailed {
+            path: other,
+            bytes: added,
+        } => other.as_str() == path && added.as_slice() == bytes,
+        _ => false,
+    }
+}
+
+// The number of the status and the line of a run that ends with a call that failed.
+fn fault_of(last: &Event) -> (u8, &'static [u8]) {
+    match last {
+        Event::ReadFailed { .. } => (10, b"read fault\n"),
+        _ => (11, b"write fault\n"),
+    }
+}
+
+// Whether a run went as a whole one, up to a call that failed.
+fn goes_as(status: ExitCode, said: &[u8], log: &[Event], whole: &[Event]) -> bool {
+    if log == whole {
+        return status == ExitCode::SUCCESS && said == SENT;
+    }
+    let Some((last, front)) = log.split_last() else {
+        return false;
+    };
+    let (number, line) = fault_of(last);
+    let Some(next) = whole.get(front.len()) else {
+        return false;
+    };
+    status == ExitCode::from(number)
+        && said == line
+        && whole.starts_with(front)
+        && is_failed(last, next)
+}
+
+// The bytes that an append added to a path.
+fn bytes_added<'a>(event: &'a Event, path: &str) -> Option<&'a [u8]> {
+    match event {
+        Event::Appended { path: other, bytes } if other.as_str() == path => Some(bytes.as_slice()),
+        _ => None,
+    }
+}
+
+// Whether the log has appends alone, of each piece to each of the two sinks' files, which together add these bytes.
+fn are_appends_to_both(log: &[Event], held: &[u8]) -> bool {
+    let mut rest = held;
+    for pair in log.chunks(2) {
+        let [first, second] = pair else {
+            return false;
+        };
+        let Some(bytes) = bytes_added(first, "out.t1") else {
+            return false;
+        };
+        match rest.strip_prefix(bytes) {
+            Some(more) if bytes_added(second, "out.t2") == Some(bytes) => rest = more,
+            _ => return false,
+        }
+    }
+    rest.is_empty()
+}
+
+// Whether a log begins with the creates of the sinks' files, in order.
+fn behind_creates(log: &[Event]) -> Option<&[Event]> {
+    match log {
+        [
+            Event::Created { path: first },
+            Event::Created { path: second },
+            log @ ..,
+        ] if first.as_str() == "out.t1" && second.as_str() == "out.t2" => { Some(log) }
+        _ => None,
+    }
+}
+
+// Whether these are the calls of a source that was sent to both sinks.
+fn is_sending(log: &[Event], source: &[u8]) -> bool {
+    behind_reads(log, "code", BUTTERFLY)
+        .and_then(behind_creates)
+        .and_then(|log| behind_reads(log, "source", source))
+        .is_some_and(|log| are_appends_to_both(log, source))
+}
+
+// A system with the code and the source, of which the call of this number fails.
+fn system(alloc: Global, failing: u64, handles: usize, source: &[u8]) -> io::Result<MemFiles> {
+    let files = MemFiles::new(alloc, failing, handles)?;
+    files.put("code", BUTTERFLY)?;
+    files.put("source", source)?;
+    Ok(files)
+}
+
+// Whether each sink's file holds the source, or a front of it where it needn't be whole.
+fn has_files(files: &MemFiles, source: &[u8], whole: bool) -> bool {
+    files.holds("out.t1", source, whole) && files.holds("out.t2", source, whole)
+}
+
+// Whether a run goes as a whole one, up to a call that failed.
+fn goes<R: Threads + Sync>(
+    rt: &R,
+    alloc: Global,
+    files: &MemFiles,
+    words: Words,
+    source: &[u8],
+    whole: &[Event],
+) -> bool {
+    let mut store = Logged::new(alloc, DiskStore::new(files));
+    let mut say = MemSink::new(alloc, Vec::new(alloc));
+    let status = run(rt, alloc, words, &mut store, &mut say);
+    store.is_whole()
+        && !files.went_on()
+        && goes_as(status, say.bytes(), store.log(), whole)
+        && has_files(files, source, status == ExitCode::SUCCESS)
+}
+
+// The first call of the system whose failure leads elsewhere, by its number. It is 0 where there is no end of calls.
+fn first_wrong<R: Threads + Sync>(
+    rt: &R,
+    alloc: Global,
+    handles: usize,
+    source: &[u8],
+    whole: &[Event],
+) -> io::Result<Option<u64>> {
+    for failing in 1..MOST_CALLS {
+        let files = system(alloc, failing, handles, source)?;
+        if !goes(rt, alloc, &files, words_of(alloc, WORDS)?, source, whole) {
+            return Ok(Some(failing));
+        }
+        if files.calls() < failing {
+            return Ok(None);
+        }
+    }
+    Ok(Some(0))
+}
+
+// The same, where the run in which no call fails is as promised.
+fn first_wrong_call<R: Threads + Sync>(
+    rt: &R,
+    alloc: Global,
+    handles: usize,
+    source: &[u8],
+) -> io::Result<Option<u64>> {
+    let files = system(alloc, 0, handles, source)?;
+    let mut store = Logged::new(alloc, DiskStore::new(&files));
+    let mut say = MemSink::new(alloc, Vec::new(alloc));
+    let words = words_of(alloc, WORDS)?;
+    let _status = run(rt, alloc, words, &mut store, &mut say);
+    if !is_sending(store.log(), source) {
+        return Ok(Some(0));
+    }
+    first_wrong(rt, alloc, handles, source, store.log())
+}
+
+#[test]
+fn each_call_of_the_system_may_fail(rt: HostRuntime) -> Result<(), Fail> {
+    let source = varied_bytes(rt.alloc(), 10_000)?;
+    for handles in [1, 3] {
+        let wrong = first_wrong_call(&rt, rt.alloc(), handles, &source)?;
+        assert_eq!(rt; wrong, None, "with {handles} handles");
+    }
+    Ok(())
+}
