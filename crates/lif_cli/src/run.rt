@@ -1,7 +1,7 @@
 //! A run of the program over a store and a sink, whatever they are.
 ghost use Rattle.std.specs.Prelude.{◌≡◌, ◌≤◌};
 ghost use Rattle.std.specs.Process.{exit_status};
-ghost use Rattle.lif_outside.specs.Calls.{KeepsStore};
+ghost use Rattle.lif_outside.specs.Calls.{KeepsStore, objects};
 ghost use Rattle.top_base.specs.Codes.{code_of};
 ghost use Rattle.top_base.specs.declared.status.Status.{Status};
 ghost use Rattle.lif_cli.specs.Run.{RunsWords};
@@ -34,7 +34,7 @@ fn end_of<S: Store, C: Sink, R: Threads + Sync>(
     store: &mut S,
     say: &mut C,
 ) -> Status
-    ensures runs { RunsWords S.Store C.Sink store.old store.new say.old say.new result words }
+    ensures runs { RunsWords (objects S.Store C.Sink store.old store.new say.old say.new) result words }
     ensures counts { KeepsStore S.Store store.old store.new }
     ensures say_count { C.faults say.old ≤ C.faults say.new }
 {
@@ -58,7 +58,7 @@ pub fn run<S: Store, C: Sink, R: Threads + Sync>(
     say: &mut C,
 ) -> ExitCode
     ensures status { (status : Status) × (exit_status result ≡ code_of status)
-        × RunsWords S.Store C.Sink store.old store.new say.old say.new status words }
+        × RunsWords (objects S.Store C.Sink store.old store.new say.old say.new) status words }
     ensures counts { KeepsStore S.Store store.old store.new }
     ensures say_count { C.faults say.old ≤ C.faults say.new }
 {

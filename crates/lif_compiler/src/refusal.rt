@@ -20,7 +20,7 @@ pub enum CompileRefusal {
     ZeroRate {
         /// The first demand whose least cut is 0.
         demand: u32,
-        /// Its least side, which no link leaves.
+        /// Its least side, which only failed links leave.
         side: Side,
     },
     /// The rate of the network is above 32.

@@ -36,7 +36,7 @@ pub fn cycle_line<'a>(alloc: Global, net: &Net, cycle: &[u32]) -> Result<Line<'a
     Ok(Line::long(text))
 }
 
-/// A demand of a network has no path: no link leaves the side.
+/// A demand of a network has no path: only failed links leave the side.
 pub fn zero_rate_line<'a>(
     alloc: Global,
     net: &Net,

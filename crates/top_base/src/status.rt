@@ -25,7 +25,7 @@ pub enum Status {
     ZeroRate {
         /// The first such demand.
         demand: u32,
-        /// Its least side, which no link leaves.
+        /// Its least side, which only failed links leave.
         side: Side,
     },
     /// The field serves fewer demands than the network has.
