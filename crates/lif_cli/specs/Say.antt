@@ -2,22 +2,22 @@
 use Rattle.std.specs.Prelude.{ℕ, List, Option}
 use Rattle.lif_outside.specs.Accounts.{SinkAccounts}
 use Rattle.lif_outside.specs.Puts.{Put}
-use Rattle.lif_cli.specs.declared.say.Say.{Say}
+use Rattle.lif_cli.specs.declared.say.StdSay.{StdSay}
 
 module _ {W : Type 0} where
   -- where the bytes go
-  abbrev pub writer_of : Say W → W
+  abbrev pub writer_of : StdSay W → W
   writer_of say = say.to
 
   -- how often a put has failed
-  abbrev pub faults_of : Say W → ℕ
+  abbrev pub faults_of : StdSay W → ℕ
   faults_of say = say.faults
 
   module _ (contents : W → Option (List ℕ)) where
     -- what the writer holds, where it tells that
-    abbrev pub bytes_of : Say W → Option (List ℕ)
+    abbrev pub bytes_of : StdSay W → Option (List ℕ)
     bytes_of say = contents (writer_of say)
 
     -- puts lead from one state to another where the bytes and the count account for them
-    abbrev pub puts_on_writer : List Put → Say W → Say W → Type 0
+    abbrev pub puts_on_writer : List Put → StdSay W → StdSay W → Type 0
     puts_on_writer puts old new = SinkAccounts bytes_of faults_of puts old new

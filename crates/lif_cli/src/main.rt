@@ -16,7 +16,7 @@ mod tests;
 
 use disk::DiskStore;
 use run::{Words, run};
-use say::Say;
+use say::StdSay;
 use std::io::ErrorKind;
 use std::process::ExitCode;
 use std::rt::Env;
@@ -50,6 +50,6 @@ fn words_or_why<R: Env + AllocGlobal>(rt: &R) -> Words {
 fn main(rt: HostRuntime) -> ExitCode {
     let words = words_or_why(&rt);
     let mut store = DiskStore::new(&rt);
-    let mut say = Say::new(io::writer(&rt));
+    let mut say = StdSay::new(io::writer(&rt));
     run(&rt, rt.alloc(), words, &mut store, &mut say)
 }

@@ -31,22 +31,22 @@ impl<P: Print> Teller for Printer<'_, P> {
 
 /// A writer as a sink. It tells what was written where the writer does.
 #[derive(Drop)]
-pub struct Say<W> {
+pub struct StdSay<W> {
     to: W,
     faults: u64,
 }
 
-impl<W: Teller> Say<W> {
+impl<W: Teller> StdSay<W> {
     /// A sink that has had no fault.
-    pub fn new(to: W) -> Say<W>
+    pub fn new(to: W) -> StdSay<W>
         ensures writer { writer_of result ≡ to }
         ensures faults { faults_of result ≡ 0 }
     {
-        Say { to, faults: 0 }
+        StdSay { to, faults: 0 }
     }
 }
 
-impl<W: Teller> Sink for Say<W> {
+impl<W: Teller> Sink for StdSay<W> {
     ghost written = { bytes_of W.contents };
 
     ghost faults = { faults_of };
