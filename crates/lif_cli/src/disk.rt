@@ -21,7 +21,7 @@ use std::rt::Files;
 /// made anew, an append to it fails, or a handle is wanted; at most 512 are open so, and one more closes that
 /// which was opened first.
 #[derive(Drop)]
-pub struct DiskStore<'r, R: Files> {
+pub struct FileStore<'r, R: Files> {
     rt: &'r R,
     // Those that were appended to.
     kept: KeptFiles<R::File>,
@@ -29,13 +29,13 @@ pub struct DiskStore<'r, R: Files> {
     write_faults: u64,
 }
 
-impl<'r, R: Files + AllocGlobal> DiskStore<'r, R> {
+impl<'r, R: Files + AllocGlobal> FileStore<'r, R> {
     /// A store that has had no fault.
-    pub fn new(rt: &'r R) -> DiskStore<'r, R>
+    pub fn new(rt: &'r R) -> FileStore<'r, R>
         ensures reads { read_faults_of result ≡ 0 }
         ensures writes { write_faults_of result ≡ 0 }
     {
-        DiskStore {
+        FileStore {
             rt,
             kept: KeptFiles::new(rt.alloc()),
             read_faults: 0,
@@ -44,7 +44,7 @@ impl<'r, R: Files + AllocGlobal> DiskStore<'r, R> {
     }
 }
 
-impl<'r, R: Files + AllocGlobal> Store for DiskStore<'r, R> {
+impl<'r, R: Files + AllocGlobal> Store for FileStore<'r, R> {
     ghost files = { no_files };
 
     ghost read_faults = { path_read_faults };
@@ -109,5 +109,52 @@ impl<'r, R: Files + AllocGlobal> Store for DiskStore<'r, R> {
     {
         let outcome = append_to(self.rt, &mut self.kept, path, bytes);
         counted(outcome, &mut self.write_faults)
+    }
+}
+
+/// The files of the system that the program runs on.
+#[derive(Drop)]
+pub struct DiskStore<'r> {
+    files: FileStore<'r, HostRuntime>,
+}
+
+impl<'r> DiskStore<'r> {
+    /// A store that has had no fault.
+    pub fn new(rt: &'r HostRuntime) -> DiskStore<'r> {
+        DiskStore {
+            files: FileStore::new(rt),
+        }
+    }
+}
+
+impl<'r> Store for DiskStore<'r> {
+    ghost use Rattle.lif_cli.specs.Disk.{disk_read_faults, disk_write_faults, disk_any_path, disk_no_files, disk_calls};
+
+    ghost files = { disk_no_files };
+
+    ghost read_faults = { disk_read_faults };
+
+    ghost write_faults = { disk_write_faults };
+
+    ghost made = { disk_any_path };
+
+    ghost calls = { disk_calls };
+
+    ghost no_calls = { accounts_none disk_no_files disk_read_faults disk_write_faults disk_any_path };
+
+    ghost more_calls = { accounts_then disk_no_files disk_read_faults disk_write_faults disk_any_path };
+
+    ghost accounts = { λ _ _ _ h. h };
+
+    fn read(&mut self, path: &str, at: u64, into: &mut [u8]) -> Result<usize, Failed> {
+        self.files.read(path, at, into)
+    }
+
+    fn create(&mut self, path: &str) -> Result<(), Failed> {
+        self.files.create(path)
+    }
+
+    fn append(&mut self, path: &str, bytes: &[u8]) -> Result<(), Failed> {
+        self.files.append(path, bytes)
     }
 }

@@ -50,6 +50,6 @@ fn words_or_why<R: Env + AllocGlobal>(rt: &R) -> Words {
 fn main(rt: HostRuntime) -> ExitCode {
     let words = words_or_why(&rt);
     let mut store = DiskStore::new(&rt);
-    let mut say = StdSay::new(io::writer(&rt));
+    let mut say = StdSay::new(&rt);
     run(&rt, rt.alloc(), words, &mut store, &mut say)
 }

@@ -12,6 +12,7 @@ mod tests;
 use crate::faults::counted;
 use crate::pieces::write_full;
 use lif_outside::{Failed, Sink};
+use std::io;
 use std::io::{Print, Printer, Write};
 
 /// A writer that tells what it holds in each state or in none.
@@ -31,22 +32,22 @@ impl<P: Print> Teller for Printer<'_, P> {
 
 /// A writer as a sink. It tells what was written where the writer does.
 #[derive(Drop)]
-pub struct StdSay<W> {
+pub struct WriterSay<W> {
     to: W,
     faults: u64,
 }
 
-impl<W: Teller> StdSay<W> {
+impl<W: Teller> WriterSay<W> {
     /// A sink that has had no fault.
-    pub fn new(to: W) -> StdSay<W>
+    pub fn new(to: W) -> WriterSay<W>
         ensures writer { writer_of result ≡ to }
         ensures faults { faults_of result ≡ 0 }
     {
-        StdSay { to, faults: 0 }
+        WriterSay { to, faults: 0 }
     }
 }
 
-impl<W: Teller> Sink for StdSay<W> {
+impl<W: Teller> Sink for WriterSay<W> {
     ghost written = { bytes_of W.contents };
 
     ghost faults = { faults_of };
@@ -72,5 +73,40 @@ impl<W: Teller> Sink for StdSay<W> {
     {
         let outcome = write_full(&mut self.to, bytes);
         counted(outcome, &mut self.faults)
+    }
+}
+
+/// Standard output.
+#[derive(Drop)]
+pub struct StdSay<'r> {
+    output: WriterSay<Printer<'r, HostRuntime>>,
+}
+
+impl<'r> StdSay<'r> {
+    /// A sink that has had no fault.
+    pub fn new(rt: &'r HostRuntime) -> StdSay<'r> {
+        StdSay {
+            output: WriterSay::new(io::writer(rt)),
+        }
+    }
+}
+
+impl<'r> Sink for StdSay<'r> {
+    ghost use Rattle.lif_cli.specs.Say.{output_bytes, output_faults, output_puts};
+
+    ghost written = { output_bytes };
+
+    ghost faults = { output_faults };
+
+    ghost puts = { output_puts };
+
+    ghost no_puts = { puts_none output_bytes output_faults };
+
+    ghost more_puts = { puts_then output_bytes output_faults };
+
+    ghost accounts = { λ _ _ _ h. h };
+
+    fn put(&mut self, bytes: &[u8]) -> Result<(), Failed> {
+        self.output.put(bytes)
     }
 }

@@ -6,7 +6,7 @@ mod failing;
 pub mod memory;
 mod words;
 
-use crate::disk::DiskStore;
+use crate::disk::FileStore;
 use crate::run::{Words, run};
 use lif_outside::MemSink;
 use logged_store::{Event, Logged};
@@ -143,7 +143,7 @@ pub fn words_of(alloc: Global, words: &[&str]) -> Result<Words, AllocError> {
 }
 
 // Whether the calls on the disk are those of the source that was sent.
-fn has_delivered(store: &Logged<DiskStore<HostRuntime>>, source: &[u8]) -> bool {
+fn has_delivered(store: &Logged<FileStore<HostRuntime>>, source: &[u8]) -> bool {
     store.is_whole() && is_delivery(store.log(), ONE_LINK, source)
 }
 
@@ -152,7 +152,7 @@ fn sends<R: Threads + Sync>(
     rt: &R,
     alloc: Global,
     words: Words,
-    disk: DiskStore<HostRuntime>,
+    disk: FileStore<HostRuntime>,
     source: &[u8],
 ) -> bool {
     let mut store = Logged::new(alloc, disk);
@@ -168,7 +168,7 @@ fn a_run_makes_the_promised_calls(rt: HostRuntime) -> Result<(), Fail> {
     let source = varied_bytes(rt.alloc(), 70_000)?;
     assert!(rt; make_folder(&rt, &source)?);
     let words = words_of(rt.alloc(), &["send", CODE, "none", "1", SOURCE, PREFIX])?;
-    assert!(rt; sends(&rt, rt.alloc(), words, DiskStore::new(&rt), &source));
+    assert!(rt; sends(&rt, rt.alloc(), words, FileStore::new(&rt), &source));
     assert!(rt; has_output(&rt, &source)?, "the output isn't the source");
     fs::remove_dir_all(&rt, FOLDER)?;
     Ok(())

@@ -182,3 +182,21 @@ module _ {C : Type 0} (written : C → Option (List ℕ)) (faults : C → ℕ) w
     failed = λ other there. let is = contains_one _ _ there in cc;
   }
   put_accounts bytes (Err why) old new content count rose = record { content = content; count = count; failed = λ other there. rose }
+
+-- what calls on an object within another account for, said of the outer one
+module _ {S T : Type 0} (inner : T → S) where
+  pub accounts_within : (files : S → Option Files) (read_faults write_faults : S → List ℕ → ℕ) (made : S → List ℕ → Type 0) (events : List Event) (old new : T)
+      → StoreAccounts files read_faults write_faults made events (inner old) (inner new)
+      → StoreAccounts (λ at. files (inner at)) (λ at. read_faults (inner at)) (λ at. write_faults (inner at)) (λ at. made (inner at)) events old new
+  accounts_within files read_faults write_faults made events old new is = record {
+    content = is.content;
+    counts = record { reads = is.counts.reads; writes = is.counts.writes; still_made = is.counts.still_made };
+    failed_read = is.failed_read;
+    failed_create = is.failed_create;
+    failed_append = is.failed_append;
+    makes = is.makes;
+  }
+
+  pub puts_within : (written : S → Option (List ℕ)) (faults : S → ℕ) (puts : List Put) (old new : T) → SinkAccounts written faults puts (inner old) (inner new)
+      → SinkAccounts (λ at. written (inner at)) (λ at. faults (inner at)) puts old new
+  puts_within written faults puts old new is = record { content = is.content; count = is.count; failed = is.failed }

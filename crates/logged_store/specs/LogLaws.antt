@@ -2,6 +2,7 @@
 use Rattle.std.specs.Prelude.{ℕ, List, [], ◌++◌, Option}
 use Rattle.std.proofs.Common.{sym, ap, ◌∙◌}
 use Rattle.std.proofs.lemmas.List.{append-nil, append_assoc}
+use Rattle.lif_outside.specs.AccountLaws.{accounts_within}
 use Rattle.lif_outside.specs.Accounts.{StoreAccounts}
 use Rattle.lif_outside.specs.Events.{Event}
 use Rattle.lif_outside.specs.Files.{Files}
@@ -32,17 +33,4 @@ module _ {S : Type 0} (files : S → Option Files) (read_faults write_faults : S
   pub logs_account : ((events : List Event) (old new : S) → calls events old new → StoreAccounts files read_faults write_faults made events old new)
       → (events : List Event) (old new : Logged S) → LogsCalls calls events old new
       → StoreAccounts (λ store. files (inner_of store)) (λ store. read_faults (inner_of store)) (λ store. write_faults (inner_of store)) (λ store. made (inner_of store)) events old new
-  logs_account accounts events old new logs =
-      let on_inner = accounts events (inner_of old) (inner_of new) logs.made in
-      record {
-        content = on_inner.content;
-        counts = record {
-          reads = on_inner.counts.reads;
-          writes = on_inner.counts.writes;
-          still_made = on_inner.counts.still_made;
-        };
-        failed_read = on_inner.failed_read;
-        failed_create = on_inner.failed_create;
-        failed_append = on_inner.failed_append;
-        makes = on_inner.makes;
-      }
+  logs_account accounts events old new logs = accounts_within inner_of files read_faults write_faults made events old new (accounts events (inner_of old) (inner_of new) logs.made)

@@ -33,7 +33,7 @@ enum Step {
 
 // Whether a read from a place on gives so many bytes, and a buffer of dots is this one then.
 fn gives(
-    store: &mut DiskStore<HostRuntime>,
+    store: &mut FileStore<HostRuntime>,
     path: &str,
     at: u32,
     count: usize,
@@ -47,7 +47,7 @@ fn gives(
 }
 
 // Whether a step goes as it says.
-fn goes(rt: &HostRuntime, store: &mut DiskStore<HostRuntime>, step: &Step) -> bool {
+fn goes(rt: &HostRuntime, store: &mut FileStore<HostRuntime>, step: &Step) -> bool {
     match step {
         Step::Create(path) => store.create(path).is_ok(),
         Step::Append(path, bytes) => store.append(path, bytes).is_ok(),
@@ -65,7 +65,7 @@ fn goes(rt: &HostRuntime, store: &mut DiskStore<HostRuntime>, step: &Step) -> bo
 // The first step that doesn't go as it says, by its place.
 fn first_wrong(
     rt: &HostRuntime,
-    store: &mut DiskStore<HostRuntime>,
+    store: &mut FileStore<HostRuntime>,
     steps: &[Step],
 ) -> Option<usize> {
     for (place, step) in steps.iter().enumerate() {
@@ -102,7 +102,7 @@ fn keeps_bytes_on_disk(rt: HostRuntime) {
         Step::CreateFails("no-such-folder/file"),
         Step::Faults(1, 2),
     ];
-    let mut store = DiskStore::new(&rt);
+    let mut store = FileStore::new(&rt);
     assert_eq!(rt; first_wrong(&rt, &mut store, steps), None);
 }
 
@@ -123,7 +123,7 @@ fn faults_of_the_system_are_counted(rt: HostRuntime) {
         Step::Faults(3, 5),
     ];
     assert!(rt; fs::create_dir_all(&rt, folder).is_ok());
-    let mut store = DiskStore::new(&rt);
+    let mut store = FileStore::new(&rt);
     assert_eq!(rt; first_wrong(&rt, &mut store, steps), None);
     assert!(rt; fs::exists(&rt, missing).is_ok_and(|is_there| !is_there));
     assert!(rt; fs::remove_dir(&rt, folder).is_ok());
@@ -131,7 +131,7 @@ fn faults_of_the_system_are_counted(rt: HostRuntime) {
 
 // Makes a file, and adds these bytes to its end by long pieces.
 fn write_by_pieces(
-    store: &mut DiskStore<HostRuntime>,
+    store: &mut FileStore<HostRuntime>,
     path: &str,
     bytes: &[u8],
 ) -> Result<(), Failed> {
@@ -144,7 +144,7 @@ fn write_by_pieces(
 
 // Whether a read from a place on fills the buffer with what is held there.
 fn fills(
-    store: &mut DiskStore<HostRuntime>,
+    store: &mut FileStore<HostRuntime>,
     path: &str,
     at: u32,
     into: &mut [u8],
@@ -158,7 +158,7 @@ fn fills(
 }
 
 // Whether short and long reads give what a long file holds, and none what is behind its end.
-fn holds_long(store: &mut DiskStore<HostRuntime>, path: &str, held: &[u8]) -> bool {
+fn holds_long(store: &mut FileStore<HostRuntime>, path: &str, held: &[u8]) -> bool {
     for at in [0, 1019, 65_535, 65_536, 66_000] {
         if !fills(store, path, at, &mut [0; 3], held)
             || !fills(store, path, at, &mut [0; 1024], held)
@@ -171,7 +171,7 @@ fn holds_long(store: &mut DiskStore<HostRuntime>, path: &str, held: &[u8]) -> bo
 
 // Whether a file of these bytes is written and read without a fault.
 fn keeps_long(rt: &HostRuntime, path: &'static str, bytes: &[u8]) -> bool {
-    let mut store = DiskStore::new(rt);
+    let mut store = FileStore::new(rt);
     write_by_pieces(&mut store, path, bytes).is_ok()
         && holds_long(&mut store, path, bytes)
         && goes(rt, &mut store, &Step::Faults(0, 0))
@@ -187,7 +187,7 @@ fn long_appends_are_kept(rt: HostRuntime) -> Result<(), Fail> {
 }
 
 // Whether the byte at a place of the long file is this one.
-fn has_byte(store: &mut DiskStore<HostRuntime>, path: &str, at: u64, byte: u8) -> bool {
+fn has_byte(store: &mut FileStore<HostRuntime>, path: &str, at: u64, byte: u8) -> bool {
     let mut into = [b'.'; 1];
     at <= 1 << 41 && store.read(path, at, &mut into) == Ok(1) && into == [byte]
 }
@@ -203,7 +203,7 @@ fn write_powers(rt: &HostRuntime, path: &str) -> io::Result<()> {
 }
 
 // Whether a read from each power of two on gives the byte that is there, and the last one the end.
-fn has_powers(store: &mut DiskStore<HostRuntime>, path: &str) -> bool {
+fn has_powers(store: &mut FileStore<HostRuntime>, path: &str) -> bool {
     for exponent in 0..32u8 {
         if !has_byte(store, path, 1 << exponent, exponent) {
             return false;
@@ -215,7 +215,7 @@ fn has_powers(store: &mut DiskStore<HostRuntime>, path: &str) -> bool {
 #[test]
 fn reads_begin_far_behind(rt: HostRuntime) -> Result<(), Fail> {
     let path = "disk-store-far-test";
-    let mut store = DiskStore::new(&rt);
+    let mut store = FileStore::new(&rt);
     assert!(rt; store.create(path).is_ok());
     write_powers(&rt, path)?;
     assert!(rt; has_powers(&mut store, path));
@@ -226,7 +226,7 @@ fn reads_begin_far_behind(rt: HostRuntime) -> Result<(), Fail> {
 #[test]
 fn a_long_file_is_made_anew(rt: HostRuntime) -> Result<(), Fail> {
     let path = "disk-store-anew-test";
-    let mut store = DiskStore::new(&rt);
+    let mut store = FileStore::new(&rt);
     assert!(rt; store.create(path).is_ok());
     OpenOptions::new()
         .write(true)
@@ -250,7 +250,7 @@ fn paths_in(alloc: Global, folder: &str) -> Result<Vec<String>, AllocError> {
 
 // Makes many files, and adds to each its path three times, by turns.
 fn write_many<R: Files + AllocGlobal>(
-    store: &mut DiskStore<'_, R>,
+    store: &mut FileStore<'_, R>,
     paths: &[String],
 ) -> Result<(), Failed> {
     for path in paths {
@@ -266,7 +266,7 @@ fn write_many<R: Files + AllocGlobal>(
 }
 
 // Whether a file holds its path three times, and nothing more.
-fn holds_path_thrice<R: Files + AllocGlobal>(store: &mut DiskStore<'_, R>, path: &str) -> bool {
+fn holds_path_thrice<R: Files + AllocGlobal>(store: &mut FileStore<'_, R>, path: &str) -> bool {
     let mut into = [0; 100];
     let Ok(count) = store.read(path, 0, &mut into) else {
         return false;
@@ -283,7 +283,7 @@ fn holds_path_thrice<R: Files + AllocGlobal>(store: &mut DiskStore<'_, R>, path:
 
 // Whether many files are written by turns and read without a fault.
 fn keeps_many<R: Files + AllocGlobal>(rt: &R, paths: &[String]) -> bool {
-    let mut store = DiskStore::new(rt);
+    let mut store = FileStore::new(rt);
     write_many(&mut store, paths).is_ok()
         && paths.iter().all(|path| holds_path_thrice(&mut store, path))
         && (store.read_faults, store.write_faults) == (0, 0)

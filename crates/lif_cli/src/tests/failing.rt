@@ -2,7 +2,7 @@
 //! which none fails, up to the one that failed, and nothing comes behind that.
 use super::memory::MemFiles;
 use super::{behind_reads, varied_bytes, words_of};
-use crate::disk::DiskStore;
+use crate::disk::FileStore;
 use crate::run::{Words, run};
 use lif_outside::MemSink;
 use logged_store::{Event, Logged};
@@ -179,7 +179,7 @@ fn goes<R: Threads + Sync>(
     source: &[u8],
     whole: &[Event],
 ) -> bool {
-    let mut store = Logged::new(alloc, DiskStore::new(files));
+    let mut store = Logged::new(alloc, FileStore::new(files));
     let mut say = MemSink::new(alloc, Vec::new(alloc));
     let status = run(rt, alloc, words, &mut store, &mut say);
     store.is_whole()
@@ -216,7 +216,7 @@ fn first_wrong_call<R: Threads + Sync>(
     source: &[u8],
 ) -> io::Result<Option<u64>> {
     let files = system(alloc, 0, handles, source)?;
-    let mut store = Logged::new(alloc, DiskStore::new(&files));
+    let mut store = Logged::new(alloc, FileStore::new(&files));
     let mut say = MemSink::new(alloc, Vec::new(alloc));
     let words = words_of(alloc, WORDS)?;
     let _status = run(rt, alloc, words, &mut store, &mut say);
