@@ -1,9 +1,11 @@
 //! How `compile` ends, what it says, and what stands at the paths then.
 mod faults;
 mod fields;
+mod gates;
 mod networks;
 mod paths;
 mod rates;
+mod sizes;
 mod written;
 
 use lif_outside::{Fail, MemSink, MemStore, NoGate};

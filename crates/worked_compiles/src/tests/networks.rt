@@ -147,7 +147,7 @@ fn networks_from_75_to_99_carry_their_sources(rt: HostRuntime) -> Result<(), tes
 }
 
 // A text with numbered lines behind others.
-fn numbered(
+pub(super) fn numbered(
     alloc: Global,
     front: &str,
     before: &str,
