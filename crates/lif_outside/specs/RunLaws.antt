@@ -96,9 +96,9 @@ pub reads_begin : (path : List ℕ) (events : List Event) (a b : Option (List �
 reads_begin path events a b reads h = ⊎_elim
     (λ none. subst (λ es. IsFrontOf (unwrap_or a []) (bytes_read es)) (sym none) (front_none (unwrap_or a [])))
     (λ part.
-        let n = length (bytes_read events) in
-        let rest = drop n part.content in
-        (rest, ap (λ file. unwrap_or file []) part.found ∙ sym (take-append-drop n part.content) ∙ ap (λ front. front ++ rest) (sym part.part)))
+    let n = length (bytes_read events) in
+    let rest = drop n part.content in
+    (rest, ap (λ file. unwrap_or file []) part.found ∙ sym (take-append-drop n part.content) ∙ ap (λ front. front ++ rest) (sym part.part)))
     (reads_part 0 path events a b reads h)
 
 -- a file that was read to its end holds the bytes that came

@@ -1,16 +1,15 @@
 -- What follows of reads and writes that are mixed.
-use Rattle.std.specs.Prelude.{◌≡◌, ◌⊎◌, ◌&&◌, ◌||◌, ◌+◌, ◌<◌, ◌==◌, nat_lt, ℕ, Bool, true, false, cond, not, List, [], ◌∷◌, ◌++◌, Option, Some, unwrap_or, filter, length, take, drop, Contains}
+use Rattle.std.specs.Prelude.{◌≡◌, ◌⊎◌, ◌&&◌, ◌||◌, ◌+◌, ◌==◌, nat_lt, ℕ, Bool, true, false, cond, not, List, [], ◌∷◌, ◌++◌, Option, unwrap_or, filter, length, Contains}
 use Rattle.std.specs.List.{AllByRecursion, list_any}
-use Rattle.std.proofs.Common.{refl, sym, ap, ◌∙◌, subst, arith, inl, inr, ⊎_elim}
+use Rattle.std.proofs.Common.{refl, sym, ap, ◌∙◌, subst, inl, inr, ⊎_elim}
 use Rattle.std.proofs.lemmas.Bool.{lt-ltb}
 use Rattle.std.proofs.lemmas.List.{append-nil, append_assoc}
 use Rattle.std.proofs.lemmas.List.Elements.{Contains-append_cases, Contains-append_left, Contains-append_right, filter-append}
 use Rattle.std.proofs.lemmas.List.Folds.{list_any-append}
-use Rattle.lif_outside.specs.AccountLaws.{contains_one}
 use Rattle.lif_outside.specs.Events.{Event, read, read_failed, created, create_failed, appended, append_failed, is_failed_read, is_failed_write, HappenAt}
 use Rattle.lif_outside.specs.EventLaws.{KeepsPath, happen-split, happens_keeping}
 use Rattle.lif_outside.specs.FaultLaws.{HaveFailed}
-use Rattle.lif_outside.specs.Runs.{AreAppendsTo, AreReadsFrom, ReadsPastLimit, ReadsToFault, ReadsWhole, StopsWithin, bytes_read, failed_of}
+use Rattle.lif_outside.specs.Runs.{AreAppendsTo, AreReadsFrom, ReadsToFault, ReadsWhole, StopsWithin, bytes_read, failed_of}
 use Rattle.lif_outside.specs.RunLaws.{bytes_read-append, reads_begin, whole_held}
 use Rattle.lif_outside.specs.Sequences.{Are, IsFrontOf}
 use Rattle.lif_outside.specs.SequenceLaws.{all_append, all_split, front_all, front_none, stops_all}

@@ -1,5 +1,5 @@
 -- A file that is read while what comes of it is written: reads and writes in one list of calls.
-use Rattle.std.specs.Prelude.{◌≡◌, ◌&&◌, ◌==◌, nat_lt, not, Bool, false, true, List, [], ◌∷◌, ◌++◌, filter, length}
+use Rattle.std.specs.Prelude.{◌≡◌, ◌&&◌, ◌==◌, nat_lt, not, Bool, false, true, List, ◌∷◌, ◌++◌, filter, length}
 use Rattle.std.specs.List.{list_any}
 use Rattle.lif_outside.specs.Events.{Event, read, read_failed}
 use Rattle.lif_outside.specs.Sequences.{IsFrontOf}

@@ -73,15 +73,21 @@ module _ (send : Send) (code : Code) (clear : IsClear send code) where
         ap (λ bytes. sent_line bytes counts.generations counts.sinks) are.bytes
             ∙ ap (λ generations. sent_line (length source) generations counts.sinks) are.generations
             ∙ ap (sent_line (length source) (block_count source code.rate)) are.sinks,
-        (clear, then_join _ _ first (reads ++ writes) created
-            (streams_whole (deliveries send code) (ReadsWhole send.source source_limit source) Are reads writes are_reads (subst AreWrites (sym these) are_writes) whole these (due_all (deliveries send code reads) writes these))),
+        (
+          clear,
+          then_join _ _ first (reads ++ writes) created
+              (streams_whole (deliveries send code) (ReadsWhole send.source source_limit source) Are reads writes are_reads (subst AreWrites (sym these) are_writes) whole these (due_all (deliveries send code reads) writes these)),
+        ),
       )
 
       -- a sink's file couldn't be written further
       pub unwritten : (line : List ℕ) → line ≡ write_fault_line → StopsWithin (deliveries send code reads) writes → RunsCode send code WriteFault line (first ++ (reads ++ writes))
       unwritten line said stop = (
-        inr (clear, then_join _ _ first (reads ++ writes) created
-            (streams_whole (deliveries send code) (ReadsAny send.source source_limit) StopsWithin reads writes are_reads (stops_are_writes (deliveries send code reads) writes stop are_writes) (inr (source, whole)) stop
-            (due_stops (deliveries send code reads) writes stop))),
+        inr (
+          clear,
+          then_join _ _ first (reads ++ writes) created
+              (streams_whole (deliveries send code) (ReadsAny send.source source_limit) StopsWithin reads writes are_reads (stops_are_writes (deliveries send code reads) writes stop are_writes) (inr (source, whole)) stop
+              (due_stops (deliveries send code reads) writes stop)),
+        ),
         said,
       )

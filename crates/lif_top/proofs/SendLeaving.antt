@@ -1,5 +1,5 @@
 -- What `send` leaves, by the calls after an accepted code was read.
-use Rattle.std.specs.Prelude.{◌≡◌, ◌⊎◌, ◌≤◌, ◌||◌, ◌++◌, ◌/◌, ◌*◌, ℕ, Bool, true, false, if◌then◌else◌, List, [], ◌∷◌, Option, Some, Ok, length, take, unwrap_or, Contains}
+use Rattle.std.specs.Prelude.{◌≡◌, ◌⊎◌, ◌≤◌, ◌||◌, ◌/◌, ◌*◌, ℕ, Bool, true, false, if◌then◌else◌, List, [], ◌∷◌, Option, Some, Ok, length, take, unwrap_or, Contains}
 use Rattle.std.specs.List.{AllByRecursion, concat}
 use Rattle.std.specs.Str.{bytes_eq}
 use Rattle.std.proofs.Common.{refl, sym, ap, subst, ◌∙◌, inl, inr, ⊎_elim, arith}
@@ -10,7 +10,6 @@ use Rattle.std.proofs.lemmas.Slice.Eq.{bytes_eq-Decides}
 use Rattle.generation_frame.specs.Blocks.{capacity, pieces_of, whole_pieces_of}
 use Rattle.generation_frame.specs.PieceLaws.{concat-pieces_before, concat-pieces_of}
 use Rattle.lif_outside.specs.Calls.{Deeds, Outside}
-use Rattle.lif_outside.specs.Counts.{Rose}
 use Rattle.lif_outside.specs.DeedLaws.{Accounted}
 use Rattle.lif_outside.specs.Events.{Event, Follow, HappenAt, append_failed}
 use Rattle.lif_outside.specs.EventLaws.{KeepsPath, happen_keeping}

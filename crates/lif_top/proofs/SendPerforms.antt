@@ -1,18 +1,16 @@
 -- What has to be known of the command `send`.
-use Rattle.std.specs.Prelude.{◌≡◌, ◌≢◌, ◌||◌, ℕ, Bool, true, false, List, [], Option, Some, Ok, IsTrue, IsFalse}
+use Rattle.std.specs.Prelude.{◌≡◌, ◌≢◌, ℕ, Bool, true, false, List, Option, Some, Ok, IsTrue, IsFalse}
 use Rattle.std.proofs.Common.{refl, sym, ap, subst, ◌∙◌, inl, inr, ⊎_elim}
 use Rattle.std.proofs.lemmas.Bool.{false≢true}
-use Rattle.lif_outside.specs.Calls.{Calls, Deeds, Outside}
-use Rattle.lif_outside.specs.DeedLaws.{Accounted}
+use Rattle.lif_outside.specs.Calls.{Calls, Outside}
 use Rattle.lif_outside.specs.Events.{Event, HappenAt}
 use Rattle.lif_outside.specs.FaultLaws.{HaveFailed, appends_unfailed, failed-append, fault_failed, none_failed, reads_unfailed, whole_unfailed}
 use Rattle.lif_outside.specs.Files.{Files}
-use Rattle.lif_outside.specs.Runs.{ReadsPastLimit, ReadsToFault, ReadsWhole, StopsWithin, creates_of}
+use Rattle.lif_outside.specs.Runs.{ReadsPastLimit, ReadsToFault, ReadsWhole, StopsWithin}
 use Rattle.lif_outside.specs.RunLaws.{long_held}
 use Rattle.lif_outside.specs.Sequences.{Are, IsFrontOf}
 use Rattle.lif_outside.specs.StreamLaws.{stream_failed}
 use Rattle.lif_outside.specs.Streams.{reads_in, writes_in}
-use Rattle.lif_outside.specs.Told.{Told}
 use Rattle.lif_outside.specs.TurnLaws.{appends-failed, creates_of-failed, creates_of-unfailed, front_unfailed}
 use Rattle.node_program.specs.declared.code.Code.{Code}
 use Rattle.top_base.specs.Accepting.{HoldsCode, IsCodeOf, RefusesCode, code_limit}
@@ -21,7 +19,7 @@ use Rattle.top_base.specs.Acting.{LeavesUnread}
 use Rattle.top_base.specs.ActingLaws.{ActsWell, acts_known, acts_used}
 use Rattle.top_base.specs.Inputs.{ReadsAny, is_lost}
 use Rattle.top_base.specs.InputLaws.{any-unfailed, not_long}
-use Rattle.top_base.specs.LeavingLaws.{told_any, told_at}
+use Rattle.top_base.specs.LeavingLaws.{told_at}
 use Rattle.top_base.specs.Outcome.{any_cycle, fault_line, is_fault, is_of_inputs}
 use Rattle.top_base.specs.PerformingLaws.{IsKnown, is_read_fault, is_write_fault, known}
 use Rattle.top_base.specs.Words.{Send}
@@ -33,7 +31,7 @@ use Rattle.lif_top.specs.Send.Command.{send_command}
 use Rattle.lif_top.specs.Send.Due.{DueOf, DueWith, NoFault}
 use Rattle.lif_top.specs.Send.Given.{outputs_of, source_limit}
 use Rattle.lif_top.specs.Send.Runs.{AfterCreates, Carries, RunsCode, Sends, deliveries}
-use Rattle.lif_top.proofs.SendLeaving.{all_keeps, at_source, changes_with, deliveries_are, part_keeps, source_held}
+use Rattle.lif_top.proofs.SendLeaving.{at_source, changes_with, deliveries_are, part_keeps, source_held}
 
 module _ (send : Send) where
   -- ---- of an accepted code

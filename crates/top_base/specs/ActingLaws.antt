@@ -1,11 +1,10 @@
 -- What has to be known of a command that reads one input and acts by it, from what is known of how it acts.
-use Rattle.std.specs.Prelude.{◌≡◌, ◌≢◌, ◌++◌, ℕ, false, true, List, [], Option, Some, Result, Ok, Err, IsTrue, IsFalse}
+use Rattle.std.specs.Prelude.{◌≡◌, ◌≢◌, ◌++◌, ℕ, false, List, [], Some, Result, Ok, Err, IsTrue, IsFalse}
 use Rattle.std.proofs.Common.{refl, sym, ap, subst, ◌∙◌}
 use Rattle.std.proofs.lemmas.Bool.{false≢true}
 use Rattle.std.proofs.lemmas.List.{append-nil}
 use Rattle.lif_outside.specs.CallLaws.{calls_then, calls_weaker}
 use Rattle.lif_outside.specs.Calls.{Begins, ByCalls, Calls, Deeds, Outside, store_calls}
-use Rattle.lif_outside.specs.Counts.{Rose}
 use Rattle.lif_outside.specs.DeedLaws.{Accounted}
 use Rattle.lif_outside.specs.Events.{Event}
 use Rattle.lif_outside.specs.FaultLaws.{HaveFailed, failed-append}

@@ -2,7 +2,6 @@
 use Rattle.std.specs.Prelude.{ℕ, List}
 use Rattle.lif_outside.specs.Calls.{Calls, MakesNone, Outside}
 use Rattle.lif_outside.specs.Counts.{Rose}
-use Rattle.lif_outside.specs.Files.{Files}
 use Rattle.top_base.specs.Acting.{Due, LeavesUnread, Runs}
 use Rattle.top_base.specs.Performs.{Behaviour, by_files}
 use Rattle.top_base.specs.declared.outcome.Outcome.{Outcome}

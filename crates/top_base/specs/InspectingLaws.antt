@@ -3,11 +3,9 @@ use Rattle.std.specs.Prelude.{◌≡◌, ◌≢◌, ℕ, List, [], false, IsTrue
 use Rattle.std.proofs.Common.{refl, sym, subst, ◌∙◌}
 use Rattle.std.proofs.lemmas.Bool.{false≢true}
 use Rattle.lif_outside.specs.Calls.{Calls, Outside}
-use Rattle.lif_outside.specs.Counts.{Rose}
 use Rattle.lif_outside.specs.Events.{Event}
 use Rattle.lif_outside.specs.FaultLaws.{HaveFailed, none_failed}
-use Rattle.lif_outside.specs.Told.{Told}
-use Rattle.top_base.specs.Acting.{LeavesUnread, Runs}
+use Rattle.top_base.specs.Acting.{LeavesUnread}
 use Rattle.top_base.specs.ActingLaws.{ActsWell, acts_known, acts_used}
 use Rattle.top_base.specs.InputLaws.{IsInput}
 use Rattle.top_base.specs.Inspecting.{Finds, ReadsWell, inspects}
@@ -17,7 +15,7 @@ use Rattle.top_base.specs.Performs.{LeavesAll}
 use Rattle.top_base.specs.PerformingLaws.{IsKnown, inputs_faultless, is_read_fault, is_write_fault, no_causes}
 use Rattle.top_base.specs.declared.outcome.Outcome.{Outcome}
 use Rattle.top_base.specs.declared.status.Status.{Status}
-use Rattle.top_base.specs.declared.status.Status.TheVariants.{LinkFault, OutOfMemory, ReadFault, Usage, WriteFault}
+use Rattle.top_base.specs.declared.status.Status.TheVariants.{LinkFault, ReadFault, Usage, WriteFault}
 
 -- no call, and a status of the inputs
 pub plain_failed : (status : Status) (calls : List Event) → IsTrue (is_of_inputs status) → calls ≡ [] → HaveFailed (is_read_fault status) (is_write_fault status) calls

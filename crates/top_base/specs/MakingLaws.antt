@@ -1,5 +1,5 @@
 -- What has to be known of a command that makes files, from what is known of what it makes.
-use Rattle.std.specs.Prelude.{◌≡◌, ◌≢◌, ℕ, false, true, List, [], ◌∷◌, Contains, None, Ok, Option, Some, IsTrue, IsFalse}
+use Rattle.std.specs.Prelude.{◌≡◌, ◌≢◌, ℕ, false, List, [], ◌∷◌, Contains, None, Ok, Option, Some, IsTrue, IsFalse}
 use Rattle.std.proofs.Common.{refl, sym, ap, subst, ◌∙◌}
 use Rattle.std.proofs.lemmas.Bool.{false≢true}
 use Rattle.lif_outside.specs.CallLaws.{calls_weaker}
@@ -7,7 +7,7 @@ use Rattle.lif_outside.specs.Calls.{ByCalls, Calls, Deeds, Outside, store_calls}
 use Rattle.lif_outside.specs.DeedLaws.{Accounted}
 use Rattle.lif_outside.specs.Events.{Event, Follow}
 use Rattle.lif_outside.specs.FaultLaws.{HaveFailed, none_failed}
-use Rattle.lif_outside.specs.Files.{AreDistinct, Files}
+use Rattle.lif_outside.specs.Files.{AreDistinct}
 use Rattle.lif_outside.specs.Runs.{StopsWithin, Written}
 use Rattle.lif_outside.specs.Sequences.{Are}
 use Rattle.lif_outside.specs.Told.{Told}
@@ -21,11 +21,11 @@ use Rattle.top_base.specs.InputLaws.{IsInput}
 use Rattle.top_base.specs.InspectingLaws.{plain_failed}
 use Rattle.top_base.specs.LeavingLaws.{keep_files, none_keep, told_any}
 use Rattle.top_base.specs.Making.{ChangesMaking, DueMaking, DueOf, LeavesMade, LeavesPart, RunsMaking, WorksWell, Writes, makes_by, makes_files, shares}
-use Rattle.top_base.specs.Outcome.{AreAlike, any_cycle, fault_line, is_fault, is_of_inputs}
+use Rattle.top_base.specs.Outcome.{AreAlike, fault_line, is_fault, is_of_inputs}
 use Rattle.top_base.specs.PathLaws.{clear_distinct}
 use Rattle.top_base.specs.Paths.{shared_path}
 use Rattle.top_base.specs.Performs.{LeavesAll}
-use Rattle.top_base.specs.PerformingLaws.{IsKnown, at_once_known, inputs_faultless, is_read_fault, is_write_fault}
+use Rattle.top_base.specs.PerformingLaws.{IsKnown, at_once_known, is_read_fault, is_write_fault}
 use Rattle.top_base.specs.declared.outcome.Outcome.{Outcome}
 use Rattle.top_base.specs.declared.status.Status.{Status}
 use Rattle.top_base.specs.declared.status.Status.TheVariants.{Done, LinkFault, OutOfMemory, ReadFault, SamePath, Usage, WriteFault}

@@ -1,4 +1,4 @@
-use Rattle.std.proofs.Common.{◌≡◌, ◌++◌, Err, sym, subst, subst₂, ap, ◌∙◌, arith}
+use Rattle.std.proofs.Common.{◌++◌, Err, sym, subst, subst₂, ap, ◌∙◌, arith}
 use Rattle.std.specs.Prelude.{Contains, List}
 use Rattle.generation_frame.specs.Blocks.{pieces_of}
 use Rattle.lif_outside.specs.CallLaws.{calls_then}
