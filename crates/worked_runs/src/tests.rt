@@ -3,6 +3,7 @@ mod coefficients;
 mod faults;
 mod lengths;
 mod making;
+mod many_demands;
 mod many_rows;
 mod many_sinks;
 mod numbers;
