@@ -1,13 +1,15 @@
 -- What has to be known of a command that reads one input and says what it finds.
-use Rattle.std.specs.Prelude.{◌≡◌, ◌≢◌, ℕ, List, [], false, IsTrue, IsFalse}
-use Rattle.std.proofs.Common.{refl, sym, subst, ◌∙◌}
+use Rattle.std.specs.Prelude.{◌≡◌, ◌≢◌, ◌⊎◌, ℕ, List, [], false, Ok, Err, IsTrue, IsFalse}
+use Rattle.std.proofs.Common.{refl, sym, subst, ◌∙◌, ⊎_elim}
 use Rattle.std.proofs.lemmas.Bool.{false≢true}
-use Rattle.lif_outside.specs.Calls.{Calls, Outside}
+use Rattle.lif_outside.specs.CallLaws.{calls_weaker}
+use Rattle.lif_outside.specs.Calls.{ByCalls, Calls, Outside, store_calls}
 use Rattle.lif_outside.specs.Events.{Event}
 use Rattle.lif_outside.specs.FaultLaws.{HaveFailed, none_failed}
 use Rattle.top_base.specs.Acting.{LeavesUnread}
-use Rattle.top_base.specs.ActingLaws.{ActsWell, acts_known, acts_used}
-use Rattle.top_base.specs.InputLaws.{IsInput}
+use Rattle.top_base.specs.ActingLaws.{ActsWell, acts_known, acts_used, runs_lost, runs_only}
+use Rattle.top_base.specs.Inputs.{IsNoMemory, Reads}
+use Rattle.top_base.specs.InputLaws.{IsInput, forgotten}
 use Rattle.top_base.specs.Inspecting.{Finds, ReadsWell, inspects}
 use Rattle.top_base.specs.LeavingLaws.{keep_files, none_keep, told_any}
 use Rattle.top_base.specs.Outcome.{AreAlike, is_fault, is_of_inputs}
@@ -37,6 +39,20 @@ faultless path LinkFault before after left well = absurd left
 faultless path status before after left well = refl
 
 module _ {X : Type 0} (limit : ℕ) (Is : List ℕ → X → Type 0) (Refuses : List ℕ → Status → List ℕ → Type 0) (Ends : X → Outcome → Type 0) where
+  -- the calls of such a command, where the input was had: it finds something, or there is no memory; and where it wasn't had
+  module _ {S : Type 0} {calls : List Event → S → S → Type 0} {a b : S} (path : List ℕ) where
+    pub inspects_had : (x : X) (outcome : Outcome) → ByCalls calls a b (Reads limit Is Refuses path (Ok x)) → Ends x outcome ⊎ IsNoMemory outcome
+        → ByCalls calls a b (λ events. (inspects limit Is Refuses Ends path).runs outcome (store_calls events))
+    inspects_had x outcome by found =
+        let only = runs_only limit Is Refuses path (Finds limit Is Refuses Ends) in
+        calls_weaker _ _ by (λ made reads. ⊎_elim
+        (λ ends. only (Ok x) outcome made reads (ends, refl))
+        (λ lost. only (Err outcome) outcome made (forgotten limit Is Refuses path x made outcome reads lost) (refl, refl))
+        found)
+
+    pub inspects_lost : (outcome : Outcome) → ByCalls calls a b (Reads limit Is Refuses path (Err outcome)) → ByCalls calls a b (λ events. (inspects limit Is Refuses Ends path).runs outcome (store_calls events))
+    inspects_lost outcome by = runs_lost limit Is Refuses path (Finds limit Is Refuses Ends) outcome by
+
   -- what has to be known of its outcomes: the status comes of the inputs, the words were a form, and there is one status
   pub record EndsWell : Type 0 where
     pub of_inputs : (x : X) (outcome : Outcome) → Ends x outcome → IsTrue (is_of_inputs outcome.status)

@@ -1,8 +1,6 @@
-use Rattle.std.proofs.Common.{Ok, refl, ap, ◌∙◌, List, ℕ}
-use Rattle.lif_outside.specs.CallLaws.{calls_weaker}
+use Rattle.std.proofs.Common.{inl, ap, ◌∙◌, List, ℕ}
 use Rattle.top_base.specs.Accepting.{IsCodeOf, RefusesCode, code_limit}
-use Rattle.top_base.specs.ActingLaws.{runs_lost, runs_only}
-use Rattle.top_base.specs.Inspecting.{Finds}
+use Rattle.top_base.specs.InspectingLaws.{inspects_had, inspects_lost}
 use Rattle.top_base.specs.Lines.{accepted_line}
 use Rattle.top_base.specs.declared.outcome.Outcome.{Outcome}
 use Rattle.top_base.specs.declared.status.Status.TheVariants.{Done}
@@ -14,9 +12,8 @@ done line = record { status = Done; line = line }
 
 pub returns-in-Ok : goal.returns-in-Ok
 returns-in-Ok g c =
-    calls_weaker _ _ c.in-Ok.ensures.had (λ made reads.
-    runs_only code_limit IsCodeOf RefusesCode c.args.path.now (Finds code_limit IsCodeOf RefusesCode IsChecked) (Ok c.in-Ok.checked.code) (done c.accepted.result) made reads
-    (ap done (c.accepted.ensures ∙ ap accepted_line c.code.ensures.value), refl))
+    inspects_had code_limit IsCodeOf RefusesCode IsChecked c.args.path.now c.in-Ok.checked.code (done c.accepted.result) c.in-Ok.ensures.had
+    (inl (ap done (c.accepted.ensures ∙ ap accepted_line c.code.ensures.value)))
 
 pub returns-in-Err : goal.returns-in-Err
-returns-in-Err g c = runs_lost code_limit IsCodeOf RefusesCode c.args.path.now (Finds code_limit IsCodeOf RefusesCode IsChecked) c.in-Err.refused c.in-Err.ensures.lost
+returns-in-Err g c = inspects_lost code_limit IsCodeOf RefusesCode IsChecked c.args.path.now c.in-Err.refused c.in-Err.ensures.lost

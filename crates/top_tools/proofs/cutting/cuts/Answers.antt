@@ -1,23 +1,11 @@
-use Rattle.std.proofs.Common.{Ok, Err, refl, ⊎_elim}
-use Rattle.lif_outside.specs.CallLaws.{calls_weaker}
 use Rattle.net_reader.specs.Text.{net_limit}
-use Rattle.top_base.specs.ActingLaws.{runs_lost, runs_only}
-use Rattle.top_base.specs.InputLaws.{forgotten}
-use Rattle.top_base.specs.Inspecting.{Finds}
+use Rattle.top_base.specs.InspectingLaws.{inspects_had, inspects_lost}
 use Rattle.top_base.specs.Networks.{IsNetOf, RefusesNet}
 use Rattle.top_tools.specs.Cuts.{IsWitnessed}
 use Rattle.top_tools.proofs.cutting.cuts.Goals as goal
 
 pub returns-in-Ok : goal.returns-in-Ok
-returns-in-Ok g c =
-    let path = c.args.path.now in
-    let net = c.in-Ok.ordered.net in
-    let outcome = c.witness.result in
-    let only = runs_only net_limit IsNetOf RefusesNet path (Finds net_limit IsNetOf RefusesNet IsWitnessed) in
-    calls_weaker _ _ c.in-Ok.ensures.had (λ made reads. ⊎_elim
-    (λ ends. only (Ok net) outcome made reads (ends, refl))
-    (λ lost. only (Err outcome) outcome made (forgotten net_limit IsNetOf RefusesNet path net made outcome reads lost) (refl, refl))
-    c.witness.ensures)
+returns-in-Ok g c = inspects_had net_limit IsNetOf RefusesNet IsWitnessed c.args.path.now c.in-Ok.ordered.net c.witness.result c.in-Ok.ensures.had c.witness.ensures
 
 pub returns-in-Err : goal.returns-in-Err
-returns-in-Err g c = runs_lost net_limit IsNetOf RefusesNet c.args.path.now (Finds net_limit IsNetOf RefusesNet IsWitnessed) c.in-Err.refused c.in-Err.ensures.lost
+returns-in-Err g c = inspects_lost net_limit IsNetOf RefusesNet IsWitnessed c.args.path.now c.in-Err.refused c.in-Err.ensures.lost
