@@ -1,7 +1,2 @@
 pub mod Carried
 pub mod LinkRows
-pub mod RowLaws
-pub mod BlockLaws
-pub mod CarriedLaws
-pub mod DecodedLaws
-pub mod CarrierLaws

@@ -6,16 +6,16 @@ use Rattle.gf_tables.specs.Field.{IsField, IsNumbering}
 use Rattle.gf_tables.specs.Kind.{IsOfKind}
 use Rattle.gf_tables.specs.declared.kind.FieldKind.{FieldKind}
 use Rattle.field_vectors.specs.Difference.{product_entry, identity_entry, IsFirstDifference}
-use Rattle.field_vectors.specs.DotOfLaws.{dot_of-element}
+use Rattle.field_vectors.proofs.DotOfLaws.{dot_of-element}
 use Rattle.field_vectors.specs.Elements.{product_of, identity_of, column_of}
 use Rattle.field_vectors.specs.Grid.{Grid, row_of}
-use Rattle.field_vectors.specs.GridLaws.{row_of-elements}
-use Rattle.field_vectors.specs.InverseLaws.{column_of-elements}
-use Rattle.field_vectors.specs.NumberLaws.{number-dot_of, numbers-column_of, numbers-identity_product, numbers-matrix}
+use Rattle.field_vectors.proofs.GridLaws.{row_of-elements}
+use Rattle.field_vectors.proofs.InverseLaws.{column_of-elements}
+use Rattle.field_vectors.proofs.NumberLaws.{number-dot_of, numbers-column_of, numbers-identity_product, numbers-matrix}
 use Rattle.linear_algebra.specs.Elements.{numbers}
 use Rattle.linear_algebra.specs.Matrices.{identity, times_rows, column}
-use Rattle.linear_algebra.specs.MatrixLaws.{slice_index-times_rows}
-use Rattle.linear_algebra.specs.RowLaws.{slice_index-unit_row}
+use Rattle.linear_algebra.proofs.MatrixLaws.{slice_index-times_rows}
+use Rattle.linear_algebra.proofs.RowLaws.{slice_index-unit_row}
 use Rattle.linear_algebra.specs.Rows.{dot, unit_row, AreRows}
 use Rattle.code_checker.specs.Checking.{entry_at, DiffersFirst}
 use Rattle.code_checker.specs.Loaded.{Shows}

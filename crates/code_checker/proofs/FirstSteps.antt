@@ -4,12 +4,12 @@ use Rattle.std.specs.Prelude.{Option, Some, None}
 use Rattle.std.proofs.Math.Nat.{div-add-mod, mul_comm, mul-le-mul_right}
 use Rattle.std.proofs.lemmas.Bool.{cases_lt, false≢true, ltb-true, ltb-false}
 use Rattle.std.proofs.lemmas.Nat.{mod-mul-add}
-use Rattle.failure_patterns.specs.DemandLaws.{sink_place_within, pattern_place_within}
-use Rattle.linear_algebra.specs.EntryLaws.{place_within}
+use Rattle.failure_patterns.proofs.DemandLaws.{sink_place_within, pattern_place_within}
+use Rattle.linear_algebra.proofs.EntryLaws.{place_within}
 use Rattle.linear_algebra.specs.Matrices.{identity}
 use Rattle.net_model.specs.Demands.{demand_count, pattern_of_demand}
 use Rattle.node_program.specs.Decoding.{IsAccepted}
-use Rattle.node_program.specs.DecodingLaws.{IsAccepted-identity}
+use Rattle.node_program.proofs.DecodingLaws.{IsAccepted-identity}
 use Rattle.node_program.specs.declared.code.Code.{Code}
 use Rattle.code_checker.specs.Checking.{demand_product, DiffersFirst, FailsFirst}
 use Rattle.code_checker.specs.First.{IsBefore, AreIdentities, IsFirst, IsFirstBefore, fails_below}

@@ -1,3 +1,4 @@
+pub mod CheckingLaws
 pub mod ProductSteps
 pub mod DifferenceSteps
 pub mod FirstSteps

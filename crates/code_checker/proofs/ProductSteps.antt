@@ -5,18 +5,18 @@ use Rattle.std.proofs.lemmas.Bool.{cases_lt}
 use Rattle.std.proofs.lemmas.List.{length-map, length-replicate, length-set, get_or-map, ext_get_or}
 use Rattle.std.proofs.lemmas.Option.{slice_get_within}
 use Rattle.field_vectors.specs.Grid.{Grid, IsMatrix, entry_of, row_of, with_row, grid_of}
-use Rattle.field_vectors.specs.GridLaws.{length-row_of, row_of-with_row, row_of-with_other, entry_of-set, entry_of-set_column, entry_of-with_other}
+use Rattle.field_vectors.proofs.GridLaws.{length-row_of, row_of-with_row, row_of-with_other, entry_of-set, entry_of-set_column, entry_of-with_other}
 use Rattle.linear_algebra.specs.Elements.{numbers}
-use Rattle.linear_algebra.specs.EntryLaws.{slice_index-rows_of, rows_of-AreRows}
+use Rattle.linear_algebra.proofs.EntryLaws.{slice_index-rows_of, rows_of-AreRows}
 use Rattle.linear_algebra.specs.Matrices.{rows_of}
-use Rattle.linear_algebra.specs.MatrixLaws.{length-rows_of}
-use Rattle.linear_algebra.specs.RowLaws.{AreRows-get_or}
+use Rattle.linear_algebra.proofs.MatrixLaws.{length-rows_of}
+use Rattle.linear_algebra.proofs.RowLaws.{AreRows-get_or}
 use Rattle.linear_algebra.specs.Rows.{AreElements}
 use Rattle.net_model.specs.Demands.{demand_count, pattern_of_demand, sink_of_demand}
 use Rattle.gf_tables.specs.declared.kind.FieldKind.{FieldKind}
 use Rattle.node_program.specs.CodeValue.{vector_in}
 use Rattle.node_program.specs.Decoding.{IsDecoder, decoder_matrix, decoder_vectors}
-use Rattle.node_program.specs.DecodingLaws.{decoder_of_demand, link_within}
+use Rattle.node_program.proofs.DecodingLaws.{decoder_of_demand, link_within}
 use Rattle.node_program.specs.Vectors.{AreVectors}
 use Rattle.node_program.specs.declared.Decoder.{Decoder}
 use Rattle.node_program.specs.declared.code.Code.{Code}

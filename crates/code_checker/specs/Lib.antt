@@ -1,4 +1,3 @@
 pub mod Checking
 pub mod Loaded
 pub mod First
-pub mod CheckingLaws

@@ -1,3 +1,11 @@
+pub mod AfterLaws
+pub mod CodeReaders
+pub mod ContentsLaws
+pub mod FrontReaders
+pub mod ItemReaders
+pub mod Readers
+pub mod ReadingLaws
+pub mod SpellingLaws
 pub mod Above
 pub mod Checks
 pub mod Joined

@@ -7,7 +7,7 @@ use Rattle.net_model.specs.Demands.{demand_count}
 use Rattle.net_model.specs.declared.net.Net.{Net}
 use Rattle.failure_patterns.specs.Demands.{demand_of}
 use Rattle.cut_witness.specs.Certificate.{AreCertificates, AreCertificatesFrom, IsCertificate}
-use Rattle.cut_witness.specs.CertificateLaws.{AreCertificatesFrom-append}
+use Rattle.cut_witness.proofs.CertificateLaws.{AreCertificatesFrom-append}
 use Rattle.cut_witness.specs.declared.cert.Cert.{Cert}
 
 -- there are none at first

@@ -17,7 +17,7 @@ const OCTET_DEMANDS: u64 = 256;
 const PAIR_DEMANDS: u64 = 65536;
 
 /// How many demands there are: each sink with each pattern.
-#[tactic(auto, using(crate::specs::DemandLaws::demands_fit))]
+#[tactic(auto, using(crate::proofs::DemandLaws::demands_fit))]
 pub fn demands(net: &Net) -> u64
     ensures { result ≡ demand_count net.now }
 {
@@ -25,7 +25,7 @@ pub fn demands(net: &Net) -> u64
 }
 
 /// The demand of a number: all patterns of the first sink come first, then all of the second.
-#[tactic(auto, using(crate::specs::DemandLaws::sink_place_fits))]
+#[tactic(auto, using(crate::proofs::DemandLaws::sink_place_fits))]
 pub fn demand_at(net: &Net, i: u64) -> Demand
     requires { i < demand_count net.now }
     ensures value { result ≡ demand_of net.now i }

@@ -1,3 +1,4 @@
+pub mod BytesLaws
 pub mod Halves
 pub mod LookUps
 pub mod Added

@@ -4,16 +4,16 @@ use Rattle.std.specs.Int.Bits.{xor_assoc, xor_self, xor_zero_r}
 use Rattle.std.proofs.lemmas.List.{get_or-map, length-map, ext_get_or}
 use Rattle.std.proofs.lemmas.Nat.{xor_comm, xor_lt}
 use Rattle.std.proofs.lemmas.Simd.{length-zip2, get_or-zip2}
-use Rattle.gf_tables.specs.KindField.{octic}
+use Rattle.gf_tables.proofs.KindField.{octic}
 use Rattle.gf_tables.specs.Product.{octet_polynomial, pair_constant, pair_product, product}
 use Rattle.gf_tables.specs.ProductLaws.{product_lt, product_assoc}
 use Rattle.gf_tables.specs.declared.kind.FieldKind.TheVariants.{Eight, Sixteen}
-use Rattle.linear_algebra.specs.ElementsLaws.{xor_of_pairs}
-use Rattle.linear_algebra.specs.FieldLaws.{product-xor}
+use Rattle.linear_algebra.proofs.ElementsLaws.{xor_of_pairs}
+use Rattle.linear_algebra.proofs.FieldLaws.{product-xor}
 use Rattle.linear_algebra.specs.Rows.{add_rows, scale_row}
 use Rattle.field_rows.specs.Added.{IsAddedBelow}
 use Rattle.field_rows.specs.Bytes.{pairs_of}
-use Rattle.field_rows.specs.BytesLaws.{length-pairs_of, get_or-pairs_of}
+use Rattle.field_rows.proofs.BytesLaws.{length-pairs_of, get_or-pairs_of}
 use Rattle.field_rows.specs.PairSums.{times, pair_sum_of}
 
 -- a product of octets is an octet

@@ -1,5 +1,4 @@
 pub mod Bytes
-pub mod BytesLaws
 pub mod Nibbles
 pub mod Halves
 pub mod Parted

@@ -4,7 +4,7 @@ use Rattle.std.proofs.lemmas.Bool.{cases_eq}
 use Rattle.gf_tables.specs.Field.{IsField}
 use Rattle.field_vectors.specs.Elements.{plus_multiple}
 use Rattle.field_vectors.specs.Elimination.{IsStep, IsReduced}
-use Rattle.field_vectors.specs.EliminationLaws.{step-then, step-add, reduced-add, entry-cleared, entry-other, entry_of-element}
+use Rattle.field_vectors.proofs.EliminationLaws.{step-then, step-add, reduced-add, entry-cleared, entry-other, entry_of-element}
 use Rattle.field_vectors.specs.Grid.{Grid, row_of, entry_of, with_row}
 
 -- column k has one on the diagonal, and zeros beside it in the rows below i

@@ -8,7 +8,7 @@ use Rattle.std.proofs.lemmas.List.Elements.{All-take, All-drop, All-nil, All-con
 use Rattle.std.specs.List.{All}
 use Rattle.field_vectors.specs.Cut.{cut, grid_in, AreEntries, with_part}
 use Rattle.field_vectors.specs.Grid.{IsMatrix}
-use Rattle.linear_algebra.specs.EntryLaws.{row_end, place_within}
+use Rattle.linear_algebra.proofs.EntryLaws.{row_end, place_within}
 
 -- how many rows there are
 pub length-cut : {A : Type 0} (count width : ℕ) (entries : List A) → length (cut count width entries) ≡ count

@@ -5,9 +5,9 @@ use Rattle.std.proofs.lemmas.List.{length-set, set-set, set-get_or, get_or-set_s
 use Rattle.std.proofs.lemmas.List.FromFn.{fill_by_all}
 use Rattle.field_vectors.proofs.RowSteps.{joined_below, joined_below-more}
 use Rattle.field_vectors.specs.Difference.{identity_entry}
-use Rattle.field_vectors.specs.DotOfLaws.{identity_entry-on, identity_entry-off}
+use Rattle.field_vectors.proofs.DotOfLaws.{identity_entry-on, identity_entry-off}
 use Rattle.field_vectors.specs.Elements.{unit_of}
-use Rattle.field_vectors.specs.GridLaws.{row_of-with_row, row_of-with_other}
+use Rattle.field_vectors.proofs.GridLaws.{row_of-with_row, row_of-with_other}
 use Rattle.field_vectors.specs.Grid.{Grid, row_of, with_row}
 
 -- zeros with one among them are a unit row

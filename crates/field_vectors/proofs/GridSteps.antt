@@ -6,7 +6,7 @@ use Rattle.std.proofs.lemmas.Bool.{cases_lt}
 use Rattle.std.proofs.lemmas.List.{length-set}
 use Rattle.std.proofs.lemmas.List.Elements.{All-set, All-get_or}
 use Rattle.field_vectors.proofs.CutLaws.{length-cut, get_or-cut, cut-with_part, cut-set, cut-replicate, cut-widths, cut-elements, with_part-AreEntries}
-use Rattle.linear_algebra.specs.EntryLaws.{row_end}
+use Rattle.linear_algebra.proofs.EntryLaws.{row_end}
 use Rattle.field_vectors.specs.Cut.{cut, grid_in, AreEntries, with_part}
 use Rattle.field_vectors.specs.Grid.{Grid, with_row, grid_of}
 

@@ -1,3 +1,10 @@
+pub mod ElementsLaws
+pub mod GridLaws
+pub mod DifferenceLaws
+pub mod DotOfLaws
+pub mod EliminationLaws
+pub mod InverseLaws
+pub mod NumberLaws
 pub mod RowSteps
 pub mod CutLaws
 pub mod GridSteps

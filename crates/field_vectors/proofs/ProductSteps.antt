@@ -1,10 +1,10 @@
 -- The steps of loops over products.
 use Rattle.std.proofs.Common.{◌≡◌, ℕ, ◌+◌, ◌<◌, length, drop, ap, ◌∙◌, arith}
 use Rattle.field_vectors.proofs.RowSteps.{dot_of-before}
-use Rattle.field_vectors.specs.DifferenceLaws.{get_or-column_of, length-column_of}
+use Rattle.field_vectors.proofs.DifferenceLaws.{get_or-column_of, length-column_of}
 use Rattle.field_vectors.specs.Elements.{dot_of, column_of}
 use Rattle.field_vectors.specs.Grid.{Grid, row_of, entry_of, IsMatrix}
-use Rattle.field_vectors.specs.GridLaws.{length-row_of}
+use Rattle.field_vectors.proofs.GridLaws.{length-row_of}
 
 -- the entry of a product from a place on, from that of the places behind it
 pub product_entry-before : {A : Type 0} {P : A → Type 0} (nought : A) (add mul : A → A → A) (a b : Grid A) (i j k : ℕ) → IsMatrix P a → i < length a.rows → k < a.columns

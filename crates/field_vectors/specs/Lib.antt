@@ -1,14 +1,7 @@
 pub mod Elements
-pub mod ElementsLaws
 pub mod Grid
-pub mod GridLaws
 pub mod Cut
 pub mod Difference
-pub mod DifferenceLaws
-pub mod DotOfLaws
 pub mod Elimination
-pub mod EliminationLaws
 pub mod Inverse
-pub mod InverseLaws
 pub mod Refusal
-pub mod NumberLaws

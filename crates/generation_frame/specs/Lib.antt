@@ -1,3 +1,1 @@
 pub mod Blocks
-pub mod BlockLaws
-pub mod PieceLaws

@@ -16,4 +16,3 @@ pub mod PairLaws
 pub mod PairNumbers
 pub mod Inverse
 pub mod Kind
-pub mod KindField

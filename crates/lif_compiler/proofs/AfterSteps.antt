@@ -9,18 +9,18 @@ use Rattle.std.proofs.lemmas.List.Elements.{All-weaker}
 use Rattle.std.proofs.lemmas.List.Sums.{list_all-from_AllPass}
 use Rattle.std.proofs.lemmas.Option.{get_or_from_slice_get, slice_get-get_or, slice_get_within}
 use Rattle.std.proofs.lemmas.Simd.{map-map}
-use Rattle.failure_patterns.specs.DemandLaws.{pattern_place_within}
+use Rattle.failure_patterns.proofs.DemandLaws.{pattern_place_within}
 use Rattle.field_vectors.specs.Elements.{dot_of}
 use Rattle.field_vectors.specs.Grid.{Grid, IsMatrix, row_of}
-use Rattle.field_vectors.specs.GridLaws.{length-row_of, row_of-elements}
-use Rattle.field_vectors.specs.NumberLaws.{number-dot_of, numbers-IsRow, numbers-zeros}
+use Rattle.field_vectors.proofs.GridLaws.{length-row_of, row_of-elements}
+use Rattle.field_vectors.proofs.NumberLaws.{number-dot_of, numbers-IsRow, numbers-zeros}
 use Rattle.gf_tables.specs.Field.{IsField, IsNumbering}
 use Rattle.gf_tables.specs.Kind.{IsOfKind}
 use Rattle.gf_tables.specs.Product.{size_of}
 use Rattle.gf_tables.specs.declared.kind.FieldKind.{FieldKind}
-use Rattle.linear_algebra.specs.CombinationLaws.{dot-combination}
+use Rattle.linear_algebra.proofs.CombinationLaws.{dot-combination}
 use Rattle.linear_algebra.specs.Elements.{numbers}
-use Rattle.linear_algebra.specs.RowLaws.{unit_row-IsRow}
+use Rattle.linear_algebra.proofs.RowLaws.{unit_row-IsRow}
 use Rattle.linear_algebra.specs.Rows.{IsRow, combination, dot, unit_row, zero_row}
 use Rattle.net_model.specs.Demands.{demand_count, pattern_of_demand}
 use Rattle.net_model.specs.Failed.{failed_links, is_failed_in}
@@ -30,14 +30,14 @@ use Rattle.net_model.specs.declared.net.Net.{Net}
 use Rattle.node_program.specs.Carried.{IsCarried, numbers_at, source_vector}
 use Rattle.node_program.specs.Code.{are_operands, is_source_of}
 use Rattle.node_program.specs.Value.{leaves_source}
-use Rattle.node_program.specs.ValueLaws.{map-agree}
-use Rattle.node_program.specs.VectorLaws.{IsRow-global_vector}
+use Rattle.node_program.proofs.ValueLaws.{map-agree}
+use Rattle.node_program.proofs.VectorLaws.{IsRow-global_vector}
 use Rattle.node_program.specs.declared.Operand.{Operand}
 use Rattle.sink_basis.specs.Basis.{IsBasis}
-use Rattle.lif_compiler.specs.DraftLaws.{IsDraft-more, global_vector-last, global_vector-more}
-use Rattle.lif_compiler.specs.HopLaws.{hop-demand, hop-path, hop-source, hop-works}
+use Rattle.lif_compiler.proofs.DraftLaws.{IsDraft-more, global_vector-last, global_vector-more}
+use Rattle.lif_compiler.proofs.HopLaws.{hop-demand, hop-path, hop-source, hop-works}
 use Rattle.lif_compiler.specs.Hops.{IsHop}
-use Rattle.lif_compiler.specs.OperandLaws.{All-operands_of, AreRows-map, combination-operands_of, rising-operands_of}
+use Rattle.lif_compiler.proofs.OperandLaws.{All-operands_of, AreRows-map, combination-operands_of, rising-operands_of}
 use Rattle.lif_compiler.specs.Operands.{befores}
 use Rattle.lif_compiler.specs.Steps.{AreCarried, IsCarriedUnless}
 use Rattle.lif_compiler.specs.Tables.{AreChosenBy, AreMatrices, grid_at, vectors_for}

@@ -9,7 +9,7 @@ use Rattle.gf_tables.specs.Product.{size_of}
 use Rattle.gf_tables.specs.declared.kind.FieldKind.{FieldKind}
 use Rattle.net_model.specs.Demands.{demand_count}
 use Rattle.net_model.specs.Renumbering.{HasEachOnce, renumbered_links}
-use Rattle.net_model.specs.RenumberingLaws.{length-renumbered_links}
+use Rattle.net_model.proofs.RenumberingLaws.{length-renumbered_links}
 use Rattle.net_model.specs.Walks.{IsAcyclic}
 use Rattle.net_model.specs.declared.net.Net.{Net}
 use Rattle.node_program.specs.Code.{are_in_order, choice_of}
@@ -20,9 +20,9 @@ use Rattle.node_program.specs.declared.code.Code.{Code}
 use Rattle.topo_order.specs.Order.{order_of}
 use Rattle.lif_compiler.specs.Compiled.{Feeds, IsCompiled, IsOfPaths, IsRenumbered}
 use Rattle.lif_compiler.specs.Hops.{AreHops}
-use Rattle.lif_compiler.specs.InOrderLaws.{HasEachOnce-order_of, are_in_order-renumbered}
-use Rattle.lif_compiler.specs.OriginLaws.{AreRoutes-renumbered, Feeds-of_hop}
-use Rattle.lif_compiler.specs.RouteLaws.{routes-count}
+use Rattle.lif_compiler.proofs.InOrderLaws.{HasEachOnce-order_of, are_in_order-renumbered}
+use Rattle.lif_compiler.proofs.OriginLaws.{AreRoutes-renumbered, Feeds-of_hop}
+use Rattle.lif_compiler.proofs.RouteLaws.{routes-count}
 use Rattle.lif_compiler.specs.Routes.{routes_of_certs}
 use Rattle.lif_compiler.specs.Visits.{AreRoutes, AreVisitable, IsFilled, IsOfHop}
 use Rattle.lif_compiler.specs.declared.hops.Hop.{Hop}

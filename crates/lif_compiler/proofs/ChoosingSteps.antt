@@ -5,11 +5,11 @@ use Rattle.std.proofs.lemmas.Bool.{cases_lt}
 use Rattle.std.proofs.lemmas.List.{get_or-map, get_or_default, length-map}
 use Rattle.std.proofs.lemmas.Option.{slice_get-get_or, slice_get_within}
 use Rattle.coeff_choice.specs.Choice.{HasNonzeroAt, IsChoice}
-use Rattle.field_vectors.specs.DotOfLaws.{dot_of-element}
+use Rattle.field_vectors.proofs.DotOfLaws.{dot_of-element}
 use Rattle.field_vectors.specs.Elements.{dot_of}
 use Rattle.field_vectors.specs.Grid.{Grid, IsMatrix, entry_of, row_of}
-use Rattle.field_vectors.specs.GridLaws.{row_of-elements}
-use Rattle.field_vectors.specs.NumberLaws.{get_or-numbers, number-dot_of, numbers-AreElements}
+use Rattle.field_vectors.proofs.GridLaws.{row_of-elements}
+use Rattle.field_vectors.proofs.NumberLaws.{get_or-numbers, number-dot_of, numbers-AreElements}
 use Rattle.gf_tables.specs.Field.{IsField, IsNumbering}
 use Rattle.gf_tables.specs.Kind.{IsOfKind}
 use Rattle.gf_tables.specs.declared.kind.FieldKind.{FieldKind}
@@ -19,7 +19,7 @@ use Rattle.net_model.specs.Lists.{is_among}
 use Rattle.node_program.specs.Carried.{numbers_at, source_vector}
 use Rattle.node_program.specs.declared.Operand.{Operand}
 use Rattle.lif_compiler.specs.Operands.{ArePlaces, AreSources, befores, operands_of}
-use Rattle.lif_compiler.specs.RisingLaws.{is_among-from_Contains, place-from_is_among, rising-place}
+use Rattle.lif_compiler.proofs.RisingLaws.{is_among-from_Contains, place-from_is_among, rising-place}
 use Rattle.lif_compiler.specs.Tables.{AreChosenBy, IsTable, grid_at, vectors_for}
 use Rattle.lif_compiler.specs.declared.hops.Hop.{Hop}
 

@@ -8,7 +8,7 @@ use Rattle.std.proofs.lemmas.Option.{get_or_from_slice_get, slice_get_within}
 use Rattle.field_vectors.specs.Elements.{dot_of}
 use Rattle.field_vectors.specs.Grid.{Grid, row_of, with_row}
 use Rattle.net_model.specs.Lists.{is_rising}
-use Rattle.lif_compiler.specs.RisingLaws.{rising-below}
+use Rattle.lif_compiler.proofs.RisingLaws.{rising-below}
 use Rattle.lif_compiler.specs.Steps.{AreRenewed, IsApart}
 use Rattle.lif_compiler.specs.Tables.{grid_at, vectors_for}
 use Rattle.lif_compiler.specs.declared.hops.Hop.{Hop}

@@ -4,7 +4,7 @@ use Rattle.std.proofs.Common.{refl, sym, ◌∙◌, ap, arith, below_more}
 use Rattle.std.proofs.lemmas.List.{get_or-set_same, get_or-set_other}
 use Rattle.std.proofs.lemmas.List.Elements.{All-head, All-tail}
 use Rattle.net_model.specs.Renumbering.{HasEachOnce, new_number}
-use Rattle.net_model.specs.RenumberingLaws.{new_number-below, new-old, old-new, old_number-below}
+use Rattle.net_model.proofs.RenumberingLaws.{new_number-below, new-old, old-new, old_number-below}
 use Rattle.lif_compiler.specs.Routes.{IsInverse}
 
 -- one more new number at its old link

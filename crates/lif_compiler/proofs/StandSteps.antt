@@ -1,7 +1,6 @@
 -- How each demand's basis stands after a link is visited.
-use Rattle.std.specs.Prelude.{◌≡◌, ◌<◌, ◌+◌, ℕ, true, false, IsTrue, List, [], ◌++◌, ◌∷◌, All, Option, Some, length, map, slice_get, slice_index, slice_index_or, slice_set}
+use Rattle.std.specs.Prelude.{◌≡◌, ◌<◌, ◌+◌, ℕ, true, false, IsTrue, List, [], ◌++◌, ◌∷◌, All, Option, Some, length, map, slice_get, slice_index, slice_index_or, slice_set, ◌⊎◌}
 use Rattle.std.proofs.Common.{refl, sym, ap, ◌∙◌, arith, get_or, inl, inr, subst}
-use Rattle.std.specs.Prelude.{◌⊎◌}
 use Rattle.std.proofs.lemmas.Bool.{cases_Bool, cases_eq, cases_lt, both_ways}
 use Rattle.std.proofs.lemmas.List.{get_or-map, get_or_default, length-append, length-map, map-set}
 use Rattle.std.proofs.lemmas.Option.{get_or_from_slice_get, slice_get-get_or, slice_get_within, unwrap_or-slice_get}
@@ -18,14 +17,14 @@ use Rattle.node_program.specs.Code.{are_in_order}
 use Rattle.node_program.specs.Value.{leaves_source}
 use Rattle.node_program.specs.declared.Operand.{Operand}
 use Rattle.sink_basis.specs.Basis.{IsBasis}
-use Rattle.lif_compiler.specs.DraftLaws.{global_vector-more}
+use Rattle.lif_compiler.proofs.DraftLaws.{global_vector-more}
 use Rattle.lif_compiler.specs.Frontier.{IsAtFrontier}
-use Rattle.lif_compiler.specs.HopLaws.{hop-demand, hop-path, rising-route}
+use Rattle.lif_compiler.proofs.HopLaws.{hop-demand, hop-path, rising-route}
 use Rattle.lif_compiler.specs.Hops.{IsHop, route_of}
-use Rattle.lif_compiler.specs.RisingLaws.{is_among-from_Contains, place-from_is_among, rising-below}
+use Rattle.lif_compiler.proofs.RisingLaws.{is_among-from_Contains, place-from_is_among, rising-below}
 use Rattle.lif_compiler.specs.Steps.{AreCarried, AreRenewed, IsApart}
 use Rattle.lif_compiler.specs.Tables.{AreChosenBy, grid_at, vectors_for}
-use Rattle.lif_compiler.specs.VisitLaws.{frontier-next, frontier-other}
+use Rattle.lif_compiler.proofs.VisitLaws.{frontier-next, frontier-other}
 use Rattle.lif_compiler.specs.Visits.{CanVisit, IsVisited, StandsAt, paths_of, vector_under}
 use Rattle.lif_compiler.specs.declared.hops.Hop.{Hop}
 use Rattle.lif_compiler.proofs.AfterSteps.{chosen_more, new_vector, vectors_more}

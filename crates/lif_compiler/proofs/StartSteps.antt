@@ -7,7 +7,7 @@ use Rattle.std.proofs.lemmas.List.FromFn.{get_or-map-range_with_len}
 use Rattle.std.proofs.lemmas.Option.{get_or_from_slice_get, slice_get_within}
 use Rattle.field_vectors.specs.Elements.{identity_of}
 use Rattle.field_vectors.specs.Grid.{Grid, grid_of}
-use Rattle.field_vectors.specs.NumberLaws.{numbers-identity_of}
+use Rattle.field_vectors.proofs.NumberLaws.{numbers-identity_of}
 use Rattle.gf_tables.specs.Field.{IsField, IsNumbering}
 use Rattle.gf_tables.specs.Kind.{IsOfKind}
 use Rattle.gf_tables.specs.declared.kind.FieldKind.{FieldKind}
@@ -16,9 +16,9 @@ use Rattle.linear_algebra.specs.Rows.{unit_row}
 use Rattle.net_model.specs.Demands.{demand_count, pattern_of_demand}
 use Rattle.net_model.specs.declared.net.Net.{Net}
 use Rattle.node_program.specs.Code.{are_in_order, choice_of}
-use Rattle.lif_compiler.specs.DraftLaws.{IsDraft-none}
+use Rattle.lif_compiler.proofs.DraftLaws.{IsDraft-none}
 use Rattle.lif_compiler.specs.Frontier.{frontier_vector, last_below}
-use Rattle.lif_compiler.specs.FrontierLaws.{last_below-none}
+use Rattle.lif_compiler.proofs.FrontierLaws.{last_below-none}
 use Rattle.lif_compiler.specs.Tables.{grid_at}
 use Rattle.lif_compiler.specs.Visits.{AreRoutes, HasVectors, IsVisited, StandsAt, paths_of, vector_under}
 

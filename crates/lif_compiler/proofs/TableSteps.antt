@@ -6,14 +6,14 @@ use Rattle.std.proofs.Math.Path.{ap₂}
 use Rattle.std.proofs.lemmas.List.{ext_get_or, get_or_default, get_or-map, get_or-set_other, get_or-set_same, length-map, length-set, map-set}
 use Rattle.field_vectors.specs.Elements.{dot_of}
 use Rattle.field_vectors.specs.Grid.{Grid, IsMatrix, entry_of, row_of, with_row}
-use Rattle.field_vectors.specs.GridLaws.{length-row_of, row_of-elements, row_of-with_other, row_of-with_row}
-use Rattle.field_vectors.specs.NumberLaws.{get_or-numbers, number-dot_of, numbers-IsRow}
+use Rattle.field_vectors.proofs.GridLaws.{length-row_of, row_of-elements, row_of-with_other, row_of-with_row}
+use Rattle.field_vectors.proofs.NumberLaws.{get_or-numbers, number-dot_of, numbers-IsRow}
 use Rattle.gf_tables.specs.Field.{IsField, IsNumbering}
 use Rattle.gf_tables.specs.Kind.{IsOfKind}
 use Rattle.gf_tables.specs.declared.kind.FieldKind.{FieldKind}
-use Rattle.linear_algebra.specs.DotLaws.{dot-comm, dot-unit_row}
+use Rattle.linear_algebra.proofs.DotLaws.{dot-comm, dot-unit_row}
 use Rattle.linear_algebra.specs.Elements.{numbers}
-use Rattle.linear_algebra.specs.RowLaws.{unit_row-IsRow}
+use Rattle.linear_algebra.proofs.RowLaws.{unit_row-IsRow}
 use Rattle.linear_algebra.specs.Rows.{dot, unit_row}
 use Rattle.node_program.specs.Carried.{numbers_at, source_vector}
 use Rattle.lif_compiler.specs.Tables.{grid_at, vectors_for}

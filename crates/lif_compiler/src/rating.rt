@@ -1,7 +1,7 @@
 //! The rate of a network, where a code can have it.
 ghost use Rattle.std.specs.Prelude.{◌≡◌, ◌≤◌, IfErr, IfOk};
 ghost use Rattle.cut_witness.specs.Certificate.{AreCertificates, IsLeastValue};
-ghost use Rattle.lif_compiler.specs.RatingLaws.{IsFirstOfValue};
+ghost use Rattle.lif_compiler.specs.Rating.{IsFirstOfValue};
 ghost use Rattle.lif_compiler.specs.Refused.{IsBadRate};
 
 use crate::CompileRefusal;

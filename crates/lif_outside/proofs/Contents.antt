@@ -1,6 +1,5 @@
 -- What a map from paths to bytes holds after one file is set.
-use Rattle.std.proofs.Common.{◌≡◌, ℕ, List, ◌++◌, [], Some, String, Vec, BTreeMap, Global, option_map, string_bytes, string_cmp, nat_cmp, bytes_eq, is_some, unwrap_or, IsSome, sym, ap, subst, ◌∙◌}
-use Rattle.std.proofs.Common.{inl, inr}
+use Rattle.std.proofs.Common.{◌≡◌, ℕ, List, ◌++◌, [], Some, String, Vec, BTreeMap, Global, option_map, string_bytes, string_cmp, nat_cmp, bytes_eq, is_some, unwrap_or, IsSome, sym, ap, subst, ◌∙◌, inl, inr}
 use Rattle.std.specs.BTreeMap.{UpdatesBy, Updates}
 use Rattle.std.specs.Cmp.Lexicographic.{slice_cmp}
 use Rattle.std.proofs.lemmas.Bool.{cases_Bool, cond-false, false_from_ne_true, false≢true}

@@ -1,2 +1,11 @@
+pub mod SequenceLaws
+pub mod RunLaws
+pub mod FaultLaws
+pub mod TurnLaws
+pub mod WriteLaws
+pub mod StreamLaws
+pub mod PutLaws
+pub mod CallLaws
+pub mod DeedLaws
 mod Contents
 mod MemoryCalls

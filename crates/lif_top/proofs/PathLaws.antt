@@ -12,13 +12,13 @@ use Rattle.std.proofs.lemmas.List.Folds.{find-append}
 use Rattle.std.proofs.lemmas.List.Sums.{sum_by-cons}
 use Rattle.std.proofs.lemmas.Option.{unwrap_or-slice_get}
 use Rattle.std.proofs.lemmas.Slice.Eq.{bytes_eq-Decides}
-use Rattle.net_model.specs.ListLaws.{IsDistinct-from_are_distinct}
+use Rattle.net_model.proofs.ListLaws.{IsDistinct-from_are_distinct}
 use Rattle.lif_outside.specs.Files.{AreDistinct}
 use Rattle.net_model.specs.declared.net.Net.{Net}
 use Rattle.name_texts.specs.Names.{node_name}
 use Rattle.top_base.specs.Paths.{is_shared, shared_path}
 use Rattle.lif_top.specs.Paths.{output_path, output_paths}
-use Rattle.name_texts.specs.NameLaws.{sink_in_range}
+use Rattle.name_texts.proofs.NameLaws.{sink_in_range}
 
 -- paths of which no two are equal
 distinct_in_pairs : (paths : List (List ℕ)) → AllPairs (λ a b. a ≢ b) paths → AreDistinct paths

@@ -10,12 +10,12 @@ use Rattle.lif_outside.specs.Events.{Event}
 use Rattle.lif_outside.specs.Puts.{Put}
 use Rattle.top_base.specs.Outcome.{SaysOutcome, status_unsaid}
 use Rattle.top_base.specs.Performs.{RunsOnStore}
-use Rattle.top_base.specs.PerformingLaws.{IsKnown, at_once_known, performs_said}
+use Rattle.top_base.proofs.PerformingLaws.{IsKnown, at_once_known, performs_said}
 use Rattle.top_base.specs.Words.{Command, check, command_of, compile, cuts, order, send}
 use Rattle.top_base.specs.declared.outcome.Outcome.{Outcome}
 use Rattle.top_base.specs.declared.status.Status.{Status}
 use Rattle.top_base.specs.declared.status.Status.TheVariants.{Done, Usage}
-use Rattle.top_tools.specs.ToolLaws.{check_known, check_used, compile_known, compile_used, cuts_known, cuts_used, order_known, order_used}
+use Rattle.top_tools.proofs.ToolLaws.{check_known, check_used, compile_known, compile_used, cuts_known, cuts_used, order_known, order_used}
 use Rattle.lif_top.specs.Promises.{Promises, does_form, misuse}
 use Rattle.lif_top.proofs.SendPerforms.{send_known, send_used}
 

@@ -5,8 +5,8 @@ use Rattle.generation_frame.specs.Blocks.{block_count, pieces_of}
 use Rattle.lif_outside.specs.Events.{Event}
 use Rattle.lif_outside.specs.Runs.{ReadsPastLimit, ReadsToFault, ReadsWhole, StopsWithin, appends_to, creates_of}
 use Rattle.lif_outside.specs.Sequences.{Are, IsFrontOf}
-use Rattle.lif_outside.specs.SequenceLaws.{front_none, then_join}
-use Rattle.lif_outside.specs.StreamLaws.{AreReads, AreWrites, appends_are_writes, due_all, due_none, due_stops, fault_are_reads, from_are_reads, stops_are_writes, streams_whole, whole_are_reads}
+use Rattle.lif_outside.proofs.SequenceLaws.{front_none, then_join}
+use Rattle.lif_outside.proofs.StreamLaws.{AreReads, AreWrites, appends_are_writes, due_all, due_none, due_stops, fault_are_reads, from_are_reads, stops_are_writes, streams_whole, whole_are_reads}
 use Rattle.lif_outside.specs.Streams.{Streams}
 use Rattle.node_program.specs.declared.code.Code.{Code}
 use Rattle.top_base.specs.FileReading.{StopsReading, outcome_of}

@@ -8,25 +8,25 @@ use Rattle.std.proofs.lemmas.Bool.{cases_lt}
 use Rattle.std.proofs.lemmas.List.{length-take, take_all, take-take}
 use Rattle.std.proofs.lemmas.Slice.Eq.{bytes_eq-Decides}
 use Rattle.generation_frame.specs.Blocks.{capacity, pieces_of, whole_pieces_of}
-use Rattle.generation_frame.specs.PieceLaws.{concat-pieces_before, concat-pieces_of}
+use Rattle.generation_frame.proofs.PieceLaws.{concat-pieces_before, concat-pieces_of}
 use Rattle.lif_outside.specs.Calls.{Deeds, Outside}
-use Rattle.lif_outside.specs.DeedLaws.{Accounted}
+use Rattle.lif_outside.proofs.DeedLaws.{Accounted}
 use Rattle.lif_outside.specs.Events.{Event, Follow, HappenAt, append_failed}
 use Rattle.lif_outside.specs.EventLaws.{KeepsPath, happen_keeping}
 use Rattle.lif_outside.specs.Files.{AreDistinct, ChangesOnly, Files, Holds, HoldsPrefix, IsSameOrEmpty}
 use Rattle.lif_outside.specs.Runs.{AreAppendsTo, ReadsPastLimit, ReadsToFault, ReadsWhole, StopsWithin, bytes_appended, bytes_read, creates_of}
-use Rattle.lif_outside.specs.RunLaws.{appends_held, appends_keep, fault_there, long_held, reads_begin, whole_held}
+use Rattle.lif_outside.proofs.RunLaws.{appends_held, appends_keep, fault_there, long_held, reads_begin, whole_held}
 use Rattle.lif_outside.specs.Sequences.{Are, IsFrontOf}
-use Rattle.lif_outside.specs.StreamLaws.{fault_begins, reads_among, reads_happen, stream_keeps, whole_begins, whole_ended, whole_gave, writes_among, writes_happen}
+use Rattle.lif_outside.proofs.StreamLaws.{fault_begins, reads_among, reads_happen, stream_keeps, whole_begins, whole_ended, whole_gave, writes_among, writes_happen}
 use Rattle.lif_outside.specs.Streams.{have_ended, reads_in, writes_in}
 use Rattle.lif_outside.specs.Told.{Becomes, Told}
 use Rattle.lif_outside.specs.ToldLaws.{becomes_weaker}
-use Rattle.lif_outside.specs.TurnLaws.{appends-fault, appends-front, appends-stopped, appends_to-are, bytes_appended-appends_to, creates_of-empty, creates_of-fault, creates_of-keep, creates_of-stopped, front_keeps, stops_keep}
+use Rattle.lif_outside.proofs.TurnLaws.{appends-fault, appends-front, appends-stopped, appends_to-are, bytes_appended-appends_to, creates_of-empty, creates_of-fault, creates_of-keep, creates_of-stopped, front_keeps, stops_keep}
 use Rattle.node_program.specs.declared.code.Code.{Code}
 use Rattle.top_base.specs.Accepting.{HoldsCode}
 use Rattle.top_base.specs.Inputs.{HoldsLong, HoldsShort, ReadsAny}
-use Rattle.top_base.specs.LeavingLaws.{happen_later, happen_parts, keep_files, later_among, none_keep, told_at}
-use Rattle.top_base.specs.PathLaws.{clear_apart, clear_distinct}
+use Rattle.top_base.proofs.LeavingLaws.{happen_later, happen_parts, keep_files, later_among, none_keep, told_at}
+use Rattle.top_base.proofs.PathLaws.{clear_apart, clear_distinct}
 use Rattle.top_base.specs.Performs.{LeavesAll}
 use Rattle.top_base.specs.Words.{Send}
 use Rattle.top_base.specs.declared.status.Status.{Status}

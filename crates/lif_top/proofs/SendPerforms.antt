@@ -4,24 +4,24 @@ use Rattle.std.proofs.Common.{refl, sym, ap, subst, ◌∙◌, inl, inr, ⊎_eli
 use Rattle.std.proofs.lemmas.Bool.{false≢true}
 use Rattle.lif_outside.specs.Calls.{Calls, Outside}
 use Rattle.lif_outside.specs.Events.{Event, HappenAt}
-use Rattle.lif_outside.specs.FaultLaws.{HaveFailed, appends_unfailed, failed-append, fault_failed, none_failed, reads_unfailed, whole_unfailed}
+use Rattle.lif_outside.proofs.FaultLaws.{HaveFailed, appends_unfailed, failed-append, fault_failed, none_failed, reads_unfailed, whole_unfailed}
 use Rattle.lif_outside.specs.Files.{Files}
 use Rattle.lif_outside.specs.Runs.{ReadsPastLimit, ReadsToFault, ReadsWhole, StopsWithin}
-use Rattle.lif_outside.specs.RunLaws.{long_held}
+use Rattle.lif_outside.proofs.RunLaws.{long_held}
 use Rattle.lif_outside.specs.Sequences.{Are, IsFrontOf}
-use Rattle.lif_outside.specs.StreamLaws.{stream_failed}
+use Rattle.lif_outside.proofs.StreamLaws.{stream_failed}
 use Rattle.lif_outside.specs.Streams.{reads_in, writes_in}
-use Rattle.lif_outside.specs.TurnLaws.{appends-failed, creates_of-failed, creates_of-unfailed, front_unfailed}
+use Rattle.lif_outside.proofs.TurnLaws.{appends-failed, creates_of-failed, creates_of-unfailed, front_unfailed}
 use Rattle.node_program.specs.declared.code.Code.{Code}
 use Rattle.top_base.specs.Accepting.{HoldsCode, IsCodeOf, RefusesCode, code_limit}
-use Rattle.top_base.specs.AcceptingLaws.{code_input}
+use Rattle.top_base.proofs.AcceptingLaws.{code_input}
 use Rattle.top_base.specs.Acting.{LeavesUnread}
-use Rattle.top_base.specs.ActingLaws.{ActsWell, acts_known, acts_used}
+use Rattle.top_base.proofs.ActingLaws.{ActsWell, acts_known, acts_used}
 use Rattle.top_base.specs.Inputs.{ReadsAny, is_lost}
-use Rattle.top_base.specs.InputLaws.{any-unfailed, not_long}
-use Rattle.top_base.specs.LeavingLaws.{told_at}
+use Rattle.top_base.proofs.InputLaws.{any-unfailed, not_long}
+use Rattle.top_base.proofs.LeavingLaws.{told_at}
 use Rattle.top_base.specs.Outcome.{any_cycle, fault_line, is_fault, is_of_inputs}
-use Rattle.top_base.specs.PerformingLaws.{IsKnown, is_read_fault, is_write_fault, known}
+use Rattle.top_base.proofs.PerformingLaws.{IsKnown, is_read_fault, is_write_fault, known}
 use Rattle.top_base.specs.Words.{Send}
 use Rattle.top_base.specs.declared.outcome.Outcome.{Outcome}
 use Rattle.top_base.specs.declared.status.Status.{Status}

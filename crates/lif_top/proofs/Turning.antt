@@ -5,14 +5,14 @@ use Rattle.std.proofs.lemmas.Bool.{false≢true, lt-ltb}
 use Rattle.std.proofs.Math.Seq.{take-suc, split_at}
 use Rattle.std.proofs.lemmas.List.{append-nil, append_assoc, get_or-map, length-map}
 use Rattle.generation_frame.specs.Blocks.{piece_of, pieces_before}
-use Rattle.generation_frame.specs.PieceLaws.{pieces_before-more}
+use Rattle.generation_frame.proofs.PieceLaws.{pieces_before-more}
 use Rattle.lif_outside.specs.declared.Failed.{Failed}
-use Rattle.lif_outside.specs.CallLaws.{calls_of}
+use Rattle.lif_outside.proofs.CallLaws.{calls_of}
 use Rattle.lif_outside.specs.Calls.{ByCalls}
 use Rattle.lif_outside.specs.Events.{Event, appended, append_failed, created, create_failed, append_event}
 use Rattle.lif_outside.specs.Runs.{StopsWithin, appends_to, creates_of}
-use Rattle.lif_outside.specs.SequenceLaws.{stops_behind, stops_first, stops_here}
-use Rattle.lif_outside.specs.TurnLaws.{appends_to-append, creates_of-append, creates_of-stops, turn_calls, turn_calls-append}
+use Rattle.lif_outside.proofs.SequenceLaws.{stops_behind, stops_first, stops_here}
+use Rattle.lif_outside.proofs.TurnLaws.{appends_to-append, creates_of-append, creates_of-stops, turn_calls, turn_calls-append}
 use Rattle.lif_top.specs.Send.Ready.{some_piece}
 
 module _ (paths : List (List ℕ)) (n : ℕ) (within : n < length paths) where

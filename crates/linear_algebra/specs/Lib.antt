@@ -1,10 +1,3 @@
 pub mod Rows
 pub mod Matrices
 pub mod Elements
-pub mod FieldLaws
-pub mod RowLaws
-pub mod CombinationLaws
-pub mod DotLaws
-pub mod MatrixLaws
-pub mod EntryLaws
-pub mod ElementsLaws

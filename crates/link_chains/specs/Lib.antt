@@ -1,4 +1,2 @@
 pub mod Chains
-pub mod EndLaws
 pub mod Wiring
-pub mod WiringLaws

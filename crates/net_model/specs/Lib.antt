@@ -1,14 +1,8 @@
 pub mod Name
 pub mod Lists
-pub mod ListLaws
 pub mod Network
-pub mod NetworkLaws
 pub mod Demands
 pub mod Failed
 pub mod Walks
-pub mod WalkLaws
 pub mod Flows
-pub mod FlowLaws
 pub mod Renumbering
-pub mod RenumberingLaws
-pub mod RenumberedParts

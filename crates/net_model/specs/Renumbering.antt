@@ -1,5 +1,5 @@
 -- Networks whose links have new numbers: the new link at a place is the old one whose number stands there.
-use Rattle.std.specs.Prelude.{◌≡◌, ℕ, nat_eq, nat_lt, IsTrue, List, [], length, map, filter, slice_get, slice_index, unwrap_or}
+use Rattle.std.specs.Prelude.{◌≡◌, ℕ, nat_eq, nat_lt, Bool, false, if◌then◌else◌, IsTrue, List, [], length, map, filter, slice_get, slice_index, slice_index_or, unwrap_or}
 use Rattle.std.specs.List.{list_all, position_or_len, range_with_len}
 use Rattle.net_model.specs.Flows.{FlowNetwork}
 use Rattle.net_model.specs.Lists.{are_distinct, is_among}
@@ -41,3 +41,11 @@ renumbered_network network order =
       sink = network.sink;
       failed = renumbered_set order network.failed;
     }
+
+-- no link has a mark
+pub record AreUnmarked (marks : List Bool) : Type 0 where
+  pub none : (link : ℕ) → slice_index_or marks link false ≡ false
+
+-- each of these links has the mark, and each other the one that it had
+pub record AreMarked (links : List ℕ) (mark : Bool) (old new : List Bool) : Type 0 where
+  pub each : (link : ℕ) → slice_index_or new link false ≡ (if is_among links link then mark else slice_index_or old link false)

@@ -3,7 +3,8 @@ ghost use Rattle.std.specs.Prelude.{◌≡◌, ◌≤◌, IsTrue, IfOk, OnOk, fa
 ghost use Rattle.std.specs.List.{list_all, range_with_len};
 ghost use Rattle.net_model.specs.Network.{are_patterns};
 ghost use Rattle.net_model.specs.Renumbering.{HasEachOnce, renumbered_links, renumbered_pattern};
-ghost use Rattle.net_model.specs.RenumberedParts.{AreMarked, AreUnmarked};
+ghost use Rattle.net_model.specs.Renumbering.{AreUnmarked};
+ghost use Rattle.net_model.specs.Renumbering.{AreMarked};
 
 use crate::{
     FieldChoice, Link, LinkList, LinkTable, Name, NameList, Net, NodeList, Pattern, PatternList,

@@ -4,7 +4,7 @@ use Rattle.std.specs.List.{list_all, list_any}
 use Rattle.std.specs.Str.{bytes_eq}
 use Rattle.std.proofs.lemmas.List.Folds.{list_any-append}
 use Rattle.net_model.specs.Lists.{are_distinct}
-use Rattle.net_model.specs.ListLaws.{bytes_eq-swap}
+use Rattle.net_model.proofs.ListLaws.{bytes_eq-swap}
 use Rattle.name_index.specs.Seen.{has}
 
 -- none of the names has been seen

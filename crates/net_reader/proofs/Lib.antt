@@ -1,3 +1,7 @@
+pub mod GoodLaws
+pub mod NameLaws
+pub mod NodeNameLaws
+pub mod TextLaws
 pub mod Distinct
 pub mod EachLine
 pub mod Faults

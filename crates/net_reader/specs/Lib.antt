@@ -1,12 +1,8 @@
 pub mod Gives
-pub mod GoodLaws
 pub mod Lines
 pub mod Marks
-pub mod NameLaws
-pub mod NodeNameLaws
 pub mod Parts
 pub mod Said
 pub mod State
 pub mod Statements
 pub mod Text
-pub mod TextLaws

@@ -4,13 +4,13 @@ use Rattle.std.proofs.lemmas.List.{length-map, length-set, get_or-map, get_or-se
 use Rattle.counted_steps.specs.Steps.{RoseBy}
 use Rattle.field_vectors.specs.Elements.{plus_multiple}
 use Rattle.field_vectors.specs.Grid.{Grid, IsMatrix, entry_of, row_of, with_row}
-use Rattle.field_vectors.specs.NumberLaws.{numbers-plus_multiple, numbers-with_sum, numbers-zeros}
+use Rattle.field_vectors.proofs.NumberLaws.{numbers-plus_multiple, numbers-with_sum, numbers-zeros}
 use Rattle.gf_tables.specs.Field.{IsField, IsNumbering}
 use Rattle.gf_tables.specs.Kind.{IsOfKind}
 use Rattle.gf_tables.specs.declared.kind.FieldKind.{FieldKind}
-use Rattle.linear_algebra.specs.CombinationLaws.{combination-take_more}
+use Rattle.linear_algebra.proofs.CombinationLaws.{combination-take_more}
 use Rattle.linear_algebra.specs.Elements.{numbers}
-use Rattle.linear_algebra.specs.RowLaws.{unit_row-IsRow}
+use Rattle.linear_algebra.proofs.RowLaws.{unit_row-IsRow}
 use Rattle.linear_algebra.specs.Rows.{add_rows, scale_row, combination, unit_row}
 use Rattle.node_program.specs.Carried.{source_vector, numbers_at, IsCarried, carry_steps}
 use Rattle.node_program.specs.declared.Operand.{Operand}

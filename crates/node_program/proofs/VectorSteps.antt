@@ -2,17 +2,17 @@
 use Rattle.std.proofs.Common.{◌≡◌, ℕ, ◌+◌, ◌<◌, ◌≤◌, false, List, length, map, replicate, inl, inr, refl, sym, ap, ◌∙◌, subst, arith, Bool, true, if◌then◌else◌}
 use Rattle.std.proofs.lemmas.Bool.{cases_lt}
 use Rattle.field_vectors.specs.Grid.{Grid, row_of}
-use Rattle.field_vectors.specs.NumberLaws.{numbers-zeros}
+use Rattle.field_vectors.proofs.NumberLaws.{numbers-zeros}
 use Rattle.linear_algebra.specs.Elements.{numbers}
 use Rattle.linear_algebra.specs.Rows.{combination, unit_row, zero_row}
 use Rattle.net_model.specs.Failed.{failed_links, is_failed_in}
 use Rattle.node_program.specs.Carried.{source_vector, numbers_at, IsCarried}
 use Rattle.node_program.specs.CodeValue.{vector_in}
-use Rattle.node_program.specs.OperandLaws.{operands_of_draft}
+use Rattle.node_program.proofs.OperandLaws.{operands_of_draft}
 use Rattle.node_program.specs.Operands.{IsOperand}
 use Rattle.node_program.specs.Value.{operands_at, leaves_source}
-use Rattle.node_program.specs.ValueLaws.{map-agree}
-use Rattle.node_program.specs.VectorLaws.{global_vector-equation}
+use Rattle.node_program.proofs.ValueLaws.{map-agree}
+use Rattle.node_program.proofs.VectorLaws.{global_vector-equation}
 use Rattle.node_program.specs.Vectors.{AreVectorsBefore}
 use Rattle.node_program.specs.declared.Operand.{Operand}
 use Rattle.node_program.specs.declared.code.Code.{Code}

@@ -3,14 +3,8 @@ pub mod Value
 pub mod CodeValue
 pub mod Decoding
 pub mod Operands
-pub mod OperandLaws
-pub mod ValueLaws
-pub mod BlockLaws
-pub mod VectorLaws
 pub mod Carried
 pub mod Vectors
-pub mod DecodingLaws
-pub mod LiveLaws
 pub use Rattle.net_model.specs.Demands
 pub use Rattle.net_model.specs.Name
 pub use Rattle.net_model.specs.Lists

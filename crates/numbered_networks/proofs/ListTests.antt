@@ -3,7 +3,7 @@ use Rattle.std.specs.Prelude.{◌≡◌, ◌<◌, ◌+◌, ℕ, Bool, not, ◌&&
 use Rattle.std.specs.List.{list_all, list_any}
 use Rattle.std.proofs.Common.{◌∙◌, ap, get_or}
 use Rattle.std.proofs.lemmas.List.{drop_more}
-use Rattle.net_model.specs.ListLaws.{is_among-same}
+use Rattle.net_model.proofs.ListLaws.{is_among-same}
 use Rattle.net_model.specs.Lists.{are_distinct, is_among, is_rising}
 
 -- whether numbers are distinct, by the first and those after it

@@ -6,7 +6,7 @@ use Rattle.std.proofs.lemmas.Fmt.{length-decimal-le}
 use Rattle.net_model.specs.declared.net.Net.{Net}
 use Rattle.cut_witness.specs.declared.cert.Cert.{Cert}
 use Rattle.name_texts.specs.Names.{links_text}
-use Rattle.name_texts.specs.TextLaws.{demand_text-short, links_text-short, side_text-short}
+use Rattle.name_texts.proofs.TextLaws.{demand_text-short, links_text-short, side_text-short}
 use Rattle.report_text.specs.Report.{entry_text}
 
 -- the lines of paths

@@ -1,1 +1,2 @@
+pub mod PrintableLaws
 mod Lengths

@@ -4,10 +4,10 @@ use Rattle.std.proofs.lemmas.Bool.{cases_eq}
 use Rattle.std.proofs.lemmas.List.{length-set, length-replicate, get_or-replicate, get_or-set_same, get_or-set_other}
 use Rattle.std.proofs.lemmas.List.FromFn.{fill_by_all}
 use Rattle.field_vectors.specs.Difference.{identity_entry}
-use Rattle.field_vectors.specs.DotOfLaws.{identity_entry-on, identity_entry-off}
+use Rattle.field_vectors.proofs.DotOfLaws.{identity_entry-on, identity_entry-off}
 use Rattle.field_vectors.specs.Elements.{unit_of, identity_of}
 use Rattle.field_vectors.specs.Grid.{Grid, row_of, with_row, grid_of}
-use Rattle.field_vectors.specs.GridLaws.{row_of-with_row, row_of-with_other}
+use Rattle.field_vectors.proofs.GridLaws.{row_of-with_row, row_of-with_other}
 
 -- the rows below a limit are those of the identity, and the others are zeros
 pub record IsIdentityBelow {A : Type 0} (nought one : A) (size : ℕ) (m : Grid A) (limit : ℕ) : Type 0 where

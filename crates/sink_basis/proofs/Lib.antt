@@ -1,1 +1,2 @@
+pub mod BasisLaws
 pub mod IdentitySteps

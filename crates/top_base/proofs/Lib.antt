@@ -1,3 +1,15 @@
+pub mod ActingLaws
+pub mod AcceptingLaws
+pub mod Exits
+pub mod InputLaws
+pub mod InspectingLaws
+pub mod LeavingLaws
+pub mod MakingLaws
+pub mod NetworkLaws
+pub mod PathLaws
+pub mod PerformingLaws
+pub mod SameCode
+pub mod SameNet
 pub mod Digits
 pub mod FileReadingLaws
 pub mod SayingLaws

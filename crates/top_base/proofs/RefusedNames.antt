@@ -1,7 +1,7 @@
 -- The name in the refusal of a network text is short.
 use Rattle.std.specs.Prelude.{◌≡◌, ◌≤◌, ℕ, List, length}
 use Rattle.std.proofs.Common.{arith, sym, subst}
-use Rattle.net_reader.specs.NodeNameLaws.{node_name-short}
+use Rattle.net_reader.proofs.NodeNameLaws.{node_name-short}
 use Rattle.net_reader.specs.declared.refusal.ReadRefusal.{ReadRefusal}
 use Rattle.net_reader.specs.declared.refusal.ReadRefusal.TheVariants.{SinkIsSource}
 use Rattle.top_base.specs.Lines.{refused_name}

@@ -1,9 +1,9 @@
 -- Texts that are put one after another, all of them or in part.
 use Rattle.std.proofs.Common.{◌++◌, ◌∷◌, [], ℕ, List, Ok, Err}
 use Rattle.lif_outside.specs.Calls.{ByCalls}
-use Rattle.lif_outside.specs.CallLaws.{calls_of, calls_then, calls_weaker}
+use Rattle.lif_outside.proofs.CallLaws.{calls_of, calls_then, calls_weaker}
 use Rattle.lif_outside.specs.Puts.{Put, said, put_failed, SaysAll, SaysPart}
-use Rattle.lif_outside.specs.PutLaws.{says_all-once, says_all-append, says_part-once, says_part-append, says_part-more}
+use Rattle.lif_outside.proofs.PutLaws.{says_all-once, says_all-append, says_part-once, says_part-append, says_part-more}
 use Rattle.lif_outside.specs.declared.Failed.{Failed}
 
 module _ {C : Type 0} {puts : List Put → C → C → Type 0} where

@@ -1,2 +1,4 @@
+pub mod RefusalLaws
+pub mod ToolLaws
 pub mod MadeLaws
 pub mod Writing

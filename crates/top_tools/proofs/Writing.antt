@@ -1,7 +1,7 @@
 -- Files that are created and appended to, one after another.
 use Rattle.std.specs.Prelude.{◌++◌, ◌∷◌, [], ℕ, List, Result, Ok, Err, OnErr, OnOk}
 use Rattle.std.proofs.Common.{refl}
-use Rattle.lif_outside.specs.CallLaws.{calls_of}
+use Rattle.lif_outside.proofs.CallLaws.{calls_of}
 use Rattle.lif_outside.specs.Calls.{ByCalls}
 use Rattle.lif_outside.specs.Events.{Event, append_event, append_failed, appended, created}
 use Rattle.lif_outside.specs.Runs.{StopsWithin}

@@ -2,5 +2,3 @@ pub mod Check
 pub mod Compile
 pub mod Cuts
 pub mod Order
-pub mod RefusalLaws
-pub mod ToolLaws

@@ -10,7 +10,7 @@ use std::alloc::Global;
 use top_base::{Ordered, Outcome, Status, order_text, read_ordered};
 
 // Says a network's links in order.
-#[tactic(auto, using(topo_order::specs::OrderLaws::order_below))]
+#[tactic(auto, using(topo_order::proofs::OrderLaws::order_below))]
 fn say_order<'a>(alloc: Global, ordered: &Ordered) -> Outcome<'a>
     requires { ordered.now.order.items ≡ order_of ordered.now.net.links }
     ensures { IsOrdered ordered.now.net result ⊎ IsNoMemory result }

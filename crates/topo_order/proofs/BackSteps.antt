@@ -9,7 +9,7 @@ use Rattle.net_model.specs.Walks.{head_of, tail_of}
 use Rattle.net_model.specs.declared.Link.{Link}
 use Rattle.topo_order.specs.GoingBack.{IsTurn}
 use Rattle.topo_order.specs.Order.{next_link}
-use Rattle.topo_order.specs.OrderLaws.{next_link-stuck, length-whole}
+use Rattle.topo_order.proofs.OrderLaws.{next_link-stuck, length-whole}
 use Rattle.topo_order.specs.Placing.{IsPlacing}
 use Rattle.topo_order.specs.declared.placing.Placing.{Placing}
 use Rattle.topo_order.proofs.PlacingSteps.{ready, next_read}

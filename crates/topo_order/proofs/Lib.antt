@@ -1,3 +1,4 @@
+pub mod OrderLaws
 pub mod PlacingSteps
 pub mod Passing
 pub mod QueueSteps

@@ -6,8 +6,8 @@ use Rattle.std.proofs.lemmas.List.{length-set, get_or-set_other, get_or-set_same
 use Rattle.net_model.specs.Lists.{is_among}
 use Rattle.net_model.specs.Walks.{head_of, tail_of}
 use Rattle.net_model.specs.declared.Link.{Link}
-use Rattle.topo_order.specs.Order.{is_reached, is_ready, next_link, order_from, order_of}
-use Rattle.topo_order.specs.OrderLaws.{IsPlaced, IsPlaced-none, IsPlaced-append, is_among-append, is_among-append_other, reached_from, reached_at, next_link-ready, order_from-step}
+use Rattle.topo_order.specs.Order.{is_reached, is_ready, next_link, order_from, order_of, IsPlaced}
+use Rattle.topo_order.proofs.OrderLaws.{IsPlaced-none, IsPlaced-append, is_among-append, is_among-append_other, reached_from, reached_at, next_link-ready, order_from-step}
 use Rattle.link_chains.specs.Chains.{AreFirsts}
 use Rattle.topo_order.specs.Placing.{IsNextInto, IsPlacing}
 use Rattle.topo_order.specs.declared.placing.Placing.{Placing}

@@ -9,8 +9,8 @@ use Rattle.std.proofs.Math.Bool.{or-false}
 use Rattle.net_model.specs.Lists.{is_among}
 use Rattle.net_model.specs.Walks.{head_of, tail_of}
 use Rattle.net_model.specs.declared.Link.{Link}
-use Rattle.topo_order.specs.Order.{is_reached, is_ready, next_link}
-use Rattle.topo_order.specs.OrderLaws.{IsPlaced, is_among-append, is_among-append_other, is_reached-append, reached_from, reached_at, next_link-first, next_link-none, ready_parts}
+use Rattle.topo_order.specs.Order.{is_reached, is_ready, next_link, IsPlaced}
+use Rattle.topo_order.proofs.OrderLaws.{is_among-append, is_among-append_other, is_reached-append, reached_from, reached_at, next_link-first, next_link-none, ready_parts}
 use Rattle.topo_order.specs.Queue.{AreReady, HasLeaving}
 
 -- what the comparison of numbers says

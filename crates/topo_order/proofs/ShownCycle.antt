@@ -8,7 +8,7 @@ use Rattle.net_model.specs.Lists.{are_distinct}
 use Rattle.net_model.specs.Walks.{head_of, tail_of}
 use Rattle.net_model.specs.declared.Link.{Link}
 use Rattle.topo_order.specs.GoingBack.{IsTurn, IsWalkedFrom, place_in_turn}
-use Rattle.topo_order.specs.OrderLaws.{walk_from}
+use Rattle.topo_order.proofs.OrderLaws.{walk_from}
 use Rattle.topo_order.specs.Order.{IsShownCycle, nodes_left}
 
 -- a node that none of them leaves

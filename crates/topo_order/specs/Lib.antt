@@ -1,5 +1,4 @@
 pub mod Order
-pub mod OrderLaws
 pub mod Refusal
 pub mod Placing
 pub mod Queue

@@ -1,6 +1,6 @@
 -- The order of a network's links: each comes after all links into its tail, and of those that may come the least first.
-use Rattle.std.specs.Prelude.{◌≤◌, ℕ, zero, suc, Bool, not, ◌&&◌, ◌||◌, ◌==◌, List, [], ◌∷◌, ◌++◌, length, map, slice_index, find, Option, All, IsTrue, nat_eq}
-use Rattle.std.specs.List.{list_all, range_with_len}
+use Rattle.std.specs.Prelude.{◌≡◌, ◌<◌, ◌≤◌, ℕ, zero, suc, Bool, true, not, ◌&&◌, ◌||◌, ◌==◌, List, [], ◌∷◌, ◌++◌, length, map, slice_index, find, Option, take, All, IsTrue, nat_eq}
+use Rattle.std.specs.List.{list_all, range_with_len, IsDistinct}
 use Rattle.std.specs.Option.{option_map_or}
 use Rattle.net_model.specs.Lists.{are_distinct, is_among}
 use Rattle.net_model.specs.Walks.{IsCycle, head_of, tail_of}
@@ -36,3 +36,10 @@ pub record IsShownCycle (links : List Link) (cycle : List ℕ) : Type 0 where
   pub is_cycle : IsCycle links cycle
   pub once : IsTrue (are_distinct nat_eq (nodes_left links cycle))
   pub least_first : All (λ link. slice_index cycle 0 ≤ link) cycle
+
+-- links that were placed one after another: numbers of links, none twice, each after all links into its tail
+pub record IsPlaced (links : List Link) (placed : List ℕ) : Type 0 where
+  pub below : (l : ℕ) → is_among placed l ≡ true → l < length links
+  pub distinct : IsDistinct nat_eq placed
+  pub after : (place : ℕ) → place < length placed → is_reached links (take place placed) (tail_of links (slice_index placed place)) ≡ true
+  pub reached : (l : ℕ) → is_among placed l ≡ true → is_reached links placed (tail_of links l) ≡ true

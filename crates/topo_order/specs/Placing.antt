@@ -3,8 +3,7 @@ use Rattle.std.specs.Prelude.{◌≡◌, ◌<◌, ◌≤◌, ◌-◌, ℕ, Bool,
 use Rattle.net_model.specs.Lists.{is_among}
 use Rattle.net_model.specs.Walks.{head_of}
 use Rattle.net_model.specs.declared.Link.{Link}
-use Rattle.topo_order.specs.Order.{order_from, order_of}
-use Rattle.topo_order.specs.OrderLaws.{IsPlaced}
+use Rattle.topo_order.specs.Order.{order_from, order_of, IsPlaced}
 use Rattle.topo_order.specs.declared.placing.Placing.{Placing}
 
 -- the least link from a number on that leads into a node and isn't placed, or the number of links

@@ -9,8 +9,8 @@ use Rattle.net_model.specs.Flows.{FlowNetwork, is_on}
 use Rattle.net_model.specs.Walks.{head_of, tail_of}
 use Rattle.net_model.specs.declared.Link.{Link}
 use Rattle.unit_flow.specs.Carrying.{IsCarried, IsCarriedFrom}
-use Rattle.unit_flow.specs.CarryingLaws.{IsCarriedFrom-freed, IsCarriedFrom-used, is_free-set_other, is_used-set_other}
-use Rattle.unit_flow.specs.PassageLaws.{free_alone, passage_cases}
+use Rattle.unit_flow.proofs.CarryingLaws.{IsCarriedFrom-freed, IsCarriedFrom-used, is_free-set_other, is_used-set_other}
+use Rattle.unit_flow.proofs.PassageLaws.{free_alone, passage_cases}
 use Rattle.unit_flow.specs.Residual.{is_free, is_used, passage}
 use Rattle.unit_flow.specs.Searching.{CameByLink, IsQueue, link_at, node_at}
 use Rattle.unit_flow.specs.declared.residual.LinkState.{LinkState}

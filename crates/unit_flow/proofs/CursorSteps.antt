@@ -4,10 +4,10 @@ use Rattle.std.proofs.Common.{sym, ◌∙◌, ap, subst, arith, inl, inr}
 use Rattle.std.proofs.lemmas.Bool.{and_from, and_parts, both_ways, cases_eq, cases_lt, eq-eqb, eqb-true, false_from_ne_true}
 use Rattle.std.proofs.lemmas.List.{length-set, get_or-set_other, get_or-set_same}
 use Rattle.link_chains.specs.Chains.{AreFirsts, AreNexts}
-use Rattle.net_model.specs.ListLaws.{find_first, find_least, find_nothing}
+use Rattle.net_model.proofs.ListLaws.{find_first, find_least, find_nothing}
 use Rattle.net_model.specs.Walks.{tail_of}
 use Rattle.net_model.specs.declared.Link.{Link}
-use Rattle.unit_flow.specs.CarryingLaws.{is_used-set_other, is_used-set_same, used_leaving_is}
+use Rattle.unit_flow.proofs.CarryingLaws.{is_used-set_other, is_used-set_same, used_leaving_is}
 use Rattle.unit_flow.specs.Residual.{is_used}
 use Rattle.unit_flow.specs.Splitting.{used_leaving}
 use Rattle.unit_flow.specs.Taking.{AreCursors, IsCursor}

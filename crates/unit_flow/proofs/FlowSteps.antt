@@ -12,13 +12,13 @@ use Rattle.net_model.specs.Walks.{tail_of}
 use Rattle.net_model.specs.declared.Demand.{Demand}
 use Rattle.net_model.specs.declared.net.Net.{Net}
 use Rattle.unit_flow.specs.Carrying.{IsCarried}
-use Rattle.unit_flow.specs.CarryingLaws.{IsCarried-none, IsFlowNetwork-flow_network}
+use Rattle.unit_flow.proofs.CarryingLaws.{IsCarried-none, IsFlowNetwork-flow_network}
 use Rattle.unit_flow.specs.Reaching.{IsReached}
 use Rattle.unit_flow.specs.Residual.{AreStates, ResidualNetwork, is_used}
 use Rattle.unit_flow.specs.Searching.{HasPlaces}
-use Rattle.unit_flow.specs.SideLaws.{IsGreatestFlow-reached, IsLeastSide-reached, length-paths_reached}
+use Rattle.unit_flow.proofs.SideLaws.{IsGreatestFlow-reached, IsLeastSide-reached, length-paths_reached}
 use Rattle.unit_flow.specs.Splitting.{paths_of}
-use Rattle.unit_flow.specs.SplittingLaws.{carried-le-cut, is_rising-first_links}
+use Rattle.unit_flow.proofs.SplittingLaws.{carried-le-cut, is_rising-first_links}
 use Rattle.unit_flow.specs.Visits.{visit_bound}
 use Rattle.unit_flow.specs.declared.residual.LinkState.{LinkState}
 use Rattle.unit_flow.specs.declared.search.Search.{Search}

@@ -1,3 +1,8 @@
+pub mod CarryingLaws
+pub mod SplittingLaws
+pub mod CountLaws
+pub mod PassageLaws
+pub mod SideLaws
 pub mod StartSteps
 pub mod SearchSteps
 pub mod CursorSteps

@@ -13,8 +13,8 @@ use Rattle.net_model.specs.Flows.{FlowNetwork, is_on}
 use Rattle.net_model.specs.Lists.{is_among}
 use Rattle.net_model.specs.Walks.{head_of, tail_of}
 use Rattle.net_model.specs.declared.Link.{Link}
-use Rattle.unit_flow.specs.CountLaws.{count_by-keys, sum_by-add, sum_by-same}
-use Rattle.unit_flow.specs.PassageLaws.{passage_cases}
+use Rattle.unit_flow.proofs.CountLaws.{count_by-keys, sum_by-add, sum_by-same}
+use Rattle.unit_flow.proofs.PassageLaws.{passage_cases}
 use Rattle.unit_flow.specs.Reaching.{IsClosed, IsReached}
 use Rattle.unit_flow.specs.Residual.{passage}
 use Rattle.unit_flow.specs.Searching.{IsLonger, IsQueue, IsSearched, LeadsOn, ends_at, links_at, node_at}

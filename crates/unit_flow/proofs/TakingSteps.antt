@@ -11,10 +11,10 @@ use Rattle.net_model.specs.Walks.{head_of}
 use Rattle.net_model.specs.declared.Demand.{Demand}
 use Rattle.net_model.specs.declared.net.Net.{Net}
 use Rattle.unit_flow.specs.Carrying.{IsCarried, IsCarriedFrom, IsFlowNetwork}
-use Rattle.unit_flow.specs.CarryingLaws.{IsCarriedFrom-freed, IsCarriedFrom-source, some_used_leaves, used_fewer-freed, used_leaving_is}
+use Rattle.unit_flow.proofs.CarryingLaws.{IsCarriedFrom-freed, IsCarriedFrom-source, some_used_leaves, used_fewer-freed, used_leaving_is}
 use Rattle.unit_flow.specs.Residual.{is_used}
 use Rattle.unit_flow.specs.Splitting.{Taken, paths_of, taken_from, used_leaving}
-use Rattle.unit_flow.specs.SplittingLaws.{IsCarried-taken}
+use Rattle.unit_flow.proofs.SplittingLaws.{IsCarried-taken}
 use Rattle.unit_flow.specs.Taking.{AreCursors, CarriesSome, first_taken}
 use Rattle.unit_flow.specs.declared.residual.LinkState.{LinkState}
 use Rattle.unit_flow.specs.declared.residual.LinkState.TheVariants.{Free}

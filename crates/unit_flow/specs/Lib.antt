@@ -1,13 +1,8 @@
 pub mod Residual
 pub mod Carrying
-pub mod CarryingLaws
 pub mod Splitting
-pub mod SplittingLaws
 pub mod Taking
 pub mod Reaching
 pub mod Visits
-pub mod CountLaws
-pub mod PassageLaws
 pub mod Sides
-pub mod SideLaws
 pub mod Searching

@@ -5,8 +5,8 @@ use Rattle.std.proofs.lemmas.List.Elements.{All-nil, All-cons, All-head, All-tai
 use Rattle.gf_tables.specs.Product.{shift, repeated_shift, sum_of_shifts, octet_product, product}
 use Rattle.gf_tables.specs.declared.kind.FieldKind.TheVariants.{Eight}
 use Rattle.linear_algebra.specs.Rows.{add_rows, zero_row, combination}
-use Rattle.linear_algebra.specs.CombinationLaws.{combination-one}
-use Rattle.linear_algebra.specs.RowLaws.{scale_row-one, scale_row-zero, add_rows-zero_row, add_rows-comm, add_rows-twice, add_rows-elements, length-add_rows}
+use Rattle.linear_algebra.proofs.CombinationLaws.{combination-one}
+use Rattle.linear_algebra.proofs.RowLaws.{scale_row-one, scale_row-zero, add_rows-zero_row, add_rows-comm, add_rows-twice, add_rows-elements, length-add_rows}
 use Rattle.node_program.specs.Decoding.{IsBlock, IsAccepted, decoding_of}
 use Rattle.node_program.specs.Value.{row_at, value_within}
 use Rattle.worked_rows.specs.Butterfly.{butterfly, changed_butterfly}

@@ -4,14 +4,14 @@ use Rattle.std.specs.List.{All}
 use Rattle.std.proofs.lemmas.Bool.{eq-eqb, ne_eqb}
 use Rattle.std.proofs.lemmas.List.Elements.{All-from_get_or}
 use Rattle.field_rows.specs.Bytes.{elements_of}
-use Rattle.node_program.specs.LiveLaws.{length-operands, operands_of_link}
+use Rattle.node_program.proofs.LiveLaws.{length-operands, operands_of_link}
 use Rattle.node_program.specs.Operands.{IsOperand}
 use Rattle.node_program.specs.Value.{operands_at, leaves_source}
 use Rattle.node_program.specs.declared.Operand.{Operand}
-use Rattle.block_carrier.specs.BlockLaws.{row_at-block_elements}
-use Rattle.block_carrier.specs.CarriedLaws.{value_from-sum}
+use Rattle.block_carrier.proofs.BlockLaws.{row_at-block_elements}
+use Rattle.block_carrier.proofs.CarriedLaws.{value_from-sum}
 use Rattle.block_carrier.specs.LinkRows.{row_of, elements_at, IsBlockOf}
-use Rattle.block_carrier.specs.RowLaws.{row_lies_within, row_of-other, row_of-at, row_of-front}
+use Rattle.block_carrier.proofs.RowLaws.{row_lies_within, row_of-other, row_of-at, row_of-front}
 use Rattle.block_carrier.proofs.links.carry_link.Goals as goal
 use Rattle.block_carrier.proofs.links.carry_link.Goals.{After-split_at_mut-row}
 

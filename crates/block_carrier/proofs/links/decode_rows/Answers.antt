@@ -6,15 +6,15 @@ use Rattle.std.proofs.lemmas.Option.{slice_get_within}
 use borrow.Rule.Slice.PartMut.{put_mid}
 use Rattle.field_rows.specs.Bytes.{elements_of}
 use Rattle.gf_tables.specs.Product.{size_of}
-use Rattle.linear_algebra.specs.EntryLaws.{row_end}
+use Rattle.linear_algebra.proofs.EntryLaws.{row_end}
 use Rattle.net_model.specs.Demands.{sink_of_demand}
 use Rattle.node_program.specs.Code.{leads_into}
 use Rattle.node_program.specs.Decoding.{IsDecoder}
-use Rattle.node_program.specs.DecodingLaws.{decoder_of_demand, link_within}
+use Rattle.node_program.proofs.DecodingLaws.{decoder_of_demand, link_within}
 use Rattle.node_program.specs.declared.Decoder.{Decoder}
-use Rattle.block_carrier.specs.DecodedLaws.{block_elements-decoded}
+use Rattle.block_carrier.proofs.DecodedLaws.{block_elements-decoded}
 use Rattle.block_carrier.specs.LinkRows.{elements_at, sum_of_rows, IsRowWritten}
-use Rattle.block_carrier.specs.RowLaws.{row_lies_within, IsRowWritten-put}
+use Rattle.block_carrier.proofs.RowLaws.{row_lies_within, IsRowWritten-put}
 use Rattle.block_carrier.proofs.links.decode_rows.Goals as goal
 use Rattle.block_carrier.proofs.links.decode_rows.Goals.{After-as_slice-links}
 

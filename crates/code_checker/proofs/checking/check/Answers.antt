@@ -1,6 +1,6 @@
 use Rattle.std.proofs.Common.{length, subst}
 use Rattle.std.specs.Prelude.{Option}
-use Rattle.code_checker.specs.CheckingLaws.{FailsFirst-refuses}
+use Rattle.code_checker.proofs.CheckingLaws.{FailsFirst-refuses}
 use Rattle.code_checker.specs.First.{IsFirstBefore}
 use Rattle.code_checker.specs.declared.products.Failure.{Failure}
 use Rattle.code_checker.proofs.FirstSteps.{accepted, fails_first}

@@ -1,8 +1,8 @@
 use Rattle.std.proofs.Common.{sym, ap, ◌∙◌, arith}
 use Rattle.std.proofs.lemmas.Result.{err_from_is_err_and}
 use Rattle.code_file.specs.Reading.{Contents, contents_of}
-use Rattle.code_file.specs.Readers.{ok_of}
-use Rattle.code_file.specs.ReadingLaws.{AreContents-from_contents_of, bytes_of-from_contents_of, contents_of-bytes_of}
+use Rattle.code_file.proofs.Readers.{ok_of}
+use Rattle.code_file.proofs.ReadingLaws.{AreContents-from_contents_of, bytes_of-from_contents_of, contents_of-bytes_of}
 use Rattle.code_file.specs.Parts.{contents_seen}
 use Rattle.code_file.proofs.Refusals.{memory_alone, not_both}
 use Rattle.code_file.proofs.reading.read_code.Goals as goal

@@ -1,6 +1,6 @@
 use Rattle.std.proofs.Common.{◌+◌, length, arith}
 use Rattle.std.proofs.lemmas.List.{length-take-le}
-use Rattle.coeff_choice.specs.ChoosingLaws.{one_unmarked}
+use Rattle.coeff_choice.proofs.ChoosingLaws.{one_unmarked}
 use Rattle.coeff_choice.proofs.choosing.allowed_number.Goals as goal
 
 pub first_unmarked-requires : goal.first_unmarked-requires

@@ -2,7 +2,7 @@ use Rattle.std.proofs.Common.{◌≡◌, ◌<◌, length, arith, ap, ◌∙◌, 
 use Rattle.std.proofs.Math.Path.{ap₂}
 use Rattle.std.proofs.lemmas.List.{get_or_default}
 use Rattle.coeff_choice.specs.Choosing.{forbidden_at}
-use Rattle.coeff_choice.specs.ChoosingLaws.{marked-more, marked-past}
+use Rattle.coeff_choice.proofs.ChoosingLaws.{marked-more, marked-past}
 use Rattle.coeff_choice.proofs.choosing.mark_forbidden.Goals as goal
 use Rattle.coeff_choice.proofs.choosing.mark_forbidden.Goals.{then-number-marks, else-number-marks}
 

@@ -1,5 +1,5 @@
 use Rattle.std.proofs.Common.{arith}
-use Rattle.failure_patterns.specs.DemandLaws.{some_demand}
+use Rattle.failure_patterns.proofs.DemandLaws.{some_demand}
 use Rattle.cut_witness.proofs.certifying.certify_all.Goals as goal
 
 pub certify_runs-requires-clause-some : goal.certify_runs-requires-clause-some

@@ -1,5 +1,5 @@
 use Rattle.std.proofs.Common.{◌<◌, ◌^◌, length, arith}
-use Rattle.cut_witness.specs.CertificateLaws.{few_cut}
+use Rattle.cut_witness.proofs.CertificateLaws.{few_cut}
 use Rattle.cut_witness.proofs.runs.certify_along.Goals as goal
 
 pub overflow_cast-value : goal.overflow_cast-value

@@ -1,7 +1,7 @@
 use Rattle.std.proofs.Common.{◌<◌, length, arith, ap, ◌∙◌}
 use Rattle.field_vectors.proofs.ClearSteps.{clearing-skip, clearing-more}
 use Rattle.field_vectors.specs.Elements.{plus_multiple}
-use Rattle.field_vectors.specs.EliminationLaws.{step-none, reduced-more}
+use Rattle.field_vectors.proofs.EliminationLaws.{step-none, reduced-more}
 use Rattle.field_vectors.specs.Grid.{row_of, with_row}
 use Rattle.field_vectors.proofs.inverse.clear_column.Goals as goal
 use Rattle.field_vectors.proofs.inverse.clear_column.Goals.{then-i-k, else-i-k}

@@ -1,10 +1,9 @@
-use Rattle.std.proofs.Common.{◌≡◌, ◌+◌, ◌<◌, length, arith, ap, ◌∙◌}
+use Rattle.std.proofs.Common.{◌≡◌, ◌+◌, ◌<◌, length, arith, ap, ◌∙◌, set}
 use Rattle.std.proofs.lemmas.List.{length-replicate}
 use Rattle.field_vectors.proofs.FillSteps.{fill-more, fill-all}
-use Rattle.field_vectors.specs.GridLaws.{length-row_of}
+use Rattle.field_vectors.proofs.GridLaws.{length-row_of}
 use Rattle.field_vectors.specs.Grid.{row_of, with_row}
 use Rattle.field_vectors.proofs.RowSteps.{joined_below}
-use Rattle.std.proofs.Common.{set}
 use Rattle.field_vectors.proofs.inverse.fill_row.Goals as goal
 
 pub loop-j-preserved : goal.loop-j-preserved

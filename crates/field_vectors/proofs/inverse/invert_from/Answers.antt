@@ -1,5 +1,5 @@
-use Rattle.field_vectors.specs.EliminationLaws.{one_not_nought}
-use Rattle.field_vectors.specs.InverseLaws.{half-IsInverse, only_zero, stuck-IsSentToZero}
+use Rattle.field_vectors.proofs.EliminationLaws.{one_not_nought}
+use Rattle.field_vectors.proofs.InverseLaws.{half-IsInverse, only_zero, stuck-IsSentToZero}
 use Rattle.field_vectors.proofs.inverse.invert_from.Goals as goal
 
 pub returns-in-None-clause-ok : goal.returns-in-None-clause-ok

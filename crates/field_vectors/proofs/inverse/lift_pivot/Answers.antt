@@ -1,6 +1,6 @@
 use Rattle.std.proofs.Common.{◌<◌, length, arith, ap, ◌∙◌, sym}
 use Rattle.field_vectors.specs.Elements.{plus_multiple}
-use Rattle.field_vectors.specs.EliminationLaws.{step-add, reduced-add, entry-lifted}
+use Rattle.field_vectors.proofs.EliminationLaws.{step-add, reduced-add, entry-lifted}
 use Rattle.field_vectors.specs.Grid.{row_of, entry_of, with_row}
 use Rattle.field_vectors.proofs.inverse.lift_pivot.Goals as goal
 

@@ -1,7 +1,7 @@
 use Rattle.std.proofs.Common.{◌≡◌, ◌≢◌, ◌≤◌, arith, ap, ◌∙◌, sym}
-use Rattle.field_vectors.specs.DotOfLaws.{mul-nought}
+use Rattle.field_vectors.proofs.DotOfLaws.{mul-nought}
 use Rattle.field_vectors.specs.Elements.{multiple_of}
-use Rattle.field_vectors.specs.EliminationLaws.{step-scale, reduced-scale, entry-normalized, entry_of-element, one_not_nought}
+use Rattle.field_vectors.proofs.EliminationLaws.{step-scale, reduced-scale, entry-normalized, entry_of-element, one_not_nought}
 use Rattle.field_vectors.specs.Grid.{row_of, entry_of, with_row}
 use Rattle.field_vectors.proofs.inverse.normalize_pivot.Goals as goal
 use Rattle.field_vectors.proofs.inverse.normalize_pivot.Goals.{After-inv-by}

@@ -1,4 +1,4 @@
-use Rattle.field_vectors.specs.EliminationLaws.{step-then}
+use Rattle.field_vectors.proofs.EliminationLaws.{step-then}
 use Rattle.field_vectors.proofs.inverse.reduce_column.Goals as goal
 
 pub returns-in-Some-clause-step : goal.returns-in-Some-clause-step

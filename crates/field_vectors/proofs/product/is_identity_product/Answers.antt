@@ -1,5 +1,5 @@
 use Rattle.std.proofs.Common.{length, refl, sym, ap, ◌∙◌, arith}
-use Rattle.field_vectors.specs.DifferenceLaws.{product_of-identity}
+use Rattle.field_vectors.proofs.DifferenceLaws.{product_of-identity}
 use Rattle.field_vectors.specs.Elements.{product_of}
 use Rattle.field_vectors.proofs.product.is_identity_product.Goals as goal
 

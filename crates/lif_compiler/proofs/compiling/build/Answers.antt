@@ -7,7 +7,7 @@ use Rattle.net_model.specs.Lists.{are_distinct}
 use Rattle.net_model.specs.Renumbering.{HasEachOnce}
 use Rattle.node_program.specs.Code.{IsCode}
 use Rattle.lif_compiler.specs.Compiled.{marked_kind}
-use Rattle.lif_compiler.specs.RouteLaws.{AreCertificates-below, routes-apart, routes-below}
+use Rattle.lif_compiler.proofs.RouteLaws.{AreCertificates-below, routes-apart, routes-below}
 use Rattle.lif_compiler.specs.declared.hops.Hop.{Hop}
 use Rattle.lif_compiler.proofs.BuildSteps.{can_visit_all, compiled, enough_paths, few_routes, new_order, order_once}
 use Rattle.lif_compiler.proofs.compiling.build.Goals as goal

@@ -5,8 +5,8 @@ use Rattle.node_program.specs.declared.Operand.{Operand}
 use Rattle.node_program.specs.declared.Decoder.{Decoder}
 use Rattle.lif_compiler.specs.Compiled.{marked_kind}
 use Rattle.lif_compiler.specs.Decoders.{IsReadOff}
-use Rattle.lif_compiler.specs.FinalBasesLaws.{IsAccepted-made, IsCode-made, apart-bases, reached-bases}
-use Rattle.lif_compiler.specs.FinalLaws.{AreInverse-numbers}
+use Rattle.lif_compiler.proofs.FinalBasesLaws.{IsAccepted-made, IsCode-made, apart-bases, reached-bases}
+use Rattle.lif_compiler.proofs.FinalLaws.{AreInverse-numbers}
 use Rattle.lif_compiler.specs.ReadOff.{AreApart, AreReached}
 use Rattle.lif_compiler.specs.Visits.{IsOfHop}
 use Rattle.lif_compiler.proofs.AllSteps.{visited_all}

@@ -4,7 +4,7 @@ use Rattle.std.proofs.Math.Path.{ap₂}
 use Rattle.std.proofs.lemmas.List.Elements.{All-same}
 use Rattle.linear_algebra.specs.Elements.{numbers}
 use Rattle.lif_compiler.specs.ReadOff.{AreSorted, entries_of_paths}
-use Rattle.lif_compiler.specs.ReadOffLaws.{IsReadOff-made, paths_below}
+use Rattle.lif_compiler.proofs.ReadOffLaws.{IsReadOff-made, paths_below}
 use Rattle.lif_compiler.specs.declared.decoding.PlacedLink.{PlacedLink}
 use Rattle.lif_compiler.proofs.decoding.decoder_of.Goals as goal
 

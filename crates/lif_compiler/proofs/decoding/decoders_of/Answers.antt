@@ -5,7 +5,7 @@ use Rattle.linear_algebra.specs.Elements.{numbers}
 use Rattle.node_program.specs.declared.Decoder.{Decoder}
 use Rattle.sink_basis.specs.declared.basis.Basis.{Basis}
 use Rattle.lif_compiler.specs.Decoders.{IsReadOff}
-use Rattle.lif_compiler.specs.ReadOffLaws.{pairs_more}
+use Rattle.lif_compiler.proofs.ReadOffLaws.{pairs_more}
 use Rattle.lif_compiler.proofs.decoding.decoders_of.Goals as goal
 
 pub loop-basis-preserved : goal.loop-basis-preserved

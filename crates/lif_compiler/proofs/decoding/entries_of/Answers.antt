@@ -2,7 +2,7 @@ use Rattle.std.specs.Prelude.{◌++◌, List, ℕ, map}
 use Rattle.std.proofs.Common.{ap, sym, ◌∙◌}
 use Rattle.linear_algebra.specs.Elements.{numbers}
 use Rattle.lif_compiler.specs.ReadOff.{row_of_entries}
-use Rattle.lif_compiler.specs.ReadOffLaws.{entries_of_paths-more}
+use Rattle.lif_compiler.proofs.ReadOffLaws.{entries_of_paths-more}
 use Rattle.lif_compiler.specs.declared.decoding.PlacedLink.{PlacedLink}
 use Rattle.lif_compiler.proofs.decoding.entries_of.Goals as goal
 

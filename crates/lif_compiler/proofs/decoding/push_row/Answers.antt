@@ -3,7 +3,7 @@ use Rattle.std.proofs.Common.{arith, ap, sym, subst, ◌∙◌, get_or, append_a
 use Rattle.std.proofs.lemmas.List.Elements.{All-push, All-same}
 use Rattle.linear_algebra.specs.Elements.{numbers}
 use Rattle.lif_compiler.specs.ReadOff.{row_of_entries}
-use Rattle.lif_compiler.specs.ReadOffLaws.{entry_number, row_of_entries-more}
+use Rattle.lif_compiler.proofs.ReadOffLaws.{entry_number, row_of_entries-more}
 use Rattle.lif_compiler.specs.declared.decoding.PlacedLink.{PlacedLink}
 use Rattle.lif_compiler.proofs.decoding.push_row.Goals as goal
 

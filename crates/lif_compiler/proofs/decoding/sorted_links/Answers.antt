@@ -2,7 +2,7 @@ use Rattle.std.specs.Prelude.{List}
 use Rattle.std.specs.List.Sorted.{IsPermutation}
 use Rattle.std.proofs.Common.{rules, subst}
 use Rattle.std.proofs.lemmas.List.Sorted.{IsNonDecreasingBy-from_sort_by_key}
-use Rattle.lif_compiler.specs.ReadOffLaws.{AreSorted-made}
+use Rattle.lif_compiler.proofs.ReadOffLaws.{AreSorted-made}
 use Rattle.lif_compiler.specs.declared.decoding.PlacedLink.{PlacedLink}
 use Rattle.lif_compiler.proofs.decoding.sorted_links.Goals as goal
 

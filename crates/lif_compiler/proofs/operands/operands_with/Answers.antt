@@ -3,7 +3,7 @@ use Rattle.std.proofs.Common.{get_or, arith, sym, ap, ◌∙◌, add-one}
 use Rattle.std.proofs.Math.Path.{ap₂}
 use Rattle.std.proofs.lemmas.List.{get_or-map, length-map, take_all, append-nil}
 use Rattle.node_program.specs.declared.Operand.{Operand}
-use Rattle.lif_compiler.specs.OperandLaws.{operand_of, operand_of-none, operand_of-some, operands_of-more}
+use Rattle.lif_compiler.proofs.OperandLaws.{operand_of, operand_of-none, operand_of-some, operands_of-more}
 use Rattle.lif_compiler.specs.Operands.{operands_of}
 use Rattle.lif_compiler.proofs.operands.operands_with.Goals as goal
 use Rattle.lif_compiler.proofs.operands.operands_with.Goals.{then-times-ne0+in_ok-push, else-times-ne0}

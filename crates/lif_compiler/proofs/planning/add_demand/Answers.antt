@@ -1,6 +1,6 @@
 use Rattle.std.proofs.Common.{◌<◌, List, [], ℕ, length, slice_get, unwrap_or, ◌∙◌, arith, subst}
 use Rattle.lif_compiler.specs.Planning.{Gains, hops_of_path}
-use Rattle.lif_compiler.specs.PlanningLaws.{Gains_next, item_read}
+use Rattle.lif_compiler.proofs.PlanningLaws.{Gains_next, item_read}
 use Rattle.lif_compiler.specs.declared.hops.Hop.{Hop}
 use Rattle.lif_compiler.proofs.planning.add_demand.Goals as goal
 

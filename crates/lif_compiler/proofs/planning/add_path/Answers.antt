@@ -1,6 +1,6 @@
 use Rattle.std.proofs.Common.{◌<◌, ◌∷◌, List, [], ℕ, length, get_or, slice_set, sym, arith, subst}
 use Rattle.lif_compiler.specs.Planning.{Gains, hop_of_place}
-use Rattle.lif_compiler.specs.PlanningLaws.{Gains_next, Gains_one, before_place-next}
+use Rattle.lif_compiler.proofs.PlanningLaws.{Gains_next, Gains_one, before_place-next}
 use Rattle.lif_compiler.specs.declared.hops.Hop.{Hop}
 use Rattle.lif_compiler.proofs.planning.add_path.Goals as goal
 

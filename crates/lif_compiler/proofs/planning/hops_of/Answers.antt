@@ -3,7 +3,7 @@ use Rattle.std.proofs.lemmas.List.{take_at}
 use Rattle.std.proofs.lemmas.Result.{IfOk-weaker}
 use Rattle.lif_compiler.specs.Hops.{AreHops}
 use Rattle.lif_compiler.specs.Planning.{Gains, hops_of_demand, hops_of_demands}
-use Rattle.lif_compiler.specs.PlanningLaws.{Gains_next, item_read, AreHops-added}
+use Rattle.lif_compiler.proofs.PlanningLaws.{Gains_next, item_read, AreHops-added}
 use Rattle.lif_compiler.specs.declared.hops.Hop.{Hop}
 use Rattle.lif_compiler.proofs.planning.hops_of.Goals as goal
 

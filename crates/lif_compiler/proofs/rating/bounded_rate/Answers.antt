@@ -1,6 +1,7 @@
 use Rattle.std.proofs.Common.{◌≡◌, Some, length, slice_get, refl, arith, subst}
 use Rattle.std.proofs.lemmas.Option.{slice_get_read}
-use Rattle.lif_compiler.specs.RatingLaws.{IsFirstOfValue, IsFirstOfValue-within, IsRateOver-first, IsFirstOfValue-small, IsZeroRate-first, some_certificate}
+use Rattle.lif_compiler.proofs.RatingLaws.{IsFirstOfValue-within, IsRateOver-first, IsFirstOfValue-small, IsZeroRate-first, some_certificate}
+use Rattle.lif_compiler.specs.Rating.{IsFirstOfValue}
 use Rattle.lif_compiler.specs.Refused.{IsZeroRate}
 use Rattle.lif_compiler.proofs.rating.bounded_rate.Goals as goal
 use Rattle.lif_compiler.proofs.rating.bounded_rate.Goals.{else-least-ge1-via-then-least-ge1+else-least-le-GREATEST_RATE, else-least-ge1-via-else-least-ge1}

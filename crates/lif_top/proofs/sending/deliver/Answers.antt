@@ -1,12 +1,12 @@
 use Rattle.std.proofs.Common.{◌++◌, Err, sym, subst, subst₂, ap, ◌∙◌, arith}
 use Rattle.std.specs.Prelude.{Contains, List}
 use Rattle.generation_frame.specs.Blocks.{pieces_of}
-use Rattle.lif_outside.specs.CallLaws.{calls_then}
+use Rattle.lif_outside.proofs.CallLaws.{calls_then}
 use Rattle.lif_outside.specs.Calls.{MakesCalls}
 use Rattle.lif_outside.specs.Events.{Event, created}
 use Rattle.lif_outside.specs.Runs.{ReadsWhole, StopsWithin, appends_to, creates_of}
 use Rattle.lif_outside.specs.Sequences.{Are, Then}
-use Rattle.lif_outside.specs.SequenceLaws.{then_join}
+use Rattle.lif_outside.proofs.SequenceLaws.{then_join}
 use Rattle.lif_top.proofs.SendCalls.{delivered, no_source, same_deliveries, unwritten, write_fault}
 use Rattle.lif_top.proofs.Turning.{created_there}
 use Rattle.top_base.specs.Given.{given_in}

@@ -1,5 +1,5 @@
 use Rattle.top_base.specs.Accepting.{IsCodeOf, RefusesCode, code_limit}
-use Rattle.top_base.specs.ActingLaws.{runs_had, runs_lost}
+use Rattle.top_base.proofs.ActingLaws.{runs_had, runs_lost}
 use Rattle.top_base.specs.Given.{given_in}
 use Rattle.lif_top.specs.Send.Runs.{Sends}
 use Rattle.lif_top.proofs.sending.send.Goals as goal

@@ -1,6 +1,6 @@
 use Rattle.std.proofs.Common.{◌<◌, length}
 use Rattle.net_model.specs.Walks.{tail_of}
-use Rattle.link_chains.specs.EndLaws.{ends_below}
+use Rattle.link_chains.proofs.EndLaws.{ends_below}
 use Rattle.link_chains.proofs.ends.tail.Goals as goal
 
 pub returns-clause-below : goal.returns-clause-below

@@ -1,6 +1,6 @@
 use Rattle.std.proofs.Common.{◌∙◌, ap, sym}
 use Rattle.std.proofs.lemmas.Option.{get_or_from_slice_get}
-use Rattle.name_texts.specs.NameLaws.{sink_node}
+use Rattle.name_texts.proofs.NameLaws.{sink_node}
 use Rattle.name_texts.specs.Names.{node_name}
 use Rattle.name_texts.proofs.names.sink_name.Goals as goal
 

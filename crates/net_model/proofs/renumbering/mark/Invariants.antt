@@ -1,5 +1,5 @@
 use Rattle.std.proofs.Common.{take}
-use Rattle.net_model.specs.RenumberedParts.{AreMarked}
+use Rattle.net_model.specs.Renumbering.{AreMarked}
 use Rattle.net_model.proofs.renumbering.mark.Given as goal
 
 abbrev pub invariant-loop-link : goal.invariant-loop-link

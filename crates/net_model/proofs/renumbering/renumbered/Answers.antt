@@ -1,4 +1,4 @@
-use Rattle.net_model.specs.RenumberedParts.{IsNetwork-renumbered}
+use Rattle.net_model.proofs.RenumberedParts.{IsNetwork-renumbered}
 use Rattle.net_model.proofs.renumbering.renumbered.Goals as goal
 
 pub of-requires : goal.of-requires

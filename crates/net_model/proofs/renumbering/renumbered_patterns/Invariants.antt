@@ -1,6 +1,5 @@
 use Rattle.std.proofs.Common.{◌≡◌, length, map, take}
-use Rattle.net_model.specs.Renumbering.{renumbered_pattern}
-use Rattle.net_model.specs.RenumberedParts.{AreUnmarked}
+use Rattle.net_model.specs.Renumbering.{renumbered_pattern, AreUnmarked}
 use Rattle.net_model.proofs.renumbering.renumbered_patterns.Given as goal
 
 abbrev pub invariant-loop-pattern : goal.invariant-loop-pattern

@@ -1,5 +1,5 @@
 use Rattle.net_reader.specs.Parts.{parts_seen}
-use Rattle.net_reader.specs.TextLaws.{IsNetwork-from_text}
+use Rattle.net_reader.proofs.TextLaws.{IsNetwork-from_text}
 use Rattle.net_reader.proofs.whole.read_net.Goals as goal
 
 pub net_of-requires : goal.net_of-requires

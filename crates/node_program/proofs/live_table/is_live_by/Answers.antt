@@ -4,7 +4,7 @@ use Rattle.std.proofs.lemmas.Bool.{or_left, or_right}
 use Rattle.std.proofs.lemmas.List.{take_all}
 use Rattle.std.proofs.lemmas.List.Folds.{list_any_more}
 use Rattle.node_program.specs.CodeValue.{is_live_in, reads_live_in, live_table}
-use Rattle.node_program.specs.LiveLaws.{is_live_in-failed, is_live_in-some, is_live_in-none, length-live_table, get_or-live_table}
+use Rattle.node_program.proofs.LiveLaws.{is_live_in-failed, is_live_in-some, is_live_in-none, length-live_table, get_or-live_table}
 use Rattle.node_program.specs.Operands.{IsOperand}
 use Rattle.node_program.specs.Value.{leaves_source}
 use Rattle.node_program.specs.declared.Operand.{Operand}

@@ -1,6 +1,6 @@
 use Rattle.std.proofs.Common.{◌≡◌, length, ap, ◌∙◌, arith}
 use Rattle.node_program.specs.CodeValue.{live_table}
-use Rattle.node_program.specs.LiveLaws.{length-live_table, live_table-more, slice_get-live_table}
+use Rattle.node_program.proofs.LiveLaws.{length-live_table, live_table-more, slice_get-live_table}
 use Rattle.node_program.proofs.live_table.live_links.Goals as goal
 use Rattle.node_program.proofs.live_table.live_links.Goals.{After-of}
 

@@ -3,7 +3,7 @@ use Rattle.std.specs.List.{list_any}
 use Rattle.std.proofs.lemmas.Bool.{or_left, or_right}
 use Rattle.std.proofs.lemmas.List.{take_all}
 use Rattle.node_program.specs.CodeValue.{reads_live_in}
-use Rattle.node_program.specs.LiveLaws.{is_live_in-failed, is_live_in-some, is_live_in-none}
+use Rattle.node_program.proofs.LiveLaws.{is_live_in-failed, is_live_in-some, is_live_in-none}
 use Rattle.node_program.specs.declared.Operand.{Operand}
 use Rattle.node_program.proofs.liveness.+live.Goals as goal
 use Rattle.node_program.proofs.liveness.+live.Goals.{then-leaves-via-then-leaves, then-leaves-via-else-leaves+then-live}

@@ -1,5 +1,5 @@
 use Rattle.std.proofs.Common.{arith}
-use Rattle.node_program.specs.LiveLaws.{length-operands, operands_of_link}
+use Rattle.node_program.proofs.LiveLaws.{length-operands, operands_of_link}
 use Rattle.node_program.proofs.liveness.operands_of.Goals as goal
 
 pub at-requires : goal.at-requires

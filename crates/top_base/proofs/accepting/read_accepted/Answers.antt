@@ -1,10 +1,10 @@
 use Rattle.std.proofs.Common.{sym, subst, ap, ◌∙◌}
-use Rattle.lif_outside.specs.CallLaws.{calls_weaker}
+use Rattle.lif_outside.proofs.CallLaws.{calls_weaker}
 use Rattle.code_file.specs.Items.{bytes_of}
 use Rattle.top_base.specs.Accepting.{IsCodeOf, RefusesCode, RefusesCodeOrLosesIt, code_limit}
-use Rattle.top_base.specs.AcceptingLaws.{code_input}
-use Rattle.top_base.specs.Exits.{if_err}
-use Rattle.top_base.specs.InputLaws.{lost_bytes}
+use Rattle.top_base.proofs.AcceptingLaws.{code_input}
+use Rattle.top_base.proofs.Exits.{if_err}
+use Rattle.top_base.proofs.InputLaws.{lost_bytes}
 use Rattle.top_base.proofs.accepting.read_accepted.Goals as goal
 
 pub returns-in_err-code-clause-lost : goal.returns-in_err-code-clause-lost

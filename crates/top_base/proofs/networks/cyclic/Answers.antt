@@ -1,5 +1,5 @@
 use Rattle.std.proofs.Common.{inl, subst, All, length, List, ℕ, ◌<◌, sym, ◌≡◌}
-use Rattle.net_model.specs.WalkLaws.{IsWalk-below}
+use Rattle.net_model.proofs.WalkLaws.{IsWalk-below}
 use Rattle.top_base.specs.Lines.{cycle_line}
 use Rattle.top_base.proofs.networks.cyclic.Goals as goal
 

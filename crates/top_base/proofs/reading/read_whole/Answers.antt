@@ -1,9 +1,9 @@
 use Rattle.std.proofs.Common.{◌≤◌, Ok, Err, true, false, length, subst, ap, ◌∙◌, arith}
 use Rattle.lif_outside.specs.Calls.{MakesCalls}
-use Rattle.lif_outside.specs.CallLaws.{calls_then}
+use Rattle.lif_outside.proofs.CallLaws.{calls_then}
 use Rattle.lif_outside.specs.Runs.{ReadsWhole}
 use Rattle.top_base.specs.FileReading.{ReadsMore, StopsReading}
-use Rattle.top_base.specs.Exits.{if_err}
+use Rattle.top_base.proofs.Exits.{if_err}
 use Rattle.top_base.proofs.FileReadingLaws.{Gave, gave_more, gave_all, stops_more}
 use Rattle.top_base.proofs.reading.read_whole.Goals as goal
 

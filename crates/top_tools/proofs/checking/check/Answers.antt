@@ -1,6 +1,6 @@
 use Rattle.std.proofs.Common.{inl, ap, ◌∙◌, List, ℕ}
 use Rattle.top_base.specs.Accepting.{IsCodeOf, RefusesCode, code_limit}
-use Rattle.top_base.specs.InspectingLaws.{inspects_had, inspects_lost}
+use Rattle.top_base.proofs.InspectingLaws.{inspects_had, inspects_lost}
 use Rattle.top_base.specs.Lines.{accepted_line}
 use Rattle.top_base.specs.declared.outcome.Outcome.{Outcome}
 use Rattle.top_base.specs.declared.status.Status.TheVariants.{Done}

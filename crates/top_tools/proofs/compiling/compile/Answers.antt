@@ -1,12 +1,12 @@
 use Rattle.std.proofs.Common.{◌≡◌, [], ℕ, List, None, Some, ap, refl, sym, ◌∙◌}
 use Rattle.std.specs.Option.{option_map}
-use Rattle.lif_outside.specs.CallLaws.{calls_of}
+use Rattle.lif_outside.proofs.CallLaws.{calls_of}
 use Rattle.lif_outside.specs.Sequences.{Are}
 use Rattle.net_reader.specs.Text.{net_limit}
-use Rattle.top_base.specs.ActingLaws.{runs_had, runs_lost}
+use Rattle.top_base.proofs.ActingLaws.{runs_had, runs_lost}
 use Rattle.top_base.specs.Given.{compile_given_in}
 use Rattle.top_base.specs.Making.{Writes}
-use Rattle.top_base.specs.MakingLaws.{runs_apart, runs_shared}
+use Rattle.top_base.proofs.MakingLaws.{runs_apart, runs_shared}
 use Rattle.top_base.specs.Networks.{IsNetOf, RefusesNet}
 use Rattle.top_base.specs.declared.outcome.Outcome.{Outcome}
 use Rattle.top_base.specs.declared.status.Status.TheVariants.{SamePath}

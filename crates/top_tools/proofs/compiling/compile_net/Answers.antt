@@ -1,5 +1,5 @@
 use Rattle.std.proofs.Common.{[]}
-use Rattle.lif_outside.specs.CallLaws.{calls_of}
+use Rattle.lif_outside.proofs.CallLaws.{calls_of}
 use Rattle.top_base.specs.Given.{compile_given_in}
 use Rattle.top_tools.proofs.MadeLaws.{lost_runs}
 use Rattle.top_tools.proofs.compiling.compile_net.Goals as goal

@@ -1,5 +1,5 @@
 use Rattle.std.proofs.Common.{◌≡◌, ap, subst, sym, ◌∙◌}
-use Rattle.lif_outside.specs.CallLaws.{calls_weaker}
+use Rattle.lif_outside.proofs.CallLaws.{calls_weaker}
 use Rattle.lif_outside.specs.Calls.{MakesCalls}
 use Rattle.lif_outside.specs.Runs.{StopsWithin}
 use Rattle.lif_outside.specs.Sequences.{Are}

@@ -1,9 +1,9 @@
 use Rattle.std.proofs.Common.{◌++◌, ◌∷◌, [], ap, subst, sym, ◌∙◌}
-use Rattle.lif_outside.specs.CallLaws.{calls_then, calls_weaker}
+use Rattle.lif_outside.proofs.CallLaws.{calls_then, calls_weaker}
 use Rattle.lif_outside.specs.Runs.{StopsWithin}
-use Rattle.lif_outside.specs.SequenceLaws.{stops_behind, stops_first}
+use Rattle.lif_outside.proofs.SequenceLaws.{stops_behind, stops_first}
 use Rattle.lif_outside.specs.Writes.{writes_of}
-use Rattle.top_base.specs.Exits.{on_err}
+use Rattle.top_base.proofs.Exits.{on_err}
 use Rattle.top_tools.proofs.Writing.{err_then, ok_then}
 use Rattle.top_tools.proofs.compiling.write_files.Goals as goal
 

@@ -1,5 +1,5 @@
 use Rattle.std.proofs.Common.{◌<◌, ◌∙◌, ap, length, subst, sym}
-use Rattle.failure_patterns.specs.DemandLaws.{some_demand}
+use Rattle.failure_patterns.proofs.DemandLaws.{some_demand}
 use Rattle.top_tools.proofs.cutting.report.Goals as goal
 
 pub rate-requires : goal.rate-requires

@@ -1,5 +1,5 @@
 use Rattle.net_reader.specs.Text.{net_limit}
-use Rattle.top_base.specs.InspectingLaws.{inspects_had, inspects_lost}
+use Rattle.top_base.proofs.InspectingLaws.{inspects_had, inspects_lost}
 use Rattle.top_base.specs.Networks.{IsNetOf, RefusesNet}
 use Rattle.top_tools.specs.Order.{IsOrdered}
 use Rattle.top_tools.proofs.ordering.order.Goals as goal

@@ -1,7 +1,7 @@
 use Rattle.std.proofs.Common.{Some, ap, sym, ◌∙◌}
 use Rattle.std.proofs.lemmas.Option.{slice_get-get_or}
 use Rattle.cut_witness.specs.declared.cert.Cert.{Cert}
-use Rattle.report_text.specs.PrintableLaws.{IsPrintable-certificate}
+use Rattle.report_text.proofs.PrintableLaws.{IsPrintable-certificate}
 use Rattle.top_tools.proofs.reporting.push_entries.Goals as goal
 
 pub entry-requires : goal.entry-requires

@@ -1,5 +1,5 @@
 use Rattle.std.proofs.Common.{◌≡◌, length, arith}
-use Rattle.topo_order.specs.OrderLaws.{IsAcyclic-from_whole}
+use Rattle.topo_order.proofs.OrderLaws.{IsAcyclic-from_whole}
 use Rattle.topo_order.proofs.ordering.order.Goals as goal
 
 pub returns-clause-acyclic : goal.returns-clause-acyclic

@@ -1,6 +1,6 @@
 use Rattle.std.proofs.Common.{◌≡◌, ◌<◌, length, ℕ, List, Bool, true, false, refl, sym, ◌∙◌, ap, arith, subst, slice_index_or}
 use Rattle.std.proofs.lemmas.List.{get_or-set_same}
-use Rattle.topo_order.specs.OrderLaws.{next_link-ready}
+use Rattle.topo_order.proofs.OrderLaws.{next_link-ready}
 use Rattle.topo_order.specs.Placing.{IsNextInto}
 use Rattle.topo_order.proofs.PlacingSteps.{placing_kept, placing_moved}
 use Rattle.topo_order.proofs.placing.place.Goals as goal

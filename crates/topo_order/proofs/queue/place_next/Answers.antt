@@ -3,7 +3,7 @@ use Rattle.std.specs.Ordering.{nat_cmp}
 use Rattle.std.proofs.lemmas.Bool.{false≢true}
 use Rattle.std.specs.BTreeSet.{contains}
 use Rattle.topo_order.specs.Order.{is_reached}
-use Rattle.topo_order.specs.OrderLaws.{next_link-ready}
+use Rattle.topo_order.proofs.OrderLaws.{next_link-ready}
 use Rattle.topo_order.specs.Queue.{AreReady, HasLeaving}
 use Rattle.topo_order.proofs.PlacingSteps.{reached_read, blocked_read}
 use Rattle.topo_order.proofs.QueueSteps.{first_is_next, none_is_next, none_in_empty, ready_kept, ready_joined}

@@ -2,7 +2,7 @@ use Rattle.std.proofs.Common.{◌<◌, ℕ, length, sym, ◌∙◌, subst, arith
 use Rattle.std.proofs.lemmas.List.{get_or_read}
 use Rattle.net_model.specs.Flows.{flow_network}
 use Rattle.unit_flow.specs.Carrying.{IsCarriedFrom}
-use Rattle.unit_flow.specs.CarryingLaws.{IsCarried-from_source, IsFlowNetwork-flow_network}
+use Rattle.unit_flow.proofs.CarryingLaws.{IsCarried-from_source, IsFlowNetwork-flow_network}
 use Rattle.unit_flow.proofs.BackSteps.{IsGoingBack, back_none, gone_back, link_within, place_of}
 use Rattle.unit_flow.proofs.growing.go_back.Goals as goal
 

@@ -3,7 +3,7 @@ use Rattle.std.proofs.lemmas.List.{append-nil}
 use Rattle.net_model.specs.Flows.{flow_network}
 use Rattle.net_model.specs.declared.Demand.{Demand}
 use Rattle.unit_flow.specs.Carrying.{IsCarried}
-use Rattle.unit_flow.specs.CarryingLaws.{IsFlowNetwork-flow_network}
+use Rattle.unit_flow.proofs.CarryingLaws.{IsFlowNetwork-flow_network}
 use Rattle.unit_flow.specs.Splitting.{paths_of}
 use Rattle.unit_flow.specs.Taking.{AreCursors, CarriesSome}
 use Rattle.unit_flow.proofs.CursorSteps.{cursors_start}

@@ -4,9 +4,9 @@ use Rattle.std.proofs.lemmas.List.Elements.{All-from_get_or}
 use Rattle.node_program.specs.CodeValue.{is_live_in}
 use Rattle.node_program.specs.declared.code.Code.{Code}
 use Rattle.block_carrier.specs.Carried.{Carried}
-use Rattle.block_carrier.specs.CarriedLaws.{AreLinkRows-written, AreCarried-written, AreCarried-dead}
-use Rattle.block_carrier.specs.DecodedLaws.{decoded_block-first}
-use Rattle.block_carrier.specs.CarrierLaws.{IsCarrier-carried}
+use Rattle.block_carrier.proofs.CarriedLaws.{AreLinkRows-written, AreCarried-written, AreCarried-dead}
+use Rattle.block_carrier.proofs.DecodedLaws.{decoded_block-first}
+use Rattle.block_carrier.proofs.CarrierLaws.{IsCarrier-carried}
 use Rattle.block_carrier.specs.LinkRows.{AreLinkRows, AreCarried, IsLiveTable, IsBlockOf, IsCarrier, decoded_block}
 use Rattle.block_carrier.proofs.carrier.Carrier.carry.Goals as goal
 use Rattle.block_carrier.proofs.carrier.Carrier.carry.Goals.{After-as_mut_slice-rows, After-loop-link, then-at, else-at}

@@ -1,6 +1,6 @@
 use Rattle.std.proofs.Common.{◌*◌, ℕ, ap, subst}
 use Rattle.node_program.specs.declared.code.Code.{Code}
-use Rattle.block_carrier.specs.CarrierLaws.{IsCarrier-opened}
+use Rattle.block_carrier.proofs.CarrierLaws.{IsCarrier-opened}
 use Rattle.block_carrier.specs.LinkRows.{IsLiveTable}
 use Rattle.block_carrier.proofs.carrier.Carrier.open.Goals as goal
 

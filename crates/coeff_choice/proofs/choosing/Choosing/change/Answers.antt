@@ -1,7 +1,7 @@
 use Rattle.std.proofs.Common.{◌≡◌, ◌≢◌, ◌<◌, ◌≤◌, length, get_or, set, take, arith, ap, ◌∙◌}
 use Rattle.std.proofs.lemmas.List.{with_items_is, length-set, length-take-le, get_or-set_same, get_or-set_other, get_or-take}
 use Rattle.coeff_choice.specs.Choosing.{scaled_plus_unit}
-use Rattle.coeff_choice.specs.ChoosingLaws.{length-scaled_plus_unit, choosing-changed}
+use Rattle.coeff_choice.proofs.ChoosingLaws.{length-scaled_plus_unit, choosing-changed}
 use Rattle.field_vectors.specs.Grid.{entry_of}
 use Rattle.coeff_choice.proofs.choosing.Choosing.change.Goals as goal
 

@@ -6,7 +6,7 @@ use Rattle.std.specs.Vec.{with_items}
 use Rattle.field_vectors.proofs.GridSteps.{row_below, columns_are, range-row, range-within, rows_apart, row-width, row-elements, grid_in-with_part, with_part-entries}
 use Rattle.field_vectors.specs.Cut.{cut, with_part}
 use Rattle.field_vectors.specs.Elements.{plus_multiple}
-use Rattle.field_vectors.specs.ElementsLaws.{length-plus_multiple, plus_multiple-elements}
+use Rattle.field_vectors.proofs.ElementsLaws.{length-plus_multiple, plus_multiple-elements}
 use Rattle.field_vectors.proofs.matrix.Matrix.add_row.Goals as goal
 use Rattle.field_vectors.proofs.matrix.Matrix.add_row.Goals.{After-add_part}
 

@@ -2,7 +2,7 @@ use Rattle.std.proofs.Common.{◌<◌, length, arith, ap, ◌∙◌, sym, subst,
 use Rattle.std.proofs.lemmas.List.{get_or_read}
 use Rattle.std.proofs.lemmas.List.Elements.{All-get_or}
 use Rattle.field_vectors.proofs.CutLaws.{get_or-cut_entry}
-use Rattle.linear_algebra.specs.EntryLaws.{place_within}
+use Rattle.linear_algebra.proofs.EntryLaws.{place_within}
 use Rattle.field_vectors.proofs.GridSteps.{row_below, columns_are}
 use Rattle.field_vectors.specs.Grid.{entry_of}
 use Rattle.field_vectors.proofs.matrix.Matrix.at.Goals as goal

@@ -5,7 +5,7 @@ use Rattle.std.specs.Vec.{with_items}
 use Rattle.field_vectors.proofs.GridSteps.{row_below, columns_are, range-row, range-within, row-width, row-elements, grid_in-with_part, with_part-entries}
 use Rattle.field_vectors.specs.Cut.{cut, with_part}
 use Rattle.field_vectors.specs.Elements.{multiple_of}
-use Rattle.field_vectors.specs.ElementsLaws.{length-multiple_of, multiple_of-elements}
+use Rattle.field_vectors.proofs.ElementsLaws.{length-multiple_of, multiple_of-elements}
 use Rattle.field_vectors.proofs.matrix.Matrix.scale_row.Goals as goal
 use Rattle.field_vectors.proofs.matrix.Matrix.scale_row.Goals.{After-scale_part}
 

@@ -1,5 +1,5 @@
 use Rattle.std.proofs.Common.{◌<◌, arith, refl}
-use Rattle.linear_algebra.specs.EntryLaws.{place_within}
+use Rattle.linear_algebra.proofs.EntryLaws.{place_within}
 use Rattle.field_vectors.proofs.GridSteps.{row_below, columns_are, grid_in-set}
 use Rattle.field_vectors.proofs.matrix.Matrix.set.Goals as goal
 use Rattle.field_vectors.proofs.matrix.Matrix.set.Goals.{After-place_of-place}

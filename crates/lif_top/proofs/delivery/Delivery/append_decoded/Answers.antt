@@ -2,7 +2,7 @@ use Rattle.std.proofs.Common.{◌≡◌, ◌<◌, ◌∷◌, [], length, nat_lt,
 use Rattle.std.specs.Prelude.{OnErr}
 use Rattle.std.proofs.lemmas.List.{length-map, take_at}
 use Rattle.std.proofs.lemmas.List.Elements.{Contains-get_or}
-use Rattle.failure_patterns.specs.DemandLaws.{few_sinks}
+use Rattle.failure_patterns.proofs.DemandLaws.{few_sinks}
 use Rattle.generation_frame.specs.Blocks.{counted_bytes}
 use Rattle.lif_outside.specs.Calls.{MakesCalls}
 use Rattle.lif_outside.specs.Runs.{StopsWithin, appends_to}

@@ -1,10 +1,10 @@
 use Rattle.std.proofs.Common.{◌≡◌, ◌<◌, ◌*◌, ◌++◌, ◌∷◌, [], Contains, length, map, take, refl, ap, ◌∙◌, sym, subst, arith, slice_index_or, string_bytes}
 use Rattle.std.proofs.lemmas.List.{length-map, take_all, take_at}
 use Rattle.generation_frame.specs.Blocks.{block_of, counted_bytes}
-use Rattle.generation_frame.specs.BlockLaws.{counted-block, length-block}
-use Rattle.lif_outside.specs.CallLaws.{calls_of, calls_then, calls_weaker}
+use Rattle.generation_frame.proofs.BlockLaws.{counted-block, length-block}
+use Rattle.lif_outside.proofs.CallLaws.{calls_of, calls_then, calls_weaker}
 use Rattle.lif_outside.specs.Runs.{StopsWithin, appends_to}
-use Rattle.top_base.specs.Exits.{on_err}
+use Rattle.top_base.proofs.Exits.{on_err}
 use Rattle.lif_top.proofs.Turning.{append_stops, appended_more, appended_none}
 use Rattle.lif_top.specs.Send.Ready.{paths_of, some_piece}
 use Rattle.lif_top.proofs.delivery.Delivery.carry_piece.Goals as goal

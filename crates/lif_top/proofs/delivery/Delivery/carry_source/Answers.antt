@@ -1,9 +1,9 @@
 use Rattle.std.proofs.Common.{◌≡◌, ◌≤◌, ◌+◌, ◌*◌, ◌/◌, ◌++◌, [], ℕ, List, Contains, length, map, take, drop, ◌-◌, subst₂, refl, ap, ◌∙◌, sym, subst, arith, string_bytes}
 use Rattle.generation_frame.specs.Blocks.{block_count, capacity, pieces_before, pieces_of}
-use Rattle.generation_frame.specs.PieceLaws.{length-piece_of}
-use Rattle.lif_outside.specs.CallLaws.{calls_of, calls_then, calls_weaker}
+use Rattle.generation_frame.proofs.PieceLaws.{length-piece_of}
+use Rattle.lif_outside.proofs.CallLaws.{calls_of, calls_then, calls_weaker}
 use Rattle.lif_outside.specs.Runs.{StopsWithin, appends_to}
-use Rattle.top_base.specs.Exits.{on_err}
+use Rattle.top_base.proofs.Exits.{on_err}
 use Rattle.lif_top.proofs.Pieces.{piece_within}
 use Rattle.lif_top.proofs.Turning.{piece_more, piece_stops}
 use Rattle.lif_top.specs.Send.Ready.{paths_of, some_piece}

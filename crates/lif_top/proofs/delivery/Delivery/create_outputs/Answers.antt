@@ -1,9 +1,9 @@
 use Rattle.std.proofs.Common.{◌≡◌, ◌<◌, ◌∷◌, ◌++◌, [], take, subst₂, length, string_bytes, refl, ap, ◌∙◌, sym, arith, slice_index_or}
 use Rattle.std.proofs.lemmas.List.{length-map, take_all}
-use Rattle.lif_outside.specs.CallLaws.{calls_of, calls_then, calls_weaker}
+use Rattle.lif_outside.proofs.CallLaws.{calls_of, calls_then, calls_weaker}
 use Rattle.lif_outside.specs.Events.{created, create_failed}
 use Rattle.lif_outside.specs.Runs.{StopsWithin, creates_of}
-use Rattle.top_base.specs.Exits.{on_err}
+use Rattle.top_base.proofs.Exits.{on_err}
 use Rattle.lif_top.proofs.Turning.{create_stops, created_more, mapped_at}
 use Rattle.lif_top.specs.Send.Ready.{paths_of}
 use Rattle.lif_top.proofs.delivery.Delivery.create_outputs.Goals as goal

@@ -1,8 +1,8 @@
 use Rattle.std.proofs.Common.{◌≡◌, ◌<◌, length, All, arith, ap, ◌∙◌, subst}
 use Rattle.std.proofs.lemmas.List.{length-set}
 use Rattle.field_vectors.specs.Grid.{row_of}
-use Rattle.field_vectors.specs.GridLaws.{row_of-elements, row_of-with_row}
-use Rattle.sink_basis.specs.BasisLaws.{renewed-IsBasis}
+use Rattle.field_vectors.proofs.GridLaws.{row_of-elements, row_of-with_row}
+use Rattle.sink_basis.proofs.BasisLaws.{renewed-IsBasis}
 use Rattle.sink_basis.proofs.basis.Basis.replace.Goals as goal
 
 pub invariant_of-self : goal.invariant_of-self

@@ -1,7 +1,7 @@
 use Rattle.std.proofs.Common.{◌≡◌, length, None, ap, ◌∙◌, sym, subst}
 use Rattle.std.proofs.lemmas.List.{length-replicate}
 use Rattle.sink_basis.specs.Basis.{IsBasis}
-use Rattle.sink_basis.specs.BasisLaws.{identity-IsBasis}
+use Rattle.sink_basis.proofs.BasisLaws.{identity-IsBasis}
 use Rattle.sink_basis.proofs.basis.Basis.start.Goals as goal
 
 pub invariant_of-result : goal.invariant_of-result

@@ -2,7 +2,7 @@ use Rattle.std.proofs.Common.{◌≡◌, ◌<◌, ◌+◌, ℕ, Some, length, sy
 use Rattle.std.proofs.lemmas.List.{get_or_read}
 use Rattle.counted_steps.specs.Steps.{RoseByAtMost}
 use Rattle.link_chains.specs.Chains.{AreFirsts, AreNexts, IsNextAt, end_of}
-use Rattle.link_chains.specs.WiringLaws.{AreFirsts-wiring, AreNexts-wiring}
+use Rattle.link_chains.proofs.WiringLaws.{AreFirsts-wiring, AreNexts-wiring}
 use Rattle.link_chains.specs.declared.chains.Chains.{Chains}
 use Rattle.net_model.specs.Flows.{flow_network}
 use Rattle.unit_flow.specs.Residual.{passage}

@@ -1,6 +1,6 @@
 use Rattle.std.proofs.Common.{◌∙◌, List, ℕ, sym, subst, refl, arith}
 use Rattle.net_model.specs.Flows.{flow_network}
-use Rattle.unit_flow.specs.CarryingLaws.{IsFlowNetwork-flow_network, used_leaving_is}
+use Rattle.unit_flow.proofs.CarryingLaws.{IsFlowNetwork-flow_network, used_leaving_is}
 use Rattle.unit_flow.proofs.TakingSteps.{IsOnTheWay, taking_fewer, taking_next, taking_some, way_begins, way_ends}
 use Rattle.unit_flow.proofs.splitting.Unsplit.take_path.Goals as goal
 

@@ -1,5 +1,5 @@
 use Rattle.std.proofs.Common.{ap, ◌∙◌}
-use Rattle.field_vectors.specs.NumberLaws.{number-dot_of}
+use Rattle.field_vectors.proofs.NumberLaws.{number-dot_of}
 use Rattle.worked_fields.proofs.tests.rows_on_numbers.dot_number.Goals as goal
 
 pub returns : goal.returns

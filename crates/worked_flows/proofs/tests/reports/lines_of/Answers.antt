@@ -1,4 +1,4 @@
-use Rattle.report_text.specs.PrintableLaws.{IsPrintable-certificate}
+use Rattle.report_text.proofs.PrintableLaws.{IsPrintable-certificate}
 use Rattle.worked_flows.proofs.tests.reports.lines_of.Goals as goal
 
 pub entry-requires : goal.entry-requires

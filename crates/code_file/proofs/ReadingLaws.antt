@@ -1,0 +1,244 @@
+-- Reading and spelling code files: a file that's read is the one spelling of what it says, and that's what a code has;
+-- the file of a code is read; and a file that's no code's is refused.
+use Rattle.std.specs.Prelude.{◌≡◌, ◌≢◌, ℕ, ◌+◌, ◌*◌, ◌<◌, ◌≤◌, IsTrue, Bool, true, false, ◌==◌, List, [], ◌++◌, length, codes, Some, None, Result, Ok, Err, if◌then◌else◌}
+use Rattle.std.specs.List.{concat}
+use Rattle.std.proofs.Common.{refl, sym, subst, ap, ◌∙◌, append-nil, arith}
+use Rattle.std.proofs.lemmas.Bool.{true≢false, eqb-true}
+use Rattle.std.proofs.lemmas.List.{nil_from_length}
+use Rattle.gf_tables.specs.declared.kind.FieldKind.{FieldKind}
+use Rattle.net_model.specs.Network.{IsNetwork}
+use Rattle.net_model.specs.declared.net.Net.{Net}
+use Rattle.node_program.specs.Code.{choice_of, are_in_order, IsDraft}
+use Rattle.node_program.specs.declared.Operand.{Operand}
+use Rattle.node_program.specs.declared.Decoder.{Decoder}
+use Rattle.node_program.specs.declared.code.Code.{Code}
+use Rattle.code_file.specs.Items.{Item, front_items, bytes_of}
+use Rattle.code_file.specs.Reading.{Rest, Reading, ◌>>=◌, Front, Contents, each_at, front_at, operands_at_link, decoder_at, demand_sinks, contents_of, refusal_in, refusal_of}
+use Rattle.code_file.specs.Spelling.{front_of, front_items_in, contents_in, spelling_of, AreContents}
+use Rattle.code_file.proofs.SpellingLaws.{front_items_in-front_of, spelling_of-contents_in}
+use Rattle.code_file.proofs.Readers.{ok_of, IsBytes, Takes, is_memory, bind_ok, bind_not_memory, ok_is}
+use Rattle.code_file.proofs.CodeReaders.{AreContentsRead, front_reader, body_at, body_reader}
+use Rattle.code_file.proofs.ContentsLaws.{IsNetwork-from_read, few_demands-from_read, link_order-from_read, IsFrontRead-from_network, AreContents-from_read, AreContentsRead-from_code}
+use Rattle.code_file.specs.declared.refusal.CodeRefusal.{CodeRefusal}
+use Rattle.code_file.specs.declared.refusal.CodeRefusal.TheVariants.{TrailingBytes, OutOfMemory}
+
+-- the first byte of a file and all behind it
+abbrev start_of : List ℕ → Rest
+start_of bytes = record { at = 0; bytes = bytes }
+
+-- the end of a file
+abbrev end_of : Contents → Rest → Result Contents CodeRefusal
+end_of contents left = if length left.bytes == 0 then Ok contents else Err (TrailingBytes left.at)
+
+-- the contents with these parts
+abbrev contents_with : Front → List (List Operand) → List Decoder → Contents
+contents_with front operands decoders = record { front = front; operands = operands; decoders = decoders }
+
+-- contents that were read, and what is left
+abbrev body_of : Contents → Rest → Reading Contents
+body_of contents left = Ok (contents, left)
+
+-- the end behind the decoders
+decoders_end : (front : Front) (operands : List (List Operand)) (read : Reading (List Decoder))
+    → ((read >>= λ decoders. body_of (contents_with front operands decoders.0) decoders.1) >>= λ body. end_of body.0 body.1) ≡ (read >>= λ decoders. end_of (contents_with front operands decoders.0) decoders.1)
+decoders_end front operands (Ok decoders) = refl
+decoders_end front operands (Err refusal) = refl
+
+-- the end behind the operands
+operands_end : (front : Front) (read : Reading (List (List Operand)))
+    → ((read >>= λ operands. each_at (decoder_at front) (demand_sinks front) operands.1 >>= λ decoders. body_of (contents_with front operands.0 decoders.0) decoders.1) >>= λ body. end_of body.0 body.1)
+    ≡ (read >>= λ operands. each_at (decoder_at front) (demand_sinks front) operands.1 >>= λ decoders. end_of (contents_with front operands.0 decoders.0) decoders.1)
+operands_end front (Ok operands) = decoders_end front operands.0 (each_at (decoder_at front) (demand_sinks front) operands.1)
+operands_end front (Err refusal) = refl
+
+-- the end behind the front
+front_end : (read : Reading Front)
+    → ((read >>= λ front. each_at (operands_at_link front.0) front.0.links front.1 >>= λ operands. each_at (decoder_at front.0) (demand_sinks front.0) operands.1
+    >>= λ decoders. body_of (contents_with front.0 operands.0 decoders.0) decoders.1) >>= λ body. end_of body.0 body.1)
+    ≡ (read >>= λ front. each_at (operands_at_link front.0) front.0.links front.1 >>= λ operands. each_at (decoder_at front.0) (demand_sinks front.0) operands.1
+    >>= λ decoders. end_of (contents_with front.0 operands.0 decoders.0) decoders.1)
+front_end (Ok front) = operands_end front.0 (each_at (operands_at_link front.0) front.0.links front.1)
+front_end (Err refusal) = refl
+
+-- the body and the end
+contents_of-body : (bytes : List ℕ) → (body_at (start_of bytes) >>= λ body. end_of body.0 body.1) ≡ contents_of bytes
+unfolding body_at contents_of
+contents_of-body bytes = front_end (front_at (codes "LIFC") 1 (start_of bytes))
+
+-- at the end of a file nothing is left
+end_ok : (contents contents' : Contents) (left : Rest) → end_of contents left ≡ Ok contents' → (left.bytes ≡ []) × (contents ≡ contents')
+end_ok contents contents' left e = either (length left.bytes == 0) refl e
+  where
+    either : (b : Bool) → (length left.bytes == 0) ≡ b → (if b then ok_of contents else Err (TrailingBytes left.at)) ≡ Ok contents' → (left.bytes ≡ []) × (contents ≡ contents')
+    either true is e = (nil_from_length left.bytes (eqb-true _ _ is), ok_is contents contents' e)
+    either false is e = absurd cc
+
+-- what a file says is spelled by the file, and its items say it one by one
+AreContentsRead-from_contents_of : (bytes : List ℕ) (contents : Contents) → IsBytes bytes → contents_of bytes ≡ Ok contents → (bytes ≡ spelling_of contents) × AreContentsRead contents
+AreContentsRead-from_contents_of bytes contents fits e =
+    let b = bind_ok (body_at (start_of bytes)) (λ body. end_of body.0 body.1) contents (contents_of-body bytes ∙ e) in
+    let ended = end_ok b.0.0 contents b.0.1 b.2 in
+    let t = body_reader.takes (start_of bytes) b.0.0 b.0.1 fits b.1 in
+    let spelled : bytes ≡ spelling_of b.0.0 = t.0.parts ∙ ap (λ (left : List ℕ). spelling_of b.0.0 ++ left) ended.0 ∙ append-nil (spelling_of b.0.0) in
+    subst (λ (c : Contents). (bytes ≡ spelling_of c) × AreContentsRead c) ended.1 (spelled, t.1)
+
+-- What a file says is spelled by the file, each byte of it, and it's what a code has.
+pub AreContents-from_contents_of : (bytes : List ℕ) (contents : Contents) → IsBytes bytes → contents_of bytes ≡ Ok contents → (bytes ≡ spelling_of contents) × AreContents contents
+AreContents-from_contents_of bytes contents fits e =
+    let t = AreContentsRead-from_contents_of bytes contents fits e in
+    (t.0, AreContents-from_read contents t.1)
+
+-- a file that says what a code has is that of the code
+pub bytes_of-from_contents_of : (bytes : List ℕ) (code : Code) → IsBytes bytes → contents_of bytes ≡ Ok (contents_in code) → bytes ≡ bytes_of code
+bytes_of-from_contents_of bytes code fits e = (AreContentsRead-from_contents_of bytes (contents_in code) fits e).0 ∙ spelling_of-contents_in code
+
+-- a file of a code and what stands behind it
+pub contents_of-bytes_of-append : (code : Code) (more : List ℕ)
+    → contents_of (bytes_of code ++ more) ≡ (if length more == 0 then Ok (contents_in code) else Err (TrailingBytes (length (bytes_of code))))
+contents_of-bytes_of-append code more =
+    let contents = contents_in code in
+    let at : 0 + length (spelling_of contents) ≡ length (bytes_of code) = omega (arith, ap (λ (t : List ℕ). length t) (spelling_of-contents_in code)) in
+    sym (contents_of-body (bytes_of code ++ more))
+    ∙ ap (λ (t : List ℕ). body_at (start_of (t ++ more)) >>= λ body. end_of body.0 body.1) (sym (spelling_of-contents_in code))
+    ∙ ap (λ (r : Reading Contents). r >>= λ body. end_of body.0 body.1) (body_reader.again 0 more contents (AreContentsRead-from_code code))
+    ∙ ap (λ (n : ℕ). if length more == 0 then ok_of contents else Err (TrailingBytes n)) at
+
+-- The file of a code says what the code has.
+pub contents_of-bytes_of : (code : Code) → contents_of (bytes_of code) ≡ Ok (contents_in code)
+contents_of-bytes_of code = ap contents_of (sym (append-nil (bytes_of code))) ∙ contents_of-bytes_of-append code []
+
+-- no file of a code begins another
+pub bytes_of-prefix : (one other : Code) (more : List ℕ) → bytes_of one ++ more ≡ bytes_of other → more ≡ []
+bytes_of-prefix one other more same =
+    either (length more == 0) refl (sym (contents_of-bytes_of-append one more) ∙ ap contents_of same ∙ contents_of-bytes_of other)
+  where
+    either : (b : Bool) → (length more == 0) ≡ b → (if b then ok_of (contents_in one) else Err (TrailingBytes (length (bytes_of one)))) ≡ Ok (contents_in other) → more ≡ []
+    either true is e = nil_from_length more (eqb-true _ _ is)
+    either false is e = absurd cc
+
+-- codes with one file have the same parts
+pub contents_in-same : (one other : Code) → bytes_of one ≡ bytes_of other → contents_in one ≡ contents_in other
+contents_in-same one other same = ok_is (contents_in one) (contents_in other) (sym (contents_of-bytes_of one) ∙ ap contents_of same ∙ contents_of-bytes_of other)
+
+-- the code of contents
+unfoldable pub code_of : (contents : Contents) → AreContents contents → Code
+code_of contents are =
+    let front = contents.front in
+    let net : Net = record {
+      nodes = front.nodes;
+      links = front.links;
+      source = front.source;
+      sinks = front.sinks;
+      patterns = front.patterns;
+      field = choice_of front.field;
+      network = are.network;
+    } in
+    record {
+      net = net;
+      rate = front.rate;
+      field = front.field;
+      operands = contents.operands;
+      decoders = contents.decoders;
+      code = are.code net refl refl refl refl refl refl;
+    }
+
+-- the code of contents has them
+pub contents_in-code_of : (contents : Contents) (are : AreContents contents) → contents_in (code_of contents are) ≡ contents
+unfolding code_of
+contents_in-code_of contents are = refl
+
+-- contents are spelled as their code
+pub bytes_of-code_of : (contents : Contents) (are : AreContents contents) → bytes_of (code_of contents are) ≡ spelling_of contents
+bytes_of-code_of contents are = sym (spelling_of-contents_in (code_of contents are)) ∙ ap spelling_of (contents_in-code_of contents are)
+
+-- contents of a code are read from their spelling
+pub contents_of-spelling_of : (contents : Contents) → AreContents contents → contents_of (spelling_of contents) ≡ Ok contents
+contents_of-spelling_of contents are =
+    ap contents_of (sym (bytes_of-code_of contents are)) ∙ contents_of-bytes_of (code_of contents are) ∙ ap (λ (c : Contents). ok_of c) (contents_in-code_of contents are)
+
+-- the file of a code isn't refused
+pub refusal_of-bytes_of : (code : Code) → refusal_of (bytes_of code) ≡ None
+unfolding refusal_of
+refusal_of-bytes_of code = ap (λ (r : Result Contents CodeRefusal). refusal_in r) (contents_of-bytes_of code)
+
+-- reading wants no memory
+contents_of-not_memory : (bytes : List ℕ) → is_memory (contents_of bytes) ≡ false
+contents_of-not_memory bytes =
+    subst (λ (r : Result Contents CodeRefusal). is_memory r ≡ false) (contents_of-body bytes)
+    (bind_not_memory (body_at (start_of bytes)) (λ body. end_of body.0 body.1) (body_reader.not_memory (start_of bytes)) (λ body. either (length body.1.bytes == 0) body.0 body.1.at))
+  where
+    either : (b : Bool) (contents : Contents) (at : ℕ) → is_memory (if b then ok_of contents else Err (TrailingBytes at)) ≡ false
+    either true contents at = refl
+    either false contents at = refl
+
+-- no file is refused for want of memory
+pub contents_of-out_of_memory : (bytes : List ℕ) → contents_of bytes ≢ Err OutOfMemory
+contents_of-out_of_memory bytes e = true≢false (sym (ap (λ (r : Result Contents CodeRefusal). is_memory r) e) ∙ contents_of-not_memory bytes)
+
+-- A file that's no code's is refused, and not for want of memory.
+pub record IsRefused (bytes : List ℕ) : Type 0 where
+  pub refusal : CodeRefusal
+  pub refusal_is : refusal_of bytes ≡ Some refusal
+  pub some_fault : refusal ≢ OutOfMemory
+
+-- a file that is no code's is refused
+pub refusal_of-some : (bytes : List ℕ) → IsBytes bytes → ((code : Code) → bytes_of code ≢ bytes) → IsRefused bytes
+unfolding refusal_of
+refusal_of-some bytes fits no_code = either (contents_of bytes) refl
+  where
+    either : (r : Result Contents CodeRefusal) → contents_of bytes ≡ r → IsRefused bytes
+    either (Ok contents) is =
+        let t = AreContents-from_contents_of bytes contents fits is in
+        absurd (no_code (code_of contents t.1) (bytes_of-code_of contents t.1 ∙ sym t.0))
+    either (Err refusal) is = record {
+      refusal = refusal;
+      refusal_is = ap (λ (r : Result Contents CodeRefusal). refusal_in r) is;
+      some_fault = λ e. contents_of-out_of_memory bytes (is ∙ ap (λ (refusal : CodeRefusal). Err refusal) e);
+    }
+
+-- a file that isn't refused is that of a code
+pub refusal_of-none : (bytes : List ℕ) → IsBytes bytes → refusal_of bytes ≡ None → (code : Code) × (bytes_of code ≡ bytes)
+unfolding refusal_of
+refusal_of-none bytes fits none = either (contents_of bytes) refl none
+  where
+    either : (r : Result Contents CodeRefusal) → contents_of bytes ≡ r → refusal_in r ≡ None → (code : Code) × (bytes_of code ≡ bytes)
+    either (Ok contents) is none =
+        let t = AreContents-from_contents_of bytes contents fits is in
+        (code_of contents t.1, bytes_of-code_of contents t.1 ∙ sym t.0)
+    either (Err refusal) is none = absurd cc
+
+-- ---- the front alone
+
+-- What was read up to the operands was taken from the front of a file, and it's what a network in order and a rate have.
+pub record IsFrontAt (mark : List ℕ) (version : ℕ) (rest : Rest) (front : Front) (left : Rest) : Type 0 where
+  pub takes : Takes rest (concat (front_items_in mark version front)) left
+  pub network : IsNetwork front.nodes front.links front.source front.sinks front.patterns
+  pub some_rate : 1 ≤ front.rate
+  pub low_rate : front.rate ≤ 32
+  pub few_demands : length front.sinks * length front.patterns ≤ 65536
+  pub link_order : IsTrue (are_in_order [] front.links)
+
+-- What is read up to the operands is spelled so, each byte of it, and it's what a network in order and a rate have.
+pub IsFrontAt-from_front_at : (mark : List ℕ) (version : ℕ) → length mark ≡ 4 → version < 256 → (rest : Rest) (front : Front) (left : Rest) → IsBytes rest.bytes
+    → front_at mark version rest ≡ Ok (front, left) → IsFrontAt mark version rest front left
+IsFrontAt-from_front_at mark version four small rest front left fits e =
+    let t = (front_reader mark version four small).takes rest front left fits e in
+    record {
+      takes = t.0;
+      network = IsNetwork-from_read front t.1;
+      some_rate = t.1.some_rate;
+      low_rate = t.1.low_rate;
+      few_demands = few_demands-from_read front t.1;
+      link_order = link_order-from_read (length front.nodes) front.links t.1.links;
+    }
+
+-- What is spelled up to the operands of a draft is read.
+pub front_at-front_items : (mark : List ℕ) (version : ℕ) → length mark ≡ 4 → version < 256 → (at : ℕ) (more : List ℕ)
+    → {net : Net} {rate : ℕ} {field : FieldKind} {operands : List (List Operand)} → IsDraft net rate field operands
+    → front_at mark version (record { at = at; bytes = concat (front_items mark version net rate field) ++ more })
+    ≡ Ok (front_of net rate field, record { at = at + length (concat (front_items mark version net rate field)); bytes = more })
+front_at-front_items mark version four small at more {net} {rate} {field} draft =
+    let front = front_of net rate field in
+    let read = (front_reader mark version four small).again at more front (IsFrontRead-from_network front net.network draft.some_rate draft.low_rate draft.few_demands draft.link_order) in
+    subst (λ (items : List Item). front_at mark version (record { at = at; bytes = concat items ++ more }) ≡ Ok (front, record { at = at + length (concat items); bytes = more }))
+    (front_items_in-front_of mark version net rate field) read

@@ -1,0 +1,73 @@
+-- What holds of the demands of a network.
+use Rattle.std.specs.Prelude.{◌≡◌, ◌≢◌, ℕ, ◌*◌, ◌/◌, ◌^◌, ◌<◌, ◌≤◌, true, nat_lt, List, [], ◌∷◌, length, slice_index}
+use Rattle.std.proofs.Common.{arith}
+use Rattle.std.proofs.Math.Nat.{div-lt_iff_lt-mul, mod-lt, mul-le-mul}
+use Rattle.std.proofs.lemmas.Bool.{and_parts, eqb-false, ltb-true, not-true}
+use Rattle.net_model.specs.Demands.{demand_count, pattern_of_demand, sink_of_demand, sinks_of_demands}
+use Rattle.net_model.proofs.ListLaws.{length-are_distinct, list_all-implied}
+use Rattle.net_model.specs.Network.{are_patterns, is_sink_among}
+use Rattle.net_model.proofs.NetworkLaws.{passes_at}
+use Rattle.net_model.specs.declared.Pattern.{Pattern}
+use Rattle.net_model.specs.declared.net.Net.{Net}
+use Rattle.failure_patterns.proofs.ListLaws.{length-repeated, get_or-repeated}
+
+-- there are as many demands as sinks of demands
+pub length-sinks_of_demands : (net : Net) → length (sinks_of_demands net) ≡ demand_count net
+length-sinks_of_demands net = length-repeated (length net.patterns) net.sinks
+
+-- the sinks of all demands stand in order
+pub slice_index-sinks_of_demands : (net : Net) (demand : ℕ) → demand < demand_count net → slice_index (sinks_of_demands net) demand ≡ sink_of_demand net demand
+slice_index-sinks_of_demands net demand within = get_or-repeated (length net.patterns) net.sinks demand 0 within
+
+-- there are no more sinks than nodes
+pub few_sinks : (net : Net) → length net.sinks ≤ length net.nodes
+few_sinks net =
+    length-are_distinct net.sinks (length net.nodes) net.network.distinct_sinks
+    (list_all-implied (is_sink_among (length net.nodes) net.source) (λ sink. nat_lt sink (length net.nodes)) net.sinks (λ sink among. (and_parts _ _ among).0) net.network.sink_nodes)
+
+-- there are at most 4096 * 4096 demands
+pub few_demands : (net : Net) → demand_count net ≤ 4096 * 4096
+few_demands net =
+    let sinks : length net.sinks ≤ 4096 = omega (arith, few_sinks net, net.network.few_nodes) in
+    mul-le-mul sinks net.network.few_patterns
+
+-- so their number fits into 64 bits
+pub demands_fit : (net : Net) → demand_count net < 2 ^ 64
+demands_fit net = omega (arith, few_demands net)
+
+-- a network with a demand has a pattern
+pub some_pattern : (net : Net) (demand : ℕ) → demand < demand_count net → 0 < length net.patterns
+some_pattern net demand within = grind arith
+
+-- the sink of a demand has a place among the sinks
+pub sink_place_within : (net : Net) (demand : ℕ) → demand < demand_count net → demand / length net.patterns < length net.sinks
+sink_place_within net demand within = (div-lt_iff_lt-mul (some_pattern net demand within)).1 within
+
+-- so it fits into 32 bits
+pub sink_place_fits : (net : Net) (demand : ℕ) → demand < demand_count net → demand / length net.patterns < 2 ^ 32
+sink_place_fits net demand within = omega (arith, few_sinks net, net.network.few_nodes, sink_place_within net demand within)
+
+-- the pattern of a demand has a place among the patterns
+pub pattern_place_within : (net : Net) (demand : ℕ) → demand < demand_count net → pattern_of_demand net demand < length net.patterns
+pattern_place_within net demand within = mod-lt demand (some_pattern net demand within)
+
+-- what holds of the sink of a demand
+sink_test : (net : Net) (demand : ℕ) → demand < demand_count net → is_sink_among (length net.nodes) net.source (sink_of_demand net demand) ≡ true
+sink_test net demand within = passes_at (is_sink_among (length net.nodes) net.source) net.sinks (demand / length net.patterns) 0 net.network.sink_nodes (sink_place_within net demand within)
+
+-- the sink of a demand is a node
+pub sink_is_node : (net : Net) (demand : ℕ) → demand < demand_count net → sink_of_demand net demand < length net.nodes
+sink_is_node net demand within = ltb-true _ _ (and_parts _ _ (sink_test net demand within)).0
+
+-- the sink of a demand is not the source
+pub sink_is_not_source : (net : Net) (demand : ℕ) → demand < demand_count net → sink_of_demand net demand ≢ net.source
+sink_is_not_source net demand within same =
+    eqb-false _ _ (not-true _ (and_parts _ _ (sink_test net demand within)).1) same
+
+-- there is a demand
+pub some_demand : (net : Net) → 0 < demand_count net
+some_demand net = grind (arith, net.network.some_sink, patterned (length net.links) net.patterns net.network.pattern_links)
+  where
+    patterned : (links : ℕ) (patterns : List Pattern) → are_patterns links patterns ≡ true → 0 < length patterns
+    patterned links [] are = cc
+    patterned links (none ∷ listed) are = omega arith

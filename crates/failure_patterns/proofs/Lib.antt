@@ -1,0 +1,3 @@
+pub mod RateLaws
+pub mod ListLaws
+pub mod DemandLaws

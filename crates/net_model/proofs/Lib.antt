@@ -1,0 +1,6 @@
+pub mod ListLaws
+pub mod NetworkLaws
+pub mod WalkLaws
+pub mod FlowLaws
+pub mod RenumberingLaws
+pub mod RenumberedParts

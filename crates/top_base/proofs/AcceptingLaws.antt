@@ -1,0 +1,85 @@
+-- Codes as inputs: bytes are those of one accepted code, or are refused in one way.
+use Rattle.std.specs.Prelude.{◌≡◌, ◌<◌, ℕ, List, IsTrue}
+use Rattle.std.proofs.Common.{refl, sym, ap, subst, ◌∙◌, arith}
+use Rattle.code_checker.specs.Checking.{FailsFirst, DiffersFirst, entry_at, demand_product}
+use Rattle.code_checker.proofs.CheckingLaws.{FailsFirst-refuses}
+use Rattle.code_file.specs.Items.{bytes_of}
+use Rattle.code_file.specs.Reading.{contents_of}
+use Rattle.code_file.proofs.ReadingLaws.{contents_of-bytes_of}
+use Rattle.node_program.specs.Decoding.{IsAccepted}
+use Rattle.node_program.specs.declared.code.Code.{Code}
+use Rattle.top_base.specs.Accepting.{IsCodeOf, RefusesCode, code_limit}
+use Rattle.top_base.proofs.InputLaws.{IsInput}
+use Rattle.top_base.specs.Inputs.{is_refusal}
+use Rattle.top_base.specs.Outcome.{any_cycle}
+use Rattle.top_base.proofs.SameCode.{same_code}
+use Rattle.top_base.specs.declared.status.Status.{Status}
+use Rattle.top_base.specs.declared.status.Status.TheVariants.{CodeRefused, CheckFailed}
+
+-- two numbers of which neither is below the other
+both_below : (a b : ℕ) → ¬ (a < b) → ¬ (b < a) → a ≡ b
+both_below a b h k = omega arith
+
+-- the first entry that differs
+same_entry : (size : ℕ) (rows : List (List ℕ)) (i j found k l other : ℕ) → DiffersFirst size rows i j found → DiffersFirst size rows k l other → (i ≡ k) × (j ≡ l) × (found ≡ other)
+same_entry size rows i j found k l other one two =
+    let row : i ≡ k = both_below i k (λ lt. one.differs (one.value ∙ two.rows_before i j lt one.in_column)) (λ lt. two.differs (two.value ∙ one.rows_before k l lt two.in_column)) in
+    let two_here : DiffersFirst size rows i l other = subst (λ row. DiffersFirst size rows row l other) (sym row) two in
+    let column : j ≡ l = both_below j l (λ lt. one.differs (one.value ∙ two_here.before j lt)) (λ lt. two_here.differs (two_here.value ∙ one.before l lt)) in
+    (row, column, one.value ∙ ap (entry_at rows i) column ∙ sym two_here.value)
+
+-- the first demand that fails
+not_earlier : (code : Code) (demand i j found demand' k l other : ℕ) → FailsFirst code demand i j found → FailsFirst code demand' k l other → ¬ (demand < demand')
+not_earlier code demand i j found demand' k l other one two lt =
+    one.entry.differs (one.entry.value ∙ ap (λ (rows : List (List ℕ)). entry_at rows i j) (two.before demand one.from_on lt))
+
+-- the first demand that fails, and its first entry
+same_fails : (code : Code) (demand i j found demand' k l other : ℕ) → FailsFirst code demand i j found → FailsFirst code demand' k l other
+    → (demand ≡ demand') × (i ≡ k) × (j ≡ l) × (found ≡ other)
+same_fails code demand i j found demand' k l other one two =
+    let same : demand ≡ demand' = both_below demand demand' (not_earlier code demand i j found demand' k l other one two) (not_earlier code demand' k l other demand i j found two one) in
+    let two_here : FailsFirst code demand k l other = subst (λ d. FailsFirst code d k l other) (sym same) two in
+    let entry = same_entry code.rate (demand_product code demand) i j found k l other one.entry two_here.entry in
+    (same, entry.0, entry.1, entry.2)
+
+-- bytes are refused by a refusal
+kind : (bytes : List ℕ) (status : Status) (line : List ℕ) → RefusesCode bytes status line → IsTrue (is_refusal status)
+kind bytes (CodeRefused why) line refused = refl
+kind bytes (CheckFailed demand row column found) line refused = refl
+kind bytes status line refused = absurd refused
+
+-- the bytes of an accepted code aren't refused
+not_refused : (code : Code) (bytes : List ℕ) (status : Status) (line : List ℕ) → bytes_of code ≡ bytes → IsAccepted code → RefusesCode bytes status line → ⊥
+not_refused code bytes (CodeRefused why) line same accepted refused =
+    let says = sym (contents_of-bytes_of code) ∙ ap contents_of same ∙ refused.0 in cc
+not_refused code bytes (CheckFailed demand row column found) line same accepted refused =
+    FailsFirst-refuses refused.0 demand row column found refused.2 (subst IsAccepted (same_code code refused.0 (same ∙ refused.1)) accepted)
+not_refused code bytes status line same accepted refused = absurd refused
+
+-- bytes are refused in one way
+same_refusal : (bytes : List ℕ) (status : Status) (line : List ℕ) (status' : Status) (line' : List ℕ) → RefusesCode bytes status line → RefusesCode bytes status' line' → status ≡ status'
+same_refusal bytes (CodeRefused why) line (CodeRefused why') line' one other =
+    let says = sym one.0 ∙ other.0 in
+    let same : why ≡ why' = cc in
+    ap (λ w. CodeRefused w) same
+same_refusal bytes (CodeRefused why) line (CheckFailed demand row column found) line' one other =
+    let says = sym (contents_of-bytes_of other.0) ∙ ap contents_of (sym other.1) ∙ one.0 in absurd (cc)
+same_refusal bytes (CheckFailed demand row column found) line (CodeRefused why) line' one other =
+    let says = sym (contents_of-bytes_of one.0) ∙ ap contents_of (sym one.1) ∙ other.0 in absurd (cc)
+same_refusal bytes (CheckFailed demand row column found) line (CheckFailed demand' row' column' found') line' one other =
+    let same : other.0 ≡ one.0 = same_code other.0 one.0 (sym other.1 ∙ one.1) in
+    let fails : FailsFirst one.0 demand' row' column' found' = subst (λ (code : Code). FailsFirst code demand' row' column' found') same other.2 in
+    let there = same_fails one.0 demand row column found demand' row' column' found' one.2 fails in
+    cc
+same_refusal bytes (CodeRefused why) line status' line' one other = absurd other
+same_refusal bytes (CheckFailed demand row column found) line status' line' one other = absurd other
+same_refusal bytes status line status' line' one other = absurd one
+
+-- what has to be known of a code as an input
+pub code_input : IsInput code_limit IsCodeOf RefusesCode
+code_input = record {
+  kind = kind;
+  same = λ bytes one other is_one is_other. same_code one other (sym is_one.spelled ∙ is_other.spelled);
+  apart = λ bytes code status line is refused. not_refused code bytes status line (sym is.spelled) is.accepted refused;
+  alike = λ bytes status line status' line' one other. ap any_cycle (same_refusal bytes status line status' line' one other);
+}

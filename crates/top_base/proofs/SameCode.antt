@@ -1,0 +1,67 @@
+-- A code is given by its file: two codes with one file are equal.
+use Rattle.std.specs.Prelude.{List}
+use Rattle.std.proofs.Common.{◌≡◌, ◌∙◌, ℕ, sym, ap, subst}
+use Rattle.std.proofs.Props.{props}
+use Rattle.gf_tables.specs.declared.kind.FieldKind.{FieldKind}
+use Rattle.net_model.specs.Network.{IsNetwork}
+use Rattle.net_model.specs.declared.net.Net.{Net}
+use Rattle.net_model.specs.declared.net.FieldChoice.{FieldChoice}
+use Rattle.node_program.specs.Code.{IsCode}
+use Rattle.node_program.specs.declared.Operand.{Operand}
+use Rattle.node_program.specs.declared.Decoder.{Decoder}
+use Rattle.node_program.specs.declared.code.Code.{Code}
+use Rattle.code_file.specs.Items.{bytes_of}
+use Rattle.code_file.specs.Reading.{Front, Contents}
+use Rattle.code_file.proofs.ReadingLaws.{contents_in-same}
+use Rattle.code_file.specs.Spelling.{contents_in}
+use Rattle.top_base.proofs.SameNet.{IsNetwork-prop}
+
+-- the laws of codes have one proof at most
+IsCode-prop : (net : Net) (rate : ℕ) (field : FieldKind) (operands : List (List Operand)) (decoders : List Decoder) → IsProp (IsCode net rate field operands decoders)
+IsCode-prop net rate field operands decoders = hlevel props
+
+-- the network of these parts
+abbrev IsNetworkOf : Front → Type 0
+IsNetworkOf front = IsNetwork front.nodes front.links front.source front.sinks front.patterns
+
+abbrev net_of : (front : Front) → FieldChoice → IsNetworkOf front → Net
+net_of front choice network = record { nodes = front.nodes; links = front.links; source = front.source; sinks = front.sinks; patterns = front.patterns; field = choice; network = network }
+
+-- what a code has beside its contents, and the code
+record AsCode (contents : Contents) : Type 0 where
+  choice : FieldChoice
+  network : IsNetworkOf contents.front
+  code : IsCode (net_of contents.front choice network) contents.front.rate contents.front.field contents.operands contents.decoders
+
+abbrev code_as : (contents : Contents) → AsCode contents → Code
+code_as contents beside = record {
+  net = net_of contents.front beside.choice beside.network;
+  rate = contents.front.rate;
+  field = contents.front.field;
+  operands = contents.operands;
+  decoders = contents.decoders;
+  code = beside.code;
+}
+
+abbrev code_parts : (code : Code) → AsCode (contents_in code)
+code_parts code = record { choice = code.net.field; network = code.net.network; code = code.code }
+
+-- codes of the same contents are equal
+same_law : (contents : Contents) (one other : AsCode contents) → one.choice ≡ other.choice → code_as contents one ≡ code_as contents other
+same_law contents one other same =
+    let front = contents.front in
+    let Law : (choice : FieldChoice) → IsNetworkOf front → Type 0 = λ choice network. IsCode (net_of front choice network) front.rate front.field contents.operands contents.decoders in
+    let To : (choice : FieldChoice) → IsNetworkOf front → Type 0 = λ choice network. (law : Law choice network) → code_as contents one ≡ code_as contents (record { choice = choice; network = network; code = law }) in
+    subst (λ choice. To choice other.network) same
+    (subst (To one.choice) (IsNetwork-prop front.nodes front.links front.source front.sinks front.patterns one.network other.network)
+    (λ law. ap (λ law. code_as contents (record { choice = one.choice; network = one.network; code = law })) (IsCode-prop _ _ _ _ _ one.code law)))
+    other.code
+
+same_as : (contents : Contents) (one other : AsCode contents) → code_as contents one ≡ code_as contents other
+same_as contents one other = same_law contents one other (one.code.draft.named_field ∙ sym other.code.draft.named_field)
+
+-- codes with one file are equal
+pub same_code : (one other : Code) → bytes_of one ≡ bytes_of other → one ≡ other
+same_code one other same =
+    subst (λ (contents : Contents). (beside : AsCode contents) → code_as (contents_in one) (code_parts one) ≡ code_as contents beside)
+    (contents_in-same one other same) (same_as (contents_in one) (code_parts one)) (code_parts other)

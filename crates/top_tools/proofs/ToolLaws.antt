@@ -1,0 +1,131 @@
+-- What has to be known of the commands.
+use Rattle.std.specs.Prelude.{◌≡◌, ◌≢◌, ℕ, List, IsTrue}
+use Rattle.std.proofs.Common.{refl, sym, ap, subst, ◌∙◌, ⊎_elim}
+use Rattle.std.proofs.lemmas.Bool.{false≢true}
+use Rattle.cut_witness.proofs.CertificateLaws.{IsRate-least_value}
+use Rattle.failure_patterns.specs.Rate.{IsRate}
+use Rattle.lif_outside.specs.Calls.{Calls}
+use Rattle.lif_outside.specs.Runs.{Written}
+use Rattle.lif_outside.specs.Writes.{paths_written}
+use Rattle.net_model.specs.Demands.{demand_count}
+use Rattle.net_model.specs.declared.net.Net.{Net}
+use Rattle.net_reader.specs.Text.{net_limit}
+use Rattle.topo_order.specs.Order.{order_of}
+use Rattle.top_base.specs.Accepting.{IsCodeOf, RefusesCode, code_limit}
+use Rattle.top_base.proofs.AcceptingLaws.{code_input}
+use Rattle.top_base.proofs.InspectingLaws.{EndsWell, inspects_known, inspects_used}
+use Rattle.top_base.specs.Lines.{accepted_line, order_text}
+use Rattle.top_base.proofs.MakingLaws.{MakesWell, makes_known, makes_used}
+use Rattle.top_base.proofs.NetworkLaws.{net_input}
+use Rattle.top_base.specs.Networks.{IsNetOf, RefusesNet}
+use Rattle.top_base.specs.Outcome.{any_cycle, is_of_inputs}
+use Rattle.top_base.proofs.PerformingLaws.{IsKnown}
+use Rattle.top_base.specs.Words.{Compile}
+use Rattle.top_base.specs.declared.outcome.Outcome.{Outcome}
+use Rattle.top_base.specs.declared.status.Status.{Status}
+use Rattle.top_base.specs.declared.status.Status.TheVariants.{Done, RateOver, TooManyDemands, Usage, ZeroRate}
+use Rattle.top_tools.specs.Check.{IsChecked, check_command}
+use Rattle.top_tools.specs.Compile.Command.{compile_command}
+use Rattle.top_tools.specs.Compile.Given.{outputs_of}
+use Rattle.top_tools.specs.Compile.Made.{IsGood, IsMade, RefusesMaking}
+use Rattle.top_tools.specs.Cuts.{IsCrowded, IsWitnessed, cuts_command}
+use Rattle.top_tools.specs.Order.{IsOrdered, order_command}
+use Rattle.top_tools.proofs.RefusalLaws.{same_due}
+
+-- a command that is done, with one line, where its input was had, ends well
+module _ {X : Type 0} (limit : ℕ) (Is : List ℕ → X → Type 0) (Refuses : List ℕ → Status → List ℕ → Type 0) (line : X → List ℕ) where
+  done : (x : X) (outcome : Outcome) → outcome ≡ record { status = Done; line = line x } → outcome.status ≡ Done
+  done x outcome is = ap (λ (o : Outcome). o.status) is
+
+  pub ends_done : EndsWell limit Is Refuses (λ x outcome. outcome ≡ record { status = Done; line = line x })
+  ends_done = record {
+    of_inputs = λ x outcome is. ap is_of_inputs (done x outcome is);
+    used = λ x outcome is used. let both : Done ≡ Usage = sym (done x outcome is) ∙ used in cc;
+    alike = λ x one other is is'. ap any_cycle (done x one is ∙ sym (done x other is'));
+  }
+
+-- the command `check`
+checks_well : EndsWell code_limit IsCodeOf RefusesCode IsChecked
+checks_well = ends_done code_limit IsCodeOf RefusesCode accepted_line
+
+pub check_known : (path : List ℕ) → IsKnown (check_command path)
+check_known path = inspects_known code_limit IsCodeOf RefusesCode IsChecked code_input checks_well path
+
+pub check_used : (path : List ℕ) (outcome : Outcome) (calls : Calls) → (check_command path).runs outcome calls → outcome.status ≢ Usage
+check_used path = inspects_used code_limit IsCodeOf RefusesCode IsChecked code_input checks_well path
+
+-- the command `cuts`
+counted : (net : Net) (outcome : Outcome) → IsCrowded net outcome → outcome.status ≡ TooManyDemands (demand_count net)
+counted net outcome crowded = ap (λ (o : Outcome). o.status) crowded.1
+
+cuts_well : EndsWell net_limit IsNetOf RefusesNet IsWitnessed
+cuts_well = record {
+  of_inputs = λ net outcome is. ⊎_elim (λ crowded. ap is_of_inputs (counted net outcome crowded)) (λ reported. ap is_of_inputs reported.1) is;
+  used = λ net outcome is used. ⊎_elim
+      (λ crowded. let both : TooManyDemands (demand_count net) ≡ Usage = sym (counted net outcome crowded) ∙ used in cc)
+      (λ reported. let both : Done ≡ Usage = sym reported.1 ∙ used in cc)
+      is;
+  alike = λ net one other is is'. ⊎_elim
+      (λ crowded. ⊎_elim
+      (λ crowded'. ap any_cycle (counted net one crowded ∙ sym (counted net other crowded')))
+      (λ reported. absurd (false≢true (sym crowded.0 ∙ reported.0)))
+      is')
+      (λ reported. ⊎_elim
+      (λ crowded. absurd (false≢true (sym crowded.0 ∙ reported.0)))
+      (λ reported'. ap any_cycle (reported.1 ∙ sym reported'.1))
+      is')
+      is;
+}
+
+pub cuts_known : (path : List ℕ) → IsKnown (cuts_command path)
+cuts_known path = inspects_known net_limit IsNetOf RefusesNet IsWitnessed net_input cuts_well path
+
+pub cuts_used : (path : List ℕ) (outcome : Outcome) (calls : Calls) → (cuts_command path).runs outcome calls → outcome.status ≢ Usage
+cuts_used path = inspects_used net_limit IsNetOf RefusesNet IsWitnessed net_input cuts_well path
+
+-- the command `order`
+orders_well : EndsWell net_limit IsNetOf RefusesNet IsOrdered
+orders_well = ends_done net_limit IsNetOf RefusesNet (λ net. order_text net (order_of net.links))
+
+pub order_known : (path : List ℕ) → IsKnown (order_command path)
+order_known path = inspects_known net_limit IsNetOf RefusesNet IsOrdered net_input orders_well path
+
+pub order_used : (path : List ℕ) (outcome : Outcome) (calls : Calls) → (order_command path).runs outcome calls → outcome.status ≢ Usage
+order_used path = inspects_used net_limit IsNetOf RefusesNet IsOrdered net_input orders_well path
+
+-- the command `compile`
+module _ (given : Compile) where
+  -- a network of which a code was made is good
+  good : (net : Net) (files : List Written) (line : List ℕ) → IsMade given net files line → IsGood net line
+  good net files line made = record {
+    field = made.field;
+    served = made.served;
+    rate = made.code.rate;
+    is_rate = subst (IsRate net) (sym made.compiled.rate) (IsRate-least_value net made.certs made.compiled.least made.compiled.certified made.compiled.is_least);
+    some = made.code.code.draft.some_rate;
+    few = made.code.code.draft.low_rate;
+    line_is = made.line_is;
+  }
+
+  -- networks that aren't compiled are refused with a status of their own
+  of_inputs : (net : Net) (status : Status) (line : List ℕ) → RefusesMaking net status line → IsTrue (is_of_inputs status)
+  of_inputs net (TooManyDemands count) line refused = refl
+  of_inputs net (ZeroRate demand side) line refused = refl
+  of_inputs net (RateOver demand least) line refused = refl
+  of_inputs net status line refused = absurd refused
+
+  compiles_well : MakesWell net_limit IsNetOf RefusesNet (IsMade given) IsGood RefusesMaking given.net (outputs_of given)
+  compiles_well = record {
+    written = λ net files line made. ap paths_written made.files_are;
+    can = good;
+    of_inputs = of_inputs;
+    undone = λ net line refused. refused;
+    used = λ net line refused. refused;
+    alike = λ net status line status' line' one other. ap any_cycle (same_due net status line status' line' one other);
+  }
+
+  pub compile_known : IsKnown (compile_command given)
+  compile_known = makes_known net_limit IsNetOf RefusesNet (IsMade given) IsGood RefusesMaking given.net (outputs_of given) compiles_well net_input
+
+  pub compile_used : (outcome : Outcome) (calls : Calls) → (compile_command given).runs outcome calls → outcome.status ≢ Usage
+  compile_used = makes_used net_limit IsNetOf RefusesNet (IsMade given) IsGood RefusesMaking given.net (outputs_of given) compiles_well net_input
