@@ -1,5 +1,5 @@
 -- Links in memory that give what flies as a list says, and fail where they are told to.
-use Rattle.std.specs.Prelude.{◌≡◌, ◌<◌, ℕ, ◌-◌, List, Option, Some, Bool, true, length, min, slice_get, slice_index_or, remove}
+use Rattle.std.specs.Prelude.{◌≡◌, ◌<◌, ℕ, List, Option, Some, Bool, true, length, slice_get, remove}
 use Rattle.std.specs.Vec.{vec_len, vec_capacity}
 use Rattle.lif_outside.specs.Counts.{one_more}
 use Rattle.lif_outside.specs.LinksAccounts.{LinksAccounts}

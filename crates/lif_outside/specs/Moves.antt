@@ -1,5 +1,5 @@
 -- Calls on links with their answers, and what they do to the pairs that fly.
-use Rattle.std.specs.Prelude.{◌≡◌, ◌⊎◌, ◌≤◌, ◌<◌, ℕ, List, [], ◌∷◌, ◌++◌, Option, Some, None, Result, Ok, Err, take, Bool, true, false, Contains, IsPermutation}
+use Rattle.std.specs.Prelude.{◌≡◌, ◌⊎◌, ◌≤◌, ◌<◌, ℕ, List, [], ◌∷◌, Option, Some, None, Result, Ok, Err, take, Bool, true, false, Contains, IsPermutation}
 use Rattle.std.specs.declared.alloc.AllocError.{AllocError}
 use Rattle.lif_outside.specs.declared.Failed.{Failed}
 use Rattle.lif_outside.specs.declared.links.Flight.{Flight}

@@ -1,9 +1,9 @@
-use Rattle.std.specs.Prelude.{Contains, Some}
-use Rattle.std.proofs.Common.{refl, sym, subst, ◌≡◌, ◌<◌}
+use Rattle.std.specs.Prelude.{Some}
+use Rattle.std.proofs.Common.{refl, sym}
 use Rattle.std.proofs.lemmas.Bool.{false≢true}
 use Rattle.std.proofs.lemmas.List.{append-nil}
 use Rattle.std.proofs.Math.Nat.{le_refl}
-use Rattle.lif_outside.specs.Listed.{held_in, sent_in, given_in, faults_in, faithful_ones, put_fails_in}
+use Rattle.lif_outside.specs.Listed.{held_in, sent_in, given_in, faults_in, faithful_ones}
 use Rattle.lif_outside.specs.MoveLaws.{one_move, is_put}
 use Rattle.lif_outside.specs.Moves.{put}
 use Rattle.lif_outside.specs.ToldLaws.{becomes_told, becomes_same}

@@ -1,5 +1,5 @@
 use Rattle.std.specs.Prelude.{IsPermutation, Some, remove, slice_get}
-use Rattle.std.proofs.Common.{refl, sym, subst, ap, ◌∙◌, ◌≡◌, ◌<◌, ◌∷◌, length, ℕ, zero, suc, ◌==◌, false, min, slice_index_or, arith}
+use Rattle.std.proofs.Common.{refl, sym, subst, ap, ◌∙◌, ◌≡◌, ◌<◌, ◌∷◌, length, slice_index_or}
 use Rattle.std.proofs.Math.Nat.{le_refl}
 use Rattle.std.proofs.lemmas.Bool.{false≢true}
 use Rattle.std.proofs.lemmas.List.{append-nil}

@@ -1,4 +1,4 @@
-use Rattle.std.proofs.Common.{refl, sym, ◌∙◌, ap, subst, ◌≡◌, ◌<◌, ◌%◌, ◌∷◌, length, ℕ, zero, suc, ◌==◌, Bool, false, arith}
+use Rattle.std.proofs.Common.{refl, sym, ◌∙◌, ap, subst, ◌≡◌, ◌<◌, ◌%◌, ◌∷◌, length, ℕ, zero, suc, ◌==◌, false, arith}
 use Rattle.std.specs.Prelude.{IsPermutation, Some, swap_remove}
 use Rattle.std.proofs.Math.Nat.{le_refl, mod-lt}
 use Rattle.std.proofs.lemmas.Option.{slice_get_read}
