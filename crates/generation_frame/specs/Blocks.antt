@@ -35,6 +35,9 @@ whole_pieces_of file rate = pieces_before file rate (length file / capacity rate
 abbrev pub blocks_of : List ℕ → ℕ → List (List ℕ)
 blocks_of file rate = map (λ generation. block_of rate (piece_of file rate generation)) (range_with_len 0 (block_count file rate))
 
--- the bytes that a block counts, as far as it has them
+-- how many bytes of a file a block counts, and those bytes, as far as it has them
+abbrev pub count_of : List ℕ → ℕ
+count_of block = from_be_bytes w32 (take 4 block)
+
 abbrev pub counted_bytes : List ℕ → List ℕ
-counted_bytes block = take (min (from_be_bytes w32 (take 4 block)) (length block - 4)) (drop 4 block)
+counted_bytes block = take (min (count_of block) (length block - 4)) (drop 4 block)

@@ -1,10 +1,16 @@
-//! Blocks: how a file is cut into generations.
+//! Blocks and frames: how a file is cut into generations, and a row into pieces that travel.
 #![tactic(auto)]
 
 ghost use Rattle.std.specs.Prelude.{◌≡◌, ◌<◌, ◌≤◌, ◌*◌, ◌+◌, ◌/◌, ◌%◌, length};
 ghost use Rattle.generation_frame.specs.Blocks.{capacity, block_of, counted_bytes};
 
+mod frame;
+mod joiner;
+
 use byteorder::{BigEndian, ByteOrder};
+use frame::number_in;
+pub use frame::{FRAME, FrameRefusal, PIECE, Packet, frame_of, read_frame};
+pub use joiner::{Joined, Joiner};
 
 /// The bytes of a row.
 pub const ROW: usize = 1024;
@@ -42,7 +48,7 @@ pub fn counted(block: &[u8]) -> &[u8]
     requires { 4 ≤ length block.now }
     ensures { result.now ≡ counted_bytes block.now }
 {
-    let count = u32::from_be_bytes([block[0], block[1], block[2], block[3]]) as usize;
+    let count = number_in(block) as usize;
     let rest = &block[COUNT..];
     &rest[..count.min(rest.len())]
 }
