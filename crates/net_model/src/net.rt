@@ -32,9 +32,9 @@ pub struct Net {
 }
 
 impl Net {
-    ghost use Rattle.std.specs.Prelude.{◌≡◌, ◌<◌, IfOk, length, map};
+    ghost use Rattle.std.specs.Prelude.{◌≡◌, ◌<◌, IfOk, length};
     ghost use Rattle.net_model.specs.Failed.{is_failed_in};
-    ghost use Rattle.net_model.specs.Renumbering.{HasEachOnce, renumbered_links, renumbered_pattern};
+    ghost use Rattle.net_model.specs.Renumbering.{HasEachOnce, IsRenumbered};
 
     /// The network of these parts. It takes no memory.
     pub fn of(
@@ -82,12 +82,7 @@ impl Net {
         field: FieldChoice,
     ) -> Result<Net, AllocError>
         requires { HasEachOnce (length self.now.links) order.now }
-        ensures nodes { IfOk result (λ net. net.nodes ≡ self.now.nodes) }
-        ensures links { IfOk result (λ net. net.links ≡ renumbered_links self.now.links order.now) }
-        ensures source { IfOk result (λ net. net.source ≡ self.now.source) }
-        ensures sinks { IfOk result (λ net. net.sinks ≡ self.now.sinks) }
-        ensures patterns { IfOk result (λ net. net.patterns ≡ map (renumbered_pattern order.now) self.now.patterns) }
-        ensures field { IfOk result (λ net. net.field ≡ field) }
+        ensures { IfOk result (IsRenumbered order.now field self.now) }
     {
         renumbered(alloc, self, order, field)
     }

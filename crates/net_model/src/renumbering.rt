@@ -2,9 +2,7 @@
 ghost use Rattle.std.specs.Prelude.{◌≡◌, ◌≤◌, IsTrue, IfOk, OnOk, false, filter, length, map, nat_lt, slice_index, slice_index_or};
 ghost use Rattle.std.specs.List.{list_all, range_with_len};
 ghost use Rattle.net_model.specs.Network.{are_patterns};
-ghost use Rattle.net_model.specs.Renumbering.{HasEachOnce, renumbered_links, renumbered_pattern};
-ghost use Rattle.net_model.specs.Renumbering.{AreUnmarked};
-ghost use Rattle.net_model.specs.Renumbering.{AreMarked};
+ghost use Rattle.net_model.specs.Renumbering.{AreMarked, AreUnmarked, HasEachOnce, IsRenumbered, renumbered_links, renumbered_pattern};
 
 use crate::{
     FieldChoice, Link, LinkList, LinkTable, Name, NameList, Net, NodeList, Pattern, PatternList,
@@ -20,12 +18,7 @@ pub(crate) fn renumbered(
     field: FieldChoice,
 ) -> Result<Net, AllocError>
     requires { HasEachOnce (length net.now.links) order.now }
-    ensures nodes { IfOk result (λ new. new.nodes ≡ net.now.nodes) }
-    ensures links { IfOk result (λ new. new.links ≡ renumbered_links net.now.links order.now) }
-    ensures source { IfOk result (λ new. new.source ≡ net.now.source) }
-    ensures sinks { IfOk result (λ new. new.sinks ≡ net.now.sinks) }
-    ensures patterns { IfOk result (λ new. new.patterns ≡ map (renumbered_pattern order.now) net.now.patterns) }
-    ensures field { IfOk result (λ new. new.field ≡ field) }
+    ensures { IfOk result (IsRenumbered order.now field net.now) }
 {
     let nodes = copied_names(alloc, net.nodes.as_slice())?;
     let links = ordered_links(alloc, net.links.as_slice(), order)?;
