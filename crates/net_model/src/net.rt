@@ -35,6 +35,7 @@ impl Net {
     ghost use Rattle.std.specs.Prelude.{◌≡◌, ◌<◌, IfOk, length};
     ghost use Rattle.net_model.specs.Failed.{is_failed_in};
     ghost use Rattle.net_model.specs.Renumbering.{HasEachOnce, IsRenumbered};
+    ghost use Rattle.net_model.specs.Walks.{head_of, leaves_source, tail_of};
 
     /// The network of these parts. It takes no memory.
     pub fn of(
@@ -61,6 +62,32 @@ impl Net {
             patterns,
             field,
         }
+    }
+
+    /// The node that a link leaves.
+    pub fn tail(&self, link: u32) -> u32
+        requires { link < length self.now.links }
+        ensures value { result ≡ tail_of self.now.links link }
+        ensures below { result < length self.now.nodes }
+    {
+        self.links.at(link as usize).tail
+    }
+
+    /// The node that a link leads into.
+    pub fn head(&self, link: u32) -> u32
+        requires { link < length self.now.links }
+        ensures value { result ≡ head_of self.now.links link }
+        ensures below { result < length self.now.nodes }
+    {
+        self.links.at(link as usize).head
+    }
+
+    /// Whether a link leaves the source.
+    pub fn leaves_source(&self, link: u32) -> bool
+        requires { link < length self.now.links }
+        ensures { result ≡ leaves_source self.now link }
+    {
+        self.links.at(link as usize).tail == self.source
     }
 
     /// Whether a link fails in a pattern.

@@ -5,7 +5,6 @@ ghost use Rattle.net_model.specs.Flows.{flow_network};
 ghost use Rattle.unit_flow.specs.Residual.{AreStates, is_used, passage};
 
 use counted_steps::Steps;
-use link_chains::{head, tail};
 use net_model::{Demand, Net};
 use std::alloc::{AllocError, Global};
 use std::marker::Model;
@@ -86,7 +85,7 @@ impl Residual {
         ensures ticks { RoseBy 1 steps.old steps.new }
     {
         steps.tick();
-        let (tail, head) = (tail(net, link), head(net, link));
+        let (tail, head) = (net.tail(link), net.head(link));
         match self.states[link as usize] {
             LinkState::Free if from == tail => Some(head),
             LinkState::Used if from == head => Some(tail),
