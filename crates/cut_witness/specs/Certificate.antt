@@ -14,7 +14,8 @@ pub record IsDemand (net : Net) (demand : Demand) : Type 0 where
   pub sink : demand.sink < length net.sinks
   pub pattern : demand.pattern < length net.patterns
 
--- paths that are a flow of the demand, its least side, and the links that leave it, as many as the paths
+-- paths that are a flow of the demand, its least side, and the links that leave it, as many as the
+-- paths
 pub record IsCertificate (net : Net) (cert : Cert) : Type 0 where
   pub demand : IsDemand net cert.demand
   pub flow : IsFlow (flow_network net cert.demand) cert.paths

@@ -71,10 +71,10 @@ pub(crate) fn place_next(
     requires queue { IsQueueIn net.now placing.old queue.old }
     requires room { length placing.old.order.items < length net.now.links }
     ensures placing { OnOk result (IsPlacingIn net.now placing.new) }
-    ensures queue { IfOk result (λ placed. placed ≡ true → IsQueueIn net.now placing.new queue.new) }
-    ensures more { IfOk result (λ placed. placed ≡ true → IsOneLonger placing.old placing.new) }
-    ensures stuck { IfOk result (λ placed. placed ≡ false → IsStuck net.now placing.new) }
-    ensures same { IfOk result (λ placed. placed ≡ false → HasSameOrder placing.old placing.new) }
+    ensures queue { IfOk result (λ found. found ≡ true → IsQueueIn net.now placing.new queue.new) }
+    ensures more { IfOk result (λ found. found ≡ true → IsOneLonger placing.old placing.new) }
+    ensures stuck { IfOk result (λ found. found ≡ false → IsStuck net.now placing.new) }
+    ensures same { IfOk result (λ found. found ≡ false → HasSameOrder placing.old placing.new) }
 {
     let Some(link) = queue.ready.pop_first() else {
         return Ok(false);

@@ -12,7 +12,9 @@ use Rattle.unit_flow.specs.declared.residual.LinkState.TheVariants.{Free}
 
 -- the least used link that leaves a node
 abbrev pub used_leaving : List Link → List LinkState → ℕ → Option ℕ
-used_leaving links states node = find (λ link. is_used states link && (tail_of links link == node)) (range_with_len 0 (length links))
+used_leaving links states node =
+    find (λ link. is_used states link && (tail_of links link == node))
+    (range_with_len 0 (length links))
 
 -- links that follow one another, and the states without them
 pub record Taken : Type 0 where

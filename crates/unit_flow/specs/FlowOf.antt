@@ -1,5 +1,5 @@
--- The flow that the used links of a residual network of a network are, and how it gets one unit more.
-use Rattle.std.specs.Prelude.{◌+◌, ℕ, suc, if◌then◌else◌, List, length}
+-- The flow that the used links of a residual network are, and how it gets one unit more.
+use Rattle.std.specs.Prelude.{◌≡◌, ◌+◌, ℕ, suc, if◌then◌else◌, List, slice_set}
 use Rattle.net_model.specs.Flows.{flow_network}
 use Rattle.net_model.specs.Walks.{head_of, tail_of}
 use Rattle.net_model.specs.declared.Link.{Link}
@@ -29,13 +29,17 @@ IsAugmented net residual states =
 abbrev pub taken_of : Net → ResidualNetwork → Taken
 taken_of net residual = first_taken (flow_network net residual.demand) residual.states
 
+-- the states of a residual network are those without the first path of another's flow
+abbrev pub IsWithoutFirst : Net → ResidualNetwork → ResidualNetwork → Type 0
+IsWithoutFirst net old new = new.states ≡ (taken_of net old).states
+
 -- so many paths of the flow
 abbrev pub flow_paths : Net → ResidualNetwork → ℕ → List (List ℕ)
 flow_paths net residual value = paths_of (flow_network net residual.demand) value residual.states
 
--- the state of a link that is turned: a used one is free then, and any other used
-abbrev pub turned : List LinkState → ℕ → LinkState
-turned states link = if is_used states link then Free else Used
+-- the states where a link is turned: a used one is free then, and any other used
+abbrev pub turned : List LinkState → ℕ → List LinkState
+turned states link = slice_set states link (if is_used states link then Free else Used)
 
 -- the node from which it could be passed
 abbrev pub turned_from : List Link → List LinkState → ℕ → ℕ

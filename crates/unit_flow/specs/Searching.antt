@@ -30,19 +30,24 @@ pub record CameByLink (links : List Link) (states : List LinkState) (search : Se
   pub from : ℕ
   pub before : from < place
   pub within : link_at search place < length links
-  pub leads : passage links states (link_at search place) (node_at search from) ≡ Some (node_at search place)
+  pub leads : passage links states (link_at search place) (node_at search from)
+      ≡ Some (node_at search place)
 
 -- the queue has the nodes that were reached, each once, from the source on
-pub record IsQueue (network : FlowNetwork) (states : List LinkState) (search : Search) : Type 0 where
+pub record IsQueue (network : FlowNetwork) (states : List LinkState)
+    (search : Search) : Type 0 where
   pub places : HasPlaces network.nodes search
   pub some : 0 < search.queued
   pub within : search.queued ≤ network.nodes
   pub first : node_at search 0 ≡ network.source
   pub nodes : (place : ℕ) → place < search.queued → node_at search place < network.nodes
   pub distinct : (i j : ℕ) → i < j → j < search.queued → node_at search i ≢ node_at search j
-  pub reached : (place : ℕ) → place < search.queued → is_on search.reached.items (node_at search place) ≡ true
-  pub placed : (node : ℕ) → is_on search.reached.items node ≡ true → (place : ℕ) × (place < search.queued) × (node_at search place ≡ node)
-  pub came : (place : ℕ) → 0 < place → place < search.queued → CameByLink network.links states search place
+  pub reached : (place : ℕ) → place < search.queued
+      → is_on search.reached.items (node_at search place) ≡ true
+  pub placed : (node : ℕ) → is_on search.reached.items node ≡ true
+      → (place : ℕ) × (place < search.queued) × (node_at search place ≡ node)
+  pub came : (place : ℕ) → 0 < place → place < search.queued
+      → CameByLink network.links states search place
 
 -- the queue grew at its end
 pub record IsLonger (old new : Search) : Type 0 where
@@ -54,7 +59,8 @@ pub record IsLonger (old new : Search) : Type 0 where
 -- what a node's links below a number lead to was reached
 abbrev pub LeadsOn : List Link → List LinkState → (ℕ → ℕ) → ℕ → ℕ → List Bool → Type 0
 LeadsOn links states end node bound reached =
-    (link next : ℕ) → link < bound → end link ≡ node → passage links states link node ≡ Some next → is_on reached next ≡ true
+    (link next : ℕ) → link < bound → end link ≡ node → passage links states link node ≡ Some next
+    → is_on reached next ≡ true
 
 -- how many of so many links end at a node, of those below a number
 abbrev pub links_at : (ℕ → ℕ) → ℕ → ℕ → ℕ → ℕ
@@ -81,8 +87,8 @@ HasPassed net residual link old new =
     → is_on new.reached.items next ≡ true
 
 -- and so is what the links lead to that leave that node, or lead into it (`heads`)
-abbrev pub HasPassedAll : Net → ResidualNetwork → Bool → Search → Search → Type 0
-HasPassedAll net residual heads old new =
+abbrev pub AllPassed : Net → ResidualNetwork → Bool → Search → Search → Type 0
+AllPassed net residual heads old new =
     LeadsOn net.links residual.states (end_of net.links heads) (looked_at old) (length net.links)
     new.reached.items
 
@@ -97,12 +103,17 @@ HasReached net residual search =
     IsReached (flow_network net residual.demand) residual.states search.reached.items
 
 -- the sink isn't reached, and what the nodes that are done lead to is
-pub record IsSearched (network : FlowNetwork) (states : List LinkState) (search : Search) : Type 0 where
+pub record IsSearched (network : FlowNetwork) (states : List LinkState)
+    (search : Search) : Type 0 where
   pub queue : IsQueue network states search
   pub done : search.done ≤ search.queued
-  pub closed : (place link next : ℕ) → place < search.done → link < length network.links → passage network.links states link (node_at search place) ≡ Some next → is_on search.reached.items next ≡ true
+  pub closed : (place link next : ℕ) → place < search.done → link < length network.links
+      → passage network.links states link (node_at search place) ≡ Some next
+      → is_on search.reached.items next ≡ true
   pub away : is_on search.reached.items network.sink ≡ false
 
 -- how many links leave or lead into a node
 abbrev pub ends_at : List Link → ℕ → ℕ
-ends_at links node = links_at (tail_of links) (length links) node (length links) + links_at (head_of links) (length links) node (length links)
+ends_at links node =
+    links_at (tail_of links) (length links) node (length links)
+    + links_at (head_of links) (length links) node (length links)

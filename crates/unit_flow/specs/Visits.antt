@@ -5,8 +5,8 @@ use Rattle.net_model.specs.Flows.{IsCut, flow_network}
 use Rattle.net_model.specs.declared.Demand.{Demand}
 use Rattle.net_model.specs.declared.net.Net.{Net}
 
--- the most visits for so many links and a least cut of that size: twice each link, for each path and
--- once more
+-- the most visits for so many links and a least cut of that size: twice each link, for each path
+-- and once more
 abbrev pub visit_bound : ℕ → ℕ → ℕ
 visit_bound links value = 2 * links * (value + 1)
 

@@ -1,5 +1,5 @@
 //! One unit more, along a path of the residual network.
-ghost use Rattle.std.specs.Prelude.{◌≡◌, ◌<◌, ◌*◌, true, false, length, slice_set};
+ghost use Rattle.std.specs.Prelude.{◌≡◌, ◌<◌, ◌*◌, true, false, length};
 ghost use Rattle.counted_steps.specs.Steps.{RoseByAtMost};
 ghost use Rattle.link_chains.specs.Wiring.{IsWiring};
 ghost use Rattle.unit_flow.specs.FlowOf.{IsAugmented, turned, turned_from};
@@ -63,7 +63,7 @@ fn turn(net: &Net, residual: &mut Residual, link: u32) -> u32
     requires states { length residual.old.states ≡ length net.now.links }
     requires link { link < length net.now.links }
     ensures demand { residual.new.demand ≡ residual.old.demand }
-    ensures states { residual.new.states ≡ slice_set residual.old.states link (turned residual.old.states link) }
+    ensures states { residual.new.states ≡ turned residual.old.states link }
     ensures node { result ≡ turned_from net.now.links residual.old.states link }
 {
     if residual.is_used(link) {

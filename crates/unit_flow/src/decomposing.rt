@@ -2,7 +2,7 @@
 ghost use Rattle.std.specs.Prelude.{◌≡◌, ◌<◌, IfOk, IsSome, OnOk, Some, false, length};
 ghost use Rattle.link_chains.specs.Chains.{AreFirstsAt, AreNextsAt};
 ghost use Rattle.unit_flow.specs.Decomposition.{used_leaving};
-ghost use Rattle.unit_flow.specs.FlowOf.{HasUnit, HasValue, flow_paths, taken_of};
+ghost use Rattle.unit_flow.specs.FlowOf.{HasUnit, HasValue, IsWithoutFirst, flow_paths, taken_of};
 ghost use Rattle.unit_flow.specs.Taking.{HasCursors};
 
 use crate::residual::{LinkState, Residual};
@@ -43,7 +43,7 @@ impl Undecomposed {
         requires unit { HasUnit net.now self.old.residual }
         requires cursors { HasCursors net.now self.old }
         ensures path { IfOk result (λ path. path ≡ (taken_of net.now self.old.residual).path) }
-        ensures states { OnOk result (self.new.residual.states ≡ (taken_of net.now self.old.residual).states) }
+        ensures states { OnOk result (IsWithoutFirst net.now self.old.residual self.new.residual) }
         ensures demand { OnOk result (self.new.residual.demand ≡ self.old.residual.demand) }
         ensures cursors { OnOk result (HasCursors net.now self.new) }
     {

@@ -3,7 +3,7 @@ ghost use Rattle.std.specs.Prelude.{◌≡◌, ◌<◌, ◌+◌, ◌*◌, true, 
 ghost use Rattle.counted_steps.specs.Steps.{RoseBy, RoseByAtMost};
 ghost use Rattle.link_chains.specs.Wiring.{IsWiring};
 ghost use Rattle.net_model.specs.Flows.{is_on};
-ghost use Rattle.unit_flow.specs.Searching.{HasPassed, HasPassedAll, HasPlaces, HasReached, IsLonger, IsQueueIn, has_sink, links_looked_at};
+ghost use Rattle.unit_flow.specs.Searching.{AllPassed, HasPassed, HasPlaces, HasReached, IsLonger, IsQueueIn, has_sink, links_looked_at};
 
 use crate::residual::Residual;
 use counted_steps::Steps;
@@ -123,7 +123,7 @@ impl Search {
         requires more { self.old.done < self.old.queued }
         ensures queue { IsQueueIn net.now residual.now self.new }
         ensures longer { IsLonger self.old self.new }
-        ensures passed { result ≡ false → HasPassedAll net.now residual.now heads self.old self.new }
+        ensures passed { result ≡ false → AllPassed net.now residual.now heads self.old self.new }
         ensures sink { is_on self.new.reached.items sink ≡ result }
         ensures ticks { RoseByAtMost (links_looked_at net.now heads self.old) steps.old steps.new }
     {
