@@ -7,6 +7,10 @@ use Rattle.std.specs.Int.{to_be_bytes, from_be_bytes, w32}
 abbrev pub row_bytes : ℕ
 row_bytes = 1024
 
+-- the most rows of a block
+abbrev pub most_rows : ℕ
+most_rows = 32
+
 -- how many bytes of a file a block has room for
 abbrev pub capacity : ℕ → ℕ
 capacity rate = rate * row_bytes - 4

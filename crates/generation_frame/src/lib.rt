@@ -2,7 +2,7 @@
 #![tactic(auto)]
 
 ghost use Rattle.std.specs.Prelude.{◌≡◌, ◌<◌, ◌≤◌, ◌*◌, ◌+◌, ◌/◌, ◌%◌, length};
-ghost use Rattle.generation_frame.specs.Blocks.{block_of, capacity, counted_bytes, row_bytes};
+ghost use Rattle.generation_frame.specs.Blocks.{block_of, capacity, counted_bytes, most_rows, row_bytes};
 
 use byteorder::{BigEndian, ByteOrder};
 
@@ -15,7 +15,7 @@ const COUNT: usize = 4;
 /// How many bytes of a file a block of `rate` rows has room for.
 pub fn cap(rate: u32) -> u32
     requires some_rate { 1 ≤ rate }
-    requires low_rate { rate ≤ 32 }
+    requires low_rate { rate ≤ most_rows }
     ensures { result ≡ capacity rate }
 {
     rate * ROW as u32 - COUNT as u32
@@ -26,7 +26,7 @@ pub fn cap(rate: u32) -> u32
 pub fn cut(piece: &[u8], block: &mut [u8])
     requires whole_rows { length block.old % row_bytes ≡ 0 }
     requires some_row { row_bytes ≤ length block.old }
-    requires few_rows { length block.old ≤ 32 * row_bytes }
+    requires few_rows { length block.old ≤ most_rows * row_bytes }
     requires room { length piece.now + 4 ≤ length block.old }
     ensures { block.new ≡ block_of (length block.old / row_bytes) piece.now }
 {
