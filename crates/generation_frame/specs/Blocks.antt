@@ -3,9 +3,17 @@ use Rattle.std.specs.Prelude.{ℕ, ◌+◌, ◌-◌, ◌*◌, ◌/◌, min, nat_
 use Rattle.std.specs.List.{range_with_len}
 use Rattle.std.specs.Int.{to_be_bytes, from_be_bytes, w32}
 
+-- the bytes of a row
+abbrev pub row_bytes : ℕ
+row_bytes = 1024
+
+-- the most rows of a block
+abbrev pub most_rows : ℕ
+most_rows = 32
+
 -- how many bytes of a file a block has room for
 abbrev pub capacity : ℕ → ℕ
-capacity rate = rate * 1024 - 4
+capacity rate = rate * row_bytes - 4
 
 -- the block of these bytes
 abbrev pub block_of : ℕ → List ℕ → List ℕ

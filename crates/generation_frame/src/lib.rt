@@ -2,7 +2,7 @@
 #![tactic(auto)]
 
 ghost use Rattle.std.specs.Prelude.{◌≡◌, ◌<◌, ◌≤◌, ◌*◌, ◌+◌, ◌/◌, ◌%◌, length};
-ghost use Rattle.generation_frame.specs.Blocks.{capacity, block_of, counted_bytes};
+ghost use Rattle.generation_frame.specs.Blocks.{block_of, capacity, counted_bytes, most_rows, row_bytes};
 
 mod frame;
 mod joiner;
@@ -21,20 +21,20 @@ const COUNT: usize = 4;
 /// How many bytes of a file a block of `rate` rows has room for.
 pub fn cap(rate: u32) -> u32
     requires some_rate { 1 ≤ rate }
-    requires low_rate { rate ≤ 32 }
+    requires low_rate { rate ≤ most_rows }
     ensures { result ≡ capacity rate }
 {
-    rate * 1024 - 4
+    rate * ROW as u32 - COUNT as u32
 }
 
 /// Writes the block of a piece of a file: the count of its bytes, the bytes, and zeros. The block has 1 to 32
 /// rows of 1024 bytes, and room for the piece.
 pub fn cut(piece: &[u8], block: &mut [u8])
-    requires whole_rows { length block.old % 1024 ≡ 0 }
-    requires some_row { 1024 ≤ length block.old }
-    requires few_rows { length block.old ≤ 32768 }
+    requires whole_rows { length block.old % row_bytes ≡ 0 }
+    requires some_row { row_bytes ≤ length block.old }
+    requires few_rows { length block.old ≤ most_rows * row_bytes }
     requires room { length piece.now + 4 ≤ length block.old }
-    ensures { block.new ≡ block_of (length block.old / 1024) piece.now }
+    ensures { block.new ≡ block_of (length block.old / row_bytes) piece.now }
 {
     let (count, rest) = block.split_at_mut(COUNT);
     BigEndian::write_u32(count, piece.len() as u32);

@@ -8,7 +8,7 @@ use Rattle.cut_witness.specs.declared.cert.Cert.{Cert}
 use Rattle.gf_tables.specs.Product.{size_of}
 use Rattle.gf_tables.specs.declared.kind.FieldKind.{FieldKind}
 use Rattle.net_model.specs.Demands.{demand_count}
-use Rattle.net_model.specs.Renumbering.{HasEachOnce, renumbered_links}
+use Rattle.net_model.specs.Renumbering.{HasEachOnce, IsRenumbered, renumbered_links}
 use Rattle.net_model.proofs.RenumberingLaws.{length-renumbered_links}
 use Rattle.net_model.specs.Walks.{IsAcyclic}
 use Rattle.net_model.specs.declared.net.Net.{Net}
@@ -18,7 +18,7 @@ use Rattle.node_program.specs.declared.Decoder.{Decoder}
 use Rattle.node_program.specs.declared.Operand.{Operand}
 use Rattle.node_program.specs.declared.code.Code.{Code}
 use Rattle.topo_order.specs.Order.{order_of}
-use Rattle.lif_compiler.specs.Compiled.{Feeds, IsCompiled, IsOfPaths, IsRenumbered}
+use Rattle.lif_compiler.specs.Compiled.{Feeds, IsCompiled, IsOfPaths}
 use Rattle.lif_compiler.specs.Hops.{AreHops}
 use Rattle.lif_compiler.proofs.InOrderLaws.{HasEachOnce-order_of, are_in_order-renumbered}
 use Rattle.lif_compiler.proofs.OriginLaws.{AreRoutes-renumbered, Feeds-of_hop}

@@ -4,9 +4,8 @@ use Rattle.gf_tables.specs.Product.{mark_of, size_of}
 use Rattle.gf_tables.specs.declared.kind.FieldKind.{FieldKind}
 use Rattle.gf_tables.specs.declared.kind.FieldKind.TheVariants.{Eight, Sixteen}
 use Rattle.net_model.specs.Demands.{demand_count}
-use Rattle.net_model.specs.Renumbering.{old_number, renumbered_links, renumbered_pattern}
+use Rattle.net_model.specs.Renumbering.{IsRenumbered, old_number}
 use Rattle.net_model.specs.Walks.{IsAcyclic}
-use Rattle.net_model.specs.declared.net.FieldChoice.{FieldChoice}
 use Rattle.net_model.specs.declared.net.Net.{Net}
 use Rattle.cut_witness.specs.Certificate.{AreCertificates, IsLeastValue}
 use Rattle.cut_witness.specs.declared.cert.Cert.{Cert}
@@ -20,15 +19,6 @@ use Rattle.topo_order.specs.Order.{order_of}
 -- the kind of field that a mark in code files stands for
 abbrev pub marked_kind : ℕ → FieldKind
 marked_kind mark = if mark == mark_of Sixteen then Sixteen else Eight
-
--- a network with its links in a new order, and this field named; all else is as it was
-pub record IsRenumbered (order : List ℕ) (choice : FieldChoice) (old new : Net) : Type 0 where
-  pub nodes : new.nodes ≡ old.nodes
-  pub links : new.links ≡ renumbered_links old.links order
-  pub source : new.source ≡ old.source
-  pub sinks : new.sinks ≡ old.sinks
-  pub patterns : new.patterns ≡ map (renumbered_pattern order) old.patterns
-  pub field : new.field ≡ choice
 
 -- a path of some certificate, among so many of its first
 pub record IsPrintedPath (rate : ℕ) (certs : List Cert) (number : ℕ) (path : List ℕ) : Type 0 where

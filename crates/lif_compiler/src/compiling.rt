@@ -3,11 +3,11 @@ ghost use Rattle.std.specs.Prelude.{◌≡◌, ◌≤◌, ℕ, List, [], IfErr, 
 ghost use Rattle.cut_witness.specs.Certificate.{AreCertificates, IsLeastValue};
 ghost use Rattle.gf_tables.specs.Kind.{IsOfKind};
 ghost use Rattle.net_model.specs.Demands.{demand_count};
-ghost use Rattle.net_model.specs.Renumbering.{HasEachOnce};
+ghost use Rattle.net_model.specs.Renumbering.{HasEachOnce, IsRenumbered};
 ghost use Rattle.net_model.specs.Walks.{IsAcyclic};
 ghost use Rattle.node_program.specs.Code.{are_in_order, choice_of};
 ghost use Rattle.topo_order.specs.Order.{order_of};
-ghost use Rattle.lif_compiler.specs.Compiled.{IsCompiled, IsRenumbered, marked_kind};
+ghost use Rattle.lif_compiler.specs.Compiled.{IsCompiled, marked_kind};
 ghost use Rattle.lif_compiler.specs.Refused.{IsRefusal};
 ghost use Rattle.lif_compiler.specs.Visits.{AreVisitable, IsFilled};
 

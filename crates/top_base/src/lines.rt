@@ -5,6 +5,7 @@ ghost use Rattle.gf_tables.specs.Product.{mark_of};
 ghost use Rattle.failure_patterns.specs.Demands.{demand_of};
 ghost use Rattle.name_texts.specs.Names.{demand_text};
 ghost use Rattle.net_model.specs.Demands.{demand_count};
+ghost use Rattle.net_model.specs.Limits.{longest_name};
 ghost use Rattle.top_base.specs.Lines.{accepted_line, check_failed_line, code_refused_line, code_text, compiled_line, link_fault_line, net_refusal_text, net_refused_line, out_of_memory_line, rate_over_line, read_fault_line, refusal_text, same_path_line, sent_line, too_long_line, too_many_demands_line, unknown_pattern_line, usage_line, what_text, write_fault_line};
 
 use crate::text::{ROOM, ShortText, Text};
@@ -92,7 +93,7 @@ fn name_and_number(why: CodeRefusal) -> (&'static [u8], Option<u64>)
 // Of what there are too many.
 fn name_of_what(what: What) -> &'static [u8]
     ensures text { result.now ≡ what_text what }
-    ensures short { length result.now ≤ 32 }
+    ensures short { length result.now ≤ longest_name }
 {
     match what {
         What::Nodes => b"Nodes",
@@ -103,11 +104,11 @@ fn name_of_what(what: What) -> &'static [u8]
 
 // The line of a refusal, if it is of one, its name, and what follows the name.
 fn parts_of_refusal(why: ReadRefusal, name: &[u8]) -> (Option<u64>, &'static [u8], &[u8])
-    requires { length name.now ≤ 32 }
+    requires { length name.now ≤ longest_name }
     ensures text { net_refusal_text name.now why
         ≡ option_map_or (λ line. codes "line " ++ decimal line ++ codes ": ") result.0 [] ++ result.1.now ++ result.2.now }
     ensures short { length result.1.now ≤ 16 }
-    ensures rest_short { length result.2.now ≤ 32 }
+    ensures rest_short { length result.2.now ≤ longest_name }
 {
     match why {
         ReadRefusal::BadByte { line } => (Some(line), b"BadByte", b""),
@@ -242,7 +243,7 @@ impl<'a> Line<'a> {
 
     /// The text of a network is refused; the name is that of the node, where a sink is the source.
     pub fn net_refused(why: ReadRefusal, name: &[u8]) -> Line<'a>
-        requires { length name.now ≤ 32 }
+        requires { length name.now ≤ longest_name }
         ensures { result ≡ net_refused_line name.now why }
     {
         let mut text = begin(b"net refused: ");
