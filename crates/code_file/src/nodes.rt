@@ -1,10 +1,7 @@
 //! Nodes and sinks.
-ghost use Rattle.std.specs.Prelude.{◌≡◌, ◌<◌, ◌≤◌, ◌==◌, ◌||◌, ◌++◌, ◌∷◌, [], not, nat_lt, length, IfOk};
-ghost use Rattle.std.specs.List.{list_any};
-ghost use Rattle.std.specs.Str.{bytes_eq};
-ghost use Rattle.net_model.specs.Lists.{is_among};
-ghost use Rattle.code_file.specs.Reading.{number_at, name_at, repeated_at, nodes_at, sinks_at};
-ghost use Rattle.code_file.specs.Gives.{Gives, left_of};
+ghost use Rattle.std.specs.Prelude.{◌≡◌, ◌≤◌, ◌++◌, ◌∷◌, [], length, IfOk};
+ghost use Rattle.code_file.specs.Reading.{positive_count_at, other_name_at, repeated_at, nodes_at, sink_at, sinks_at};
+ghost use Rattle.code_file.specs.Gives.{Reads, ReadsAll};
 ghost use Rattle.code_file.specs.Marks.{AreMarks};
 
 use crate::CodeRefusal;
@@ -22,7 +19,7 @@ fn counted_nodes<'a>(
     count: u16,
     start: Rest<'a>,
 ) -> Result<(Vec<Name>, Rest<'a>), CodeRefusal>
-    ensures { Gives (λ x. (x.0.items, left_of x.1)) result (repeated_at (λ earlier at. name_at at (λ name. list_any (bytes_eq name) earlier)) count [] (left_of start.entry)) }
+    ensures { ReadsAll result (repeated_at other_name_at count []) start.entry }
 {
     let mut nodes = Vec::with_capacity(alloc, usize::from(count))?;
     let mut names = Names::new(alloc);
@@ -38,7 +35,7 @@ fn counted_nodes<'a>(
 /// The nodes, behind their number.
 #[tactic(auto, unfolding(crate::specs::Reading::nodes_at))]
 pub(crate) fn nodes<'a>(alloc: Global, rest: Rest<'a>) -> Result<(NameList, Rest<'a>), CodeRefusal>
-    ensures { Gives (λ x. (x.0, left_of x.1)) result (nodes_at (left_of rest.entry)) }
+    ensures { Reads result nodes_at rest.entry }
 {
     let (count, rest) = count(rest, 4096)?;
     let (nodes, rest) = counted_nodes(alloc, count, rest)?;
@@ -55,7 +52,7 @@ fn sink<'a>(
     rest: Rest<'a>,
 ) -> Result<(u32, Rest<'a>), CodeRefusal>
     requires { AreMarks nodes earlier.now marks.old }
-    ensures gives { Gives (λ x. (x.0, left_of x.1)) result (number_at (left_of rest.entry) (λ n. (not (nat_lt n nodes) || (n == source) || is_among earlier.now n, CodeRefusal.BadIndex rest.entry.at) ∷ [])) }
+    ensures gives { Reads result (sink_at nodes source earlier.now) rest.entry }
     ensures marked { IfOk result (λ x. AreMarks nodes (earlier.now ++ x.0 ∷ []) marks.new) }
 {
     let (sink, after) = number(rest)?;
@@ -76,7 +73,7 @@ fn counted_sinks<'a>(
     count: u16,
     start: Rest<'a>,
 ) -> Result<(Vec<u32>, Rest<'a>), CodeRefusal>
-    ensures gives { Gives (λ x. (x.0.items, left_of x.1)) result (repeated_at (λ earlier at. number_at at (λ n. (not (nat_lt n nodes) || (n == source) || is_among earlier n, CodeRefusal.BadIndex at.at) ∷ [])) count [] (left_of start.entry)) }
+    ensures gives { ReadsAll result (repeated_at (sink_at nodes source) count []) start.entry }
     ensures len { IfOk result (λ x. length x.0.items ≡ count) }
 {
     let mut sinks = Vec::with_capacity(alloc, usize::from(count))?;
@@ -93,7 +90,7 @@ fn counted_sinks<'a>(
 // The number of the sinks.
 #[tactic(auto, using(crate::proofs::Checks::number_checked))]
 fn sink_count<'a>(rest: Rest<'a>) -> Result<(u16, Rest<'a>), CodeRefusal>
-    ensures gives { Gives (λ x. (x.0, left_of x.1)) result (number_at (left_of rest.entry) (λ n. (n == 0, CodeRefusal.BadIndex rest.entry.at) ∷ (nat_lt 4096 n, CodeRefusal.TooMany rest.entry.at) ∷ [])) }
+    ensures gives { Reads result (positive_count_at 4096) rest.entry }
     ensures few { IfOk result (λ x. x.0 ≤ 4096) }
 {
     let (count, after) = number(rest)?;
@@ -114,7 +111,7 @@ pub(crate) fn sinks<'a>(
     source: u32,
     rest: Rest<'a>,
 ) -> Result<(NodeList, Rest<'a>), CodeRefusal>
-    ensures gives { Gives (λ x. (x.0, left_of x.1)) result (sinks_at nodes source (left_of rest.entry)) }
+    ensures gives { Reads result (sinks_at nodes source) rest.entry }
     ensures few { IfOk result (λ x. length x.0 ≤ 4096) }
 {
     let (count, rest) = sink_count(rest)?;

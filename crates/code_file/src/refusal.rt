@@ -2,9 +2,9 @@
 use std::alloc::{AllocError, AllocFailed};
 use thiserror::Error;
 
-/// Why bytes aren't read as a code. The refusal is that of the first item that isn't good, and of its refusals the
-/// first in the order below. A place is counted from 0; it is that of the item's first byte, of a name that of the
-/// byte of its length.
+/// Why bytes aren't read as a code. The refusal is that of the first item that isn't good, and of
+/// its refusals the first in the order below. A place is counted from 0; it is that of the item's
+/// first byte, of a name that of the byte of its length.
 #[derive(Clone, Copy, Debug, PartialEq, Eq, Error)]
 pub enum CodeRefusal {
     /// The mark isn't `LIFC`.
