@@ -20,19 +20,19 @@ use Rattle.node_program.specs.Code.{choice_of, leads_into, are_in_order, is_sour
 use Rattle.node_program.specs.declared.Operand.{Operand}
 use Rattle.node_program.specs.declared.Decoder.{Decoder}
 use Rattle.node_program.specs.declared.code.Code.{Code}
-use Rattle.code_file.specs.Reading.{Front, Contents}
+use Rattle.code_file.specs.Reading.{Front, Contents, names_of, none_pattern}
 use Rattle.code_file.specs.Spelling.{front_of, contents_in, AreContents}
 use Rattle.code_file.proofs.Readers.{AllAfter, EachFits}
-use Rattle.code_file.proofs.FrontReaders.{NameAfter, LinkAfter, SinkAfter, LinkNumberAfter, PatternAfter, none_pattern}
+use Rattle.code_file.proofs.FrontReaders.{NameAfter, LinkAfter, SinkAfter, LinkNumberAfter, PatternAfter}
 use Rattle.code_file.proofs.CodeReaders.{OperandAfter, AreOperandsRead, DecoderLinkAfter, IsDecoderRead, IsFrontRead, AreContentsRead}
 use Rattle.code_file.proofs.AfterLaws.{Rises, LeadsOn, AllAfter-weaker, AllAfter-both, AllAfter-map, AllAfter-from_map, AllAfter-from_list_all, list_all-from_AllAfter, are_distinct-from_AllAfter, AllAfter-from_are_distinct, are_names-from_AllAfter, AllAfter-from_are_names, is_rising-from_AllAfter, AllAfter-from_is_rising, length-is_rising, are_in_order-from_AllAfter, AllAfter-from_are_in_order}
 
 -- ---- links
 
 -- the names of the links
-link_names-from_read : (nodes : ℕ) (links : List Link) → AllAfter (LinkAfter nodes) [] links → are_names (map (λ link. link.name) links) ≡ true
+link_names-from_read : (nodes : ℕ) (links : List Link) → AllAfter (LinkAfter nodes) [] links → are_names (names_of links) ≡ true
 link_names-from_read nodes links all =
-    are_names-from_AllAfter (map (λ (link : Link). link.name) links)
+    are_names-from_AllAfter (names_of links)
     (AllAfter-map (λ (link : Link). link.name) NameAfter [] links
     (AllAfter-weaker (LinkAfter nodes) (λ before link. NameAfter (map (λ (one : Link). one.name) before) link.name) [] links
     (λ before link is. (is.name, list_any-map (λ (one : Link). one.name) (bytes_eq link.name) before ∙ is.is_new)) all))
@@ -51,12 +51,12 @@ pub link_order-from_read : (nodes : ℕ) (links : List Link) → AllAfter (LinkA
 link_order-from_read nodes links all = are_in_order-from_AllAfter links (AllAfter-weaker (LinkAfter nodes) LeadsOn [] links (λ before link is. is.leads_on) all)
 
 -- links of a network in order are read
-LinkAfter-from_network : (nodes : ℕ) (links : List Link) → nodes ≤ 4096 → are_names (map (λ link. link.name) links) ≡ true → list_all (is_link_among nodes) links ≡ true → are_in_order [] links ≡ true
+LinkAfter-from_network : (nodes : ℕ) (links : List Link) → nodes ≤ 4096 → are_names (names_of links) ≡ true → list_all (is_link_among nodes) links ≡ true → are_in_order [] links ≡ true
     → AllAfter (LinkAfter nodes) [] links
 LinkAfter-from_network nodes links few names ends order =
     let Named : List Link → Link → Type 0 = λ before link. NameAfter (map (λ (one : Link). one.name) before) link.name in
     let Ended : List Link → Link → Type 0 = λ before link. is_link_among nodes link ≡ true in
-    let named : AllAfter Named [] links = AllAfter-from_map (λ (link : Link). link.name) NameAfter [] links (AllAfter-from_are_names (map (λ (link : Link). link.name) links) names) in
+    let named : AllAfter Named [] links = AllAfter-from_map (λ (link : Link). link.name) NameAfter [] links (AllAfter-from_are_names (names_of links) names) in
     let ended : AllAfter Ended [] links = AllAfter-from_list_all (is_link_among nodes) [] links ends in
     let ordered : AllAfter LeadsOn [] links = AllAfter-from_are_in_order links order in
     AllAfter-weaker (λ before link. Named before link × (Ended before link × LeadsOn before link)) (LinkAfter nodes) [] links

@@ -1,5 +1,5 @@
 -- What a function of the reader returns, against what reading gives.
-use Rattle.std.specs.Prelude.{◌≡◌, ◌≢◌, ℕ, List, map, Vec, Result, Ok, Err}
+use Rattle.std.specs.Prelude.{◌≡◌, ◌≢◌, ℕ, List, map, Vec, Ok, Err}
 use Rattle.std.specs.Global.{Global}
 use Rattle.net_model.specs.declared.Pattern.{Pattern}
 use Rattle.code_file.specs.declared.refusal.CodeRefusal.{CodeRefusal}

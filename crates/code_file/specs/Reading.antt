@@ -94,7 +94,7 @@ index_at limit rest = number_at rest (λ n. (not (nat_lt n limit), BadIndex rest
 unfoldable pub name_at : Rest → (List ℕ → Bool) → Reading (List ℕ)
 name_at rest is_bad = do
   it ← item (1 + slice_index rest.bytes 0) rest (λ bytes.
-    let name = drop 1 bytes in (not (is_name name) || is_bad name, BadName rest.at) ∷ [])
+      let name = drop 1 bytes in (not (is_name name) || is_bad name, BadName rest.at) ∷ [])
   Ok (drop 1 it.0, it.1)
 
 -- a name that may be any
@@ -349,8 +349,8 @@ contents_of bytes = do
   operands ← operand_table_at front.0 front.1
   decoders ← decoder_table_at front.0 operands.1
   if length decoders.1.bytes == 0
-    then Ok (record { front = front.0; operands = operands.0; decoders = decoders.0 })
-    else Err (TrailingBytes decoders.1.at)
+      then Ok (record { front = front.0; operands = operands.0; decoders = decoders.0 })
+      else Err (TrailingBytes decoders.1.at)
 
 -- the refusal that a result is
 abbrev pub refusal_in : {X : Type 0} → Result X CodeRefusal → Option CodeRefusal
