@@ -1,3 +1,4 @@
+pub mod Added
 pub mod Gives
 pub mod Lines
 pub mod Marks
@@ -6,3 +7,4 @@ pub mod Said
 pub mod State
 pub mod Statements
 pub mod Text
+pub mod Words

@@ -12,8 +12,9 @@ pub enum What {
     Patterns,
 }
 
-/// Why a text is no network. The refusal is that of the first line that isn't good, and of its refusals the first in the
-/// order below; the last but one three are of the text as a whole. A line is counted from 1, skipped ones too.
+/// Why a text is no network. The refusal is that of the first line that isn't good, and of its
+/// refusals the first in the order below; the last but one three are of the text as a whole. A line
+/// is counted from 1, skipped ones too.
 #[derive(Clone, Copy, Debug, PartialEq, Eq)]
 pub enum ReadRefusal {
     /// A byte is neither a tab nor from the space to the tilde.
