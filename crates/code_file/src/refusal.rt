@@ -51,6 +51,56 @@ pub enum CodeRefusal {
     OutOfMemory,
 }
 
+impl CodeRefusal {
+    ghost use Rattle.std.specs.Prelude.{◌≡◌, ◌≤◌, length};
+    ghost use Rattle.code_file.specs.RefusalNames.{refusal_name, refusal_number};
+
+    /// Its name.
+    pub fn name(self) -> &'static str
+        ensures name { result.now ≡ refusal_name self }
+        ensures short { length result.now ≤ 16 }
+    {
+        match self {
+            CodeRefusal::BadMagic => "BadMagic",
+            CodeRefusal::BadVersion => "BadVersion",
+            CodeRefusal::Truncated { .. } => "Truncated",
+            CodeRefusal::BadField => "BadField",
+            CodeRefusal::BadRate => "BadRate",
+            CodeRefusal::BadName { .. } => "BadName",
+            CodeRefusal::BadIndex { .. } => "BadIndex",
+            CodeRefusal::OutOfOrder { .. } => "OutOfOrder",
+            CodeRefusal::NotRising { .. } => "NotRising",
+            CodeRefusal::ZeroCoefficient { .. } => "ZeroCoefficient",
+            CodeRefusal::BadOperand { .. } => "BadOperand",
+            CodeRefusal::TooMany { .. } => "TooMany",
+            CodeRefusal::TrailingBytes { .. } => "TrailingBytes",
+            CodeRefusal::OutOfMemory => "OutOfMemory",
+        }
+    }
+
+    /// The place that it names, or the number of the link, if it has one.
+    pub fn number(self) -> Option<u64>
+        ensures { result ≡ refusal_number self }
+    {
+        match self {
+            CodeRefusal::BadMagic => None,
+            CodeRefusal::BadVersion => None,
+            CodeRefusal::Truncated { at } => Some(at),
+            CodeRefusal::BadField => None,
+            CodeRefusal::BadRate => None,
+            CodeRefusal::BadName { at } => Some(at),
+            CodeRefusal::BadIndex { at } => Some(at),
+            CodeRefusal::OutOfOrder { link } => Some(u64::from(link)),
+            CodeRefusal::NotRising { at } => Some(at),
+            CodeRefusal::ZeroCoefficient { at } => Some(at),
+            CodeRefusal::BadOperand { at } => Some(at),
+            CodeRefusal::TooMany { at } => Some(at),
+            CodeRefusal::TrailingBytes { at } => Some(at),
+            CodeRefusal::OutOfMemory => None,
+        }
+    }
+}
+
 impl From<AllocError> for CodeRefusal {
     ghost use Rattle.std.specs.Prelude.{◌≡◌};
     ghost use Rattle.code_file.specs.declared.refusal.CodeRefusal.TheVariants.{OutOfMemory};

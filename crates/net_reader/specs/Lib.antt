@@ -3,6 +3,7 @@ pub mod Gives
 pub mod Lines
 pub mod Marks
 pub mod Parts
+pub mod RefusalNames
 pub mod Said
 pub mod State
 pub mod Statements
