@@ -1,5 +1,5 @@
 -- Readers of the front, of the operands, of the decoders and of all of a code file.
-use Rattle.std.specs.Prelude.{◌≡◌, ℕ, ◌+◌, ◌*◌, ◌<◌, ◌≤◌, Bool, true, false, not, ◌==◌, List, [], ◌∷◌, ◌++◌, length, map, drop, codes, Result, Ok, Err}
+use Rattle.std.specs.Prelude.{◌≡◌, ℕ, ◌+◌, ◌*◌, ◌<◌, ◌≤◌, true, false, not, ◌==◌, List, [], ◌∷◌, ◌++◌, length, map, drop, codes, Result, Ok, Err}
 use Rattle.std.specs.List.{concat, flat_map}
 use Rattle.std.specs.Str.{bytes_eq}
 use Rattle.std.proofs.Common.{refl, sym, subst, ap, ◌∙◌, append_assoc, append-nil, arith, lit<}
@@ -14,7 +14,7 @@ use Rattle.node_program.specs.Code.{leads_into}
 use Rattle.node_program.specs.declared.Operand.{Operand}
 use Rattle.node_program.specs.declared.Decoder.{Decoder}
 use Rattle.code_file.specs.Items.{Item, byte_item, number_item, element_item, name_item, link_items, pattern_items, operand_items, operand_list_items, operand_table_items, decoder_items, decoder_table_items, code_mark, code_version}
-use Rattle.code_file.specs.Reading.{Rest, Reading, ◌>>=◌, Front, Contents, item, byte_at, element_at, each_at, is_above_last, mark_at, field_at, rate_at, nodes_at, links_at, source_at, sinks_at, patterns_at, front_at, may_read, operand_at, operands_at_link, decoder_at, demand_sinks, decoder_link_at, any, reads_of}
+use Rattle.code_file.specs.Reading.{Rest, Reading, ◌>>=◌, Front, Contents, item, byte_at, element_at, each_at, is_above_last, mark_at, field_at, rate_at, nodes_at, links_at, source_at, sinks_at, patterns_at, front_at, may_read, operand_at, operands_at_link, decoder_at, demand_sinks, decoder_link_at, any, reads_of, Conditions}
 use Rattle.code_file.specs.Spelling.{front_items_in, items_in, spelling_of}
 use Rattle.code_file.proofs.Readers.{ok_of, is_memory, IsBytes, IsReader, Takes, AllAfter, EachFits, Takes-then, bind_ok, bind_not_memory, ok_is, item_takes, item_again, item_not_memory, empty_reader, then_reader, same_reader, repeated_reader, each_reader}
 use Rattle.code_file.proofs.ItemReaders.{AreConditions, byte_reader, number_reader, element_reader}
@@ -41,7 +41,7 @@ version_conditions version = record {
 }
 
 -- when the mark is refused
-abbrev mark_conditions : List ℕ → List ℕ → List (Bool × CodeRefusal)
+abbrev mark_conditions : List ℕ → List ℕ → Conditions
 mark_conditions mark bytes = (not (bytes_eq bytes mark), BadMagic) ∷ []
 
 -- the mark and the version as a text

@@ -1,5 +1,5 @@
 -- What the items of a file say one by one is what holds of a code.
-use Rattle.std.specs.Prelude.{◌≡◌, ℕ, zero, suc, ◌+◌, ◌*◌, ◌<◌, ◌≤◌, Bool, true, false, ◌||◌, ◌&&◌, ◌==◌, nat_eq, nat_lt, List, [], ◌∷◌, length, map, drop, codes, if◌then◌else◌}
+use Rattle.std.specs.Prelude.{◌≡◌, ℕ, zero, suc, ◌+◌, ◌*◌, ◌<◌, ◌≤◌, Bool, true, false, ◌&&◌, ◌==◌, nat_eq, nat_lt, List, [], ◌∷◌, length, map, drop, codes, if◌then◌else◌}
 use Rattle.std.specs.List.{list_all, list_any}
 use Rattle.std.specs.Str.{bytes_eq}
 use Rattle.std.proofs.Common.{refl, sym, subst, ap, ◌∙◌, arith}
@@ -11,7 +11,7 @@ use Rattle.gf_tables.specs.Product.{size_of}
 use Rattle.gf_tables.specs.declared.kind.FieldKind.{FieldKind}
 use Rattle.net_model.specs.Demands.{sinks_of_demands}
 use Rattle.net_model.specs.Lists.{are_distinct, is_rising, is_among}
-use Rattle.net_model.proofs.ListLaws.{length-are_distinct, list_all-implied, list_any-map, nat_eq-swap}
+use Rattle.net_model.proofs.ListLaws.{length-are_distinct, list_all-implied, list_any-map, nat_eq-swap, is_among-same}
 use Rattle.net_model.specs.Network.{are_names, is_link_among, is_sink_among, is_listed_pattern, are_patterns, IsNetwork}
 use Rattle.net_model.specs.declared.Link.{Link}
 use Rattle.net_model.specs.declared.Pattern.{Pattern}
@@ -83,11 +83,6 @@ sink_nodes-from_read nodes source sinks all =
     list_all-from_AllAfter (is_sink_among nodes source) [] sinks
     (AllAfter-weaker (SinkAfter nodes source) (λ before sink. is_sink_among nodes source sink ≡ true) [] sinks
     (λ before sink is. and_from _ _ (lt-ltb _ _ is.node) (not_from_false _ is.not_source)) all)
-
--- a number is among others, whichever side of the test it's on
-is_among-same : (numbers : List ℕ) (n : ℕ) → list_any (nat_eq n) numbers ≡ is_among numbers n
-is_among-same [] n = refl
-is_among-same (one ∷ numbers) n = ap (λ (b : Bool). b || list_any (nat_eq n) numbers) (nat_eq-swap n one) ∙ ap (λ (b : Bool). (one == n) || b) (is_among-same numbers n)
 
 -- the sinks are distinct
 distinct_sinks-from_read : (nodes source : ℕ) (sinks : List ℕ) → AllAfter (SinkAfter nodes source) [] sinks → are_distinct nat_eq sinks ≡ true

@@ -1,7 +1,7 @@
 //! The next items of a file: numbers and elements.
 ghost use Rattle.std.specs.Prelude.{◌≡◌, ◌<◌, ◌≤◌, length, IfOk};
 ghost use Rattle.gf_tables.specs.Product.{size_of};
-ghost use Rattle.code_file.specs.Reading.{any, item, byte_at, number_at, element_at, count_at, index_at};
+ghost use Rattle.code_file.specs.Reading.{any, item, byte_at, number_at, element_at, count_at, positive_count_at, index_at};
 ghost use Rattle.code_file.specs.Gives.{ReadsAs, Reads};
 
 use crate::CodeRefusal;
@@ -70,6 +70,25 @@ pub(crate) fn count<'a>(rest: Rest<'a>, limit: u16) -> Result<(u16, Rest<'a>), C
 {
     let (count, after) = number(rest)?;
     if count > limit {
+        return Err(CodeRefusal::TooMany { at: rest.at });
+    }
+    Ok((count, after))
+}
+
+/// A count that has a limit, of a list that isn't empty.
+#[tactic(auto, using(crate::proofs::Checks::number_checked))]
+pub(crate) fn positive_count<'a>(
+    rest: Rest<'a>,
+    limit: usize,
+) -> Result<(u16, Rest<'a>), CodeRefusal>
+    ensures gives { Reads result (positive_count_at limit) rest.entry }
+    ensures few { IfOk result (λ x. x.0 ≤ limit) }
+{
+    let (count, after) = number(rest)?;
+    if count == 0 {
+        return Err(CodeRefusal::BadIndex { at: rest.at });
+    }
+    if usize::from(count) > limit {
         return Err(CodeRefusal::TooMany { at: rest.at });
     }
     Ok((count, after))

@@ -1,11 +1,11 @@
 //! Nodes and sinks.
 ghost use Rattle.std.specs.Prelude.{◌≡◌, ◌≤◌, ◌++◌, ◌∷◌, [], length, IfOk};
-ghost use Rattle.code_file.specs.Reading.{positive_count_at, other_name_at, repeated_at, nodes_at, sink_at, sinks_at};
+ghost use Rattle.code_file.specs.Reading.{other_name_at, repeated_at, nodes_at, sink_at, sinks_at};
 ghost use Rattle.code_file.specs.Gives.{Reads, ReadsAll};
 ghost use Rattle.code_file.specs.Marks.{AreMarks};
 
 use crate::CodeRefusal;
-use crate::items::{count, number};
+use crate::items::{count, number, positive_count};
 use crate::marks::{is_marked, mark, no_marks};
 use crate::names::name;
 use crate::rest::Rest;
@@ -87,22 +87,6 @@ fn counted_sinks<'a>(
     Ok((sinks, rest))
 }
 
-// The number of the sinks.
-#[tactic(auto, using(crate::proofs::Checks::number_checked))]
-fn sink_count<'a>(rest: Rest<'a>) -> Result<(u16, Rest<'a>), CodeRefusal>
-    ensures gives { Reads result (positive_count_at 4096) rest.entry }
-    ensures few { IfOk result (λ x. x.0 ≤ 4096) }
-{
-    let (count, after) = number(rest)?;
-    if count == 0 {
-        return Err(CodeRefusal::BadIndex { at: rest.at });
-    }
-    if count > 4096 {
-        return Err(CodeRefusal::TooMany { at: rest.at });
-    }
-    Ok((count, after))
-}
-
 /// The sinks, behind their number.
 #[tactic(auto, unfolding(crate::specs::Reading::sinks_at))]
 pub(crate) fn sinks<'a>(
@@ -114,7 +98,7 @@ pub(crate) fn sinks<'a>(
     ensures gives { Reads result (sinks_at nodes source) rest.entry }
     ensures few { IfOk result (λ x. length x.0 ≤ 4096) }
 {
-    let (count, rest) = sink_count(rest)?;
+    let (count, rest) = positive_count(rest, 4096)?;
     let (sinks, rest) = counted_sinks(alloc, nodes, source, count, rest)?;
     Ok((NodeList::of(sinks), rest))
 }

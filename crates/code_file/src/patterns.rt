@@ -1,11 +1,11 @@
 //! Patterns.
 ghost use Rattle.std.specs.Prelude.{◌≡◌, ◌≤◌, ◌+◌, ◌*◌, ◌++◌, ◌∷◌, [], length, IfOk, IsOkUnless};
-ghost use Rattle.code_file.specs.Reading.{positive_count_at, repeated_at, failed_at, pattern_at, none_pattern, pattern_count_at, counted_patterns_at, patterns_at};
+ghost use Rattle.code_file.specs.Reading.{repeated_at, failed_at, pattern_at, none_pattern, pattern_count_at, counted_patterns_at, patterns_at};
 ghost use Rattle.code_file.specs.Gives.{Reads, ReadsAll, ReadsBehind};
 ghost use Rattle.code_file.specs.declared.refusal.CodeRefusal.TheVariants.{OutOfMemory};
 
 use crate::CodeRefusal;
-use crate::items::number;
+use crate::items::{number, positive_count};
 use crate::names::name;
 use crate::rest::Rest;
 use crate::rising::is_above_last;
@@ -50,21 +50,6 @@ fn counted_failed<'a>(
     Ok((all, rest))
 }
 
-// The number of the links of a pattern.
-#[tactic(auto, using(crate::proofs::Checks::number_checked))]
-fn failed_count<'a>(links: usize, rest: Rest<'a>) -> Result<(u16, Rest<'a>), CodeRefusal>
-    ensures { Reads result (positive_count_at links) rest.entry }
-{
-    let (count, after) = number(rest)?;
-    if count == 0 {
-        return Err(CodeRefusal::BadIndex { at: rest.at });
-    }
-    if usize::from(count) > links {
-        return Err(CodeRefusal::TooMany { at: rest.at });
-    }
-    Ok((count, after))
-}
-
 // One listed pattern.
 #[tactic(auto, unfolding(crate::specs::Reading::pattern_at))]
 fn pattern<'a>(
@@ -77,7 +62,7 @@ fn pattern<'a>(
     ensures named { IfOk result (λ x. names.new ≡ names.old ++ x.0.name ∷ []) }
 {
     let (name, rest) = name(alloc, rest, names)?;
-    let (count, rest) = failed_count(links, rest)?;
+    let (count, rest) = positive_count(rest, links)?;
     let (failed, rest) = counted_failed(alloc, links, count, rest)?;
     let links = LinkList::of(failed);
     Ok((Pattern { name, links }, rest))
