@@ -1,7 +1,8 @@
 //! All of a code file.
-ghost use Rattle.std.specs.Prelude.{◌≡◌, ◌≤◌, ◌^◌, length, IfOk, IfErr, IsOkUnless};
+ghost use Rattle.std.specs.Prelude.{◌≡◌, ◌≤◌, length, IfOk, IfErr, IsOkUnless};
 ghost use Rattle.node_program.specs.declared.code.Code.{Code as SpecCode};
 ghost use Rattle.code_file.specs.Items.{IsFileOf};
+ghost use Rattle.code_file.specs.Limits.{code_limit};
 ghost use Rattle.code_file.specs.Reading.{contents_of};
 ghost use Rattle.code_file.specs.Gives.{Fails, Gives};
 ghost use Rattle.code_file.specs.Parts.{contents_seen};
@@ -18,6 +19,9 @@ use net_model::Net;
 use node_program::{Code, DecoderTable, OperandTable, choice_of};
 use std::alloc::Global;
 
+/// The greatest length of a code file, in bytes.
+pub const CODE_LIMIT: usize = 268_435_456;
+
 /// What stands at the front of a code file.
 pub(crate) const MARK: &[u8] = b"LIFC";
 
@@ -27,7 +31,7 @@ pub(crate) const VERSION: u8 = 1;
 // All that the bytes say.
 #[tactic(auto, unfolding(crate::specs::Reading::contents_of))]
 fn read_parts(alloc: Global, bytes: &[u8]) -> Result<Parts, CodeRefusal>
-    requires { length bytes.now ≤ 2 ^ 28 }
+    requires { length bytes.now ≤ code_limit }
     ensures { Gives contents_seen result (contents_of bytes.now) }
 {
     let (front, rest) = front(alloc, MARK, VERSION, Rest { at: 0, bytes })?;
@@ -69,7 +73,7 @@ fn code_of(parts: Parts) -> Code
 /// The code whose file the bytes are. A refusal is that of the first item that isn't good, and
 /// comes only where the bytes are no code's file.
 pub fn read_code(alloc: Global, bytes: &[u8]) -> Result<Code, CodeRefusal>
-    requires { length bytes.now ≤ 2 ^ 28 }
+    requires { length bytes.now ≤ code_limit }
     ensures ok { IfOk result (IsFileOf bytes.now) }
     ensures refused { IfErr result (λ why. Fails why (contents_of bytes.now)) }
     ensures none { (code : SpecCode) → IsFileOf bytes.now code → IsOkUnless result OutOfMemory }

@@ -79,6 +79,9 @@ fn net_of(parts: Parts) -> Net
     Net::of(nodes, links, source, sinks, patterns, field)
 }
 
+/// The greatest length of a network text, in bytes.
+pub const NET_LIMIT: usize = 4_194_304;
+
 /// The network that a text stands for. A refusal is that of the first line that isn't good, or of
 /// the text as a whole.
 pub fn read_net(alloc: Global, text: &[u8]) -> Result<Net, ReadRefusal>
