@@ -3,9 +3,11 @@ pub mod RefusedLaws
 pub mod RatingLaws
 pub mod InOrderLaws
 pub mod FrontierLaws
+pub mod BasesLaws
 pub mod DraftLaws
 pub mod HopLaws
 pub mod VisitLaws
+pub mod VisitedLaws
 pub mod DecoderLaws
 pub mod ReadOffLaws
 pub mod FinalLaws

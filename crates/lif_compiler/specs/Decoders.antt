@@ -1,9 +1,12 @@
 -- The decoder of a basis. Its links lie on different paths, each link carries the vector of its path, and the column of
 -- a link has the entries of its path's inverse vector.
-use Rattle.std.specs.Prelude.{◌≡◌, ℕ, ◌+◌, ◌*◌, ◌<◌, ◌==◌, IsTrue, List, [], All, Option, None, Some, length, map, slice_index, slice_index_or, if◌then◌else◌}
+use Rattle.std.specs.Prelude.{◌≡◌, ℕ, ◌+◌, ◌*◌, ◌<◌, ◌==◌, IsTrue, List, [], All, Option, None, Some, length, map, slice_get, slice_index, slice_index_or, if◌then◌else◌}
 use Rattle.std.specs.List.{range_with_len}
 use Rattle.std.specs.List.Sorted.{IsPermutation}
 use Rattle.gf_tables.specs.declared.kind.FieldKind.{FieldKind}
+use Rattle.std.specs.declared.cmp.PartialEq.{Ghosts as EqualityWords}
+use Rattle.gf_tables.specs.declared.field.Field.{Ghosts as FieldWords}
+use Rattle.linear_algebra.specs.Elements.{numbers}
 use Rattle.linear_algebra.specs.Matrices.{column}
 use Rattle.linear_algebra.specs.Rows.{AreRows, dot}
 use Rattle.net_model.specs.Demands.{pattern_of_demand}
@@ -13,6 +16,7 @@ use Rattle.net_model.specs.declared.net.Net.{Net}
 use Rattle.node_program.specs.Value.{global_vector}
 use Rattle.node_program.specs.declared.Decoder.{Decoder}
 use Rattle.node_program.specs.declared.Operand.{Operand}
+use Rattle.sink_basis.specs.declared.basis.Basis.{Basis}
 
 -- so many vectors of that length and as many inverse vectors: the product of place i of the inverses and place j of the
 -- vectors is 1 for i = j and 0 otherwise
@@ -49,3 +53,14 @@ pub record IsReadOff (size rate : ℕ) (frontier : List (Option ℕ)) (inverses 
   pub entries : AreInverseEntries rate inverses paths decoder.entries
   pub entry_count : length decoder.entries ≡ rate * rate
   pub below : All (λ entry. entry < size) decoder.entries
+
+module _ {X : Type 0} {F : FieldWords X} {E : EqualityWords X} where
+  -- a decoder that is read off a basis
+  abbrev pub IsReadOffBasis : Basis X F E → Decoder → Type 0
+  IsReadOffBasis basis decoder =
+      IsReadOff F.SIZE (length basis.frontier) basis.frontier (map (numbers F.number) basis.inverses.rows) decoder
+
+  -- decoders that are read off bases, each off the one at its place
+  abbrev pub AreReadOff : List (Basis X F E) → List Decoder → Type 0
+  AreReadOff bases decoders = (k : ℕ) (basis : Basis X F E) (decoder : Decoder)
+      → slice_get bases k ≡ Some basis → slice_get decoders k ≡ Some decoder → IsReadOffBasis basis decoder
