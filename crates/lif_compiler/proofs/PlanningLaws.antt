@@ -12,8 +12,8 @@ use Rattle.std.proofs.lemmas.List.Elements.{All-append, All-cons, All-filter, Al
 use Rattle.std.proofs.lemmas.List.Folds.{Any-from_list_any, list_any-append}
 use Rattle.std.proofs.lemmas.Option.{get_or_from_slice_get, same_Some, slice_get-get_or, slice_get-map, slice_get_past, slice_get_within, unwrap_or-slice_get}
 use Rattle.net_model.specs.Lists.{are_distinct, is_rising}
-use Rattle.lif_compiler.specs.Hops.{AreHops, IsHop, Routes, route_of}
-use Rattle.lif_compiler.specs.Planning.{Gains, before_place, hop_of_place, hops_of_demand, hops_of_demands, hops_of_path, hops_over, list_of}
+use Rattle.lif_compiler.specs.Hops.{AreHops, IsHop, Routes, before_place, route_of}
+use Rattle.lif_compiler.specs.Planning.{Gains, hop_of_place, hops_of_demand, hops_of_demands, hops_of_path, hops_over, list_of}
 use Rattle.lif_compiler.specs.declared.hops.Hop.{Hop}
 
 -- a range and one number more

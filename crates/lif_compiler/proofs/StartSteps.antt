@@ -18,7 +18,7 @@ use Rattle.node_program.specs.Code.{are_in_order, choice_of}
 use Rattle.lif_compiler.proofs.DraftLaws.{IsDraft-none}
 use Rattle.lif_compiler.specs.Frontier.{frontier_vector, last_below}
 use Rattle.lif_compiler.proofs.FrontierLaws.{last_below-none}
-use Rattle.lif_compiler.specs.Bases.{HasFrontier, HasVectorRows, frontier_in, vectors_in}
+use Rattle.lif_compiler.specs.Bases.{HasNoLinks, HasUnitVectors, frontier_in, vectors_in}
 use Rattle.lif_compiler.specs.Compiled.{marked_kind}
 use Rattle.lif_compiler.specs.Hops.{Routes}
 use Rattle.lif_compiler.specs.declared.partial_code.PartialCode.{PartialCode}
@@ -39,7 +39,7 @@ none_below (path ∷ paths) = rw (last_below-none path, none_below paths) refl
 
 module _ {X : Type 0} {F : FieldWords X} {E : EqualityWords X} (L : LawsOf F) (net : Net) (rate : ℕ) (vectors : List (Grid X)) (bases : List (Basis X F E))
     (zeros : vectors ≡ replicate (length net.patterns) (grid_of (length net.links) rate F.zero)) (count : length bases ≡ demand_count net)
-    (none : All (HasFrontier (replicate rate None)) bases) (units : All (HasVectorRows (identity_of F.zero F.one rate)) bases) where
+    (none : All (HasNoLinks rate) bases) (units : All (HasUnitVectors rate) bases) where
   -- each matrix is one of zeros
   zeros_at : (pattern : ℕ) (m : Grid X) → slice_get vectors pattern ≡ Some m → HasVectors F net rate [] pattern m
   zeros_at pattern m there =

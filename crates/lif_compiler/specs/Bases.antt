@@ -1,6 +1,7 @@
 -- The bases of the demands, in one list.
-use Rattle.std.specs.Prelude.{◌≡◌, ℕ, List, [], Option, length, map, slice_index_or}
+use Rattle.std.specs.Prelude.{◌≡◌, ℕ, List, [], None, Option, length, map, replicate, slice_index_or}
 use Rattle.std.specs.declared.cmp.PartialEq.{Ghosts as EqualityWords}
+use Rattle.field_vectors.specs.Elements.{identity_of}
 use Rattle.field_vectors.specs.Grid.{Grid, IsMatrix}
 use Rattle.gf_tables.specs.declared.field.Field.{Ghosts as FieldWords}
 use Rattle.sink_basis.specs.declared.basis.Basis.{Basis}
@@ -27,10 +28,10 @@ module _ {X : Type 0} {F : FieldWords X} {E : EqualityWords X} where
   abbrev pub HasWidth : ℕ → Basis X F E → Type 0
   HasWidth rate basis = length basis.frontier ≡ rate
 
-  -- it has this frontier
-  abbrev pub HasFrontier : List (Option ℕ) → Basis X F E → Type 0
-  HasFrontier frontier basis = basis.frontier ≡ frontier
+  -- it has a link on none of them
+  abbrev pub HasNoLinks : ℕ → Basis X F E → Type 0
+  HasNoLinks rate basis = basis.frontier ≡ replicate rate None
 
-  -- and its vectors are these
-  abbrev pub HasVectorRows : List (List X) → Basis X F E → Type 0
-  HasVectorRows rows basis = basis.vectors.rows ≡ rows
+  -- its vectors are the unit vectors
+  abbrev pub HasUnitVectors : ℕ → Basis X F E → Type 0
+  HasUnitVectors rate basis = basis.vectors.rows ≡ identity_of F.zero F.one rate

@@ -1,5 +1,5 @@
--- A code in the making, of which the links up to a place have operands: the products by which the coefficients of the next
--- link are chosen.
+-- A code in the making, of which the links up to a place have operands: the products by which the
+-- coefficients of the next link are chosen.
 use Rattle.std.specs.Prelude.{◌≡◌, ◌≢◌, ℕ, Bool, List, Some, length, map, slice_get}
 use Rattle.std.specs.declared.cmp.PartialEq.{Ghosts as EqualityWords}
 use Rattle.field_vectors.specs.Grid.{Grid}
@@ -19,10 +19,12 @@ use Rattle.lif_compiler.specs.declared.hops.Hop.{Hop}
 use Rattle.lif_compiler.specs.declared.partial_code.PartialCode.{PartialCode}
 
 module _ {X : Type 0} {F : FieldWords X} {E : EqualityWords X} where
-  -- the vector of a source of a link, by whether that leaves the source, under the pattern of a demand
+  -- the vector of a source of a link, by whether that leaves the source, under the pattern of a
+  -- demand
   abbrev pub vector_of_source : Bool → PartialCode X F E → ℕ → ℕ → List ℕ
   vector_of_source leaves code demand from =
-      source_vector leaves code.rate (numbers_at F.number (vectors_for code.vectors.items demand)) from
+      source_vector leaves code.rate
+      (numbers_at F.number (vectors_for code.vectors.items demand)) from
 
   -- its product with the inverse vector of a hop's path
   abbrev pub product_of : FieldKind → Bool → PartialCode X F E → Hop → ℕ → ℕ
@@ -34,7 +36,8 @@ module _ {X : Type 0} {F : FieldWords X} {E : EqualityWords X} where
   abbrev pub products_of : FieldKind → Bool → List ℕ → PartialCode X F E → Hop → List ℕ
   products_of kind leaves sources code hop = map (product_of kind leaves code hop) sources
 
-  -- on the path of each hop over a link, what comes before the link has such a product that isn't zero
+  -- on the path of each hop over a link, what comes before the link has such a product that isn't
+  -- zero
   abbrev pub HaveProducts : Net → ℕ → List Hop → PartialCode X F E → Type 0
   HaveProducts net link hops code = (k : ℕ) (hop : Hop) → slice_get hops k ≡ Some hop
       → product_of (marked_kind F.MARK) (leaves_source net link) code hop hop.before ≢ 0
@@ -53,7 +56,8 @@ module _ {X : Type 0} {F : FieldWords X} {E : EqualityWords X} where
       (kind : FieldKind) → IsOfKind kind F.SIZE F.BYTES F.MARK F.product
       → IsTable kind net link sources hops code table
 
-  -- Operands that are chosen for a link: its sources with coefficients by which no hop's products come to zero.
+  -- Operands that are chosen for a link: its sources with coefficients by which no hop's products
+  -- come to zero.
   pub record AreChosenBy (net : Net) (link : ℕ) (hops : List Hop) (code : PartialCode X F E)
       (operands : List Operand) : Type 0 where
     pub sources : List ℕ

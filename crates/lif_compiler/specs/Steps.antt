@@ -1,4 +1,5 @@
--- What a visit changes: the vectors of a link under all patterns, and the bases of the demands whose paths it is on.
+-- What a visit changes: the vectors of a link under all patterns, and the bases of the demands
+-- whose paths it is on.
 use Rattle.std.specs.Prelude.{◌≡◌, ◌≢◌, ◌<◌, ◌≤◌, ℕ, All, Bool, true, false, List, Some, length, slice_get, slice_set}
 use Rattle.std.specs.declared.cmp.PartialEq.{Ghosts as EqualityWords}
 use Rattle.field_vectors.specs.Grid.{Grid, row_of, with_row}
@@ -18,42 +19,49 @@ use Rattle.lif_compiler.specs.declared.hops.Hop.{Hop}
 abbrev pub AreFromBelow : ℕ → List Operand → Type 0
 AreFromBelow bound operands = All (λ operand. operand.from < bound) operands
 
--- a link that fails carries zero, and stays as it was; any other carries the sum of its operands' vectors
+-- a link that fails carries zero, and stays as it was; any other carries the sum of its operands'
+-- vectors
 abbrev pub IsCarriedUnless : {A : Type 0}
     → Bool → FieldKind → (A → ℕ) → Bool → List Operand → ℕ → Grid A → Grid A → Type 0
 IsCarriedUnless true field number leaves operands link old new = new ≡ old
-IsCarriedUnless false field number leaves operands link old new = IsCarried field number leaves operands link old new
+IsCarriedUnless false field number leaves operands link old new =
+    IsCarried field number leaves operands link old new
 
 -- so under each of the first patterns, and nothing is changed under the others
 pub record AreCarriedTo {A : Type 0} (field : FieldKind) (number : A → ℕ) (net : Net) (link : ℕ)
     (operands : List Operand) (count : ℕ) (old new : List (Grid A)) : Type 0 where
   pub each_pattern : length new ≡ length old
   pub made : (pattern : ℕ) → pattern < count → pattern < length old
-      → IsCarriedUnless (is_failed_in net.patterns pattern link) field number (leaves_source net link) operands link
-      (grid_at old pattern) (grid_at new pattern)
+      → IsCarriedUnless (is_failed_in net.patterns pattern link) field number
+      (leaves_source net link) operands link (grid_at old pattern) (grid_at new pattern)
   pub others : (pattern : ℕ) → count ≤ pattern → grid_at new pattern ≡ grid_at old pattern
 
 -- so under each pattern
 abbrev pub AreCarried : {A : Type 0}
     → FieldKind → (A → ℕ) → Net → ℕ → List Operand → List (Grid A) → List (Grid A) → Type 0
-AreCarried field number net link operands old new = AreCarriedTo field number net link operands (length old) old new
+AreCarried field number net link operands old new =
+    AreCarriedTo field number net link operands (length old) old new
 
 -- none of the first hops is of the demand
 abbrev pub IsApart : List Hop → ℕ → ℕ → Type 0
-IsApart hops count demand = (k : ℕ) (hop : Hop) → k < count → slice_get hops k ≡ Some hop → hop.demand ≢ demand
+IsApart hops count demand = (k : ℕ) (hop : Hop) → k < count
+    → slice_get hops k ≡ Some hop → hop.demand ≢ demand
 
--- The link is on the frontier of the paths of the first hops, with the vector that it has under the pattern of the
--- demand. Nothing else is changed.
-pub record AreRenewedTo {X : Type 0} {F : FieldWords X} {E : EqualityWords X} (link : ℕ) (vectors : List (Grid X))
-    (hops : List Hop) (count : ℕ) (old new : List (Basis X F E)) : Type 0 where
+-- The link is on the frontier of the paths of the first hops, with the vector that it has under the
+-- pattern of the demand. Nothing else is changed.
+pub record AreRenewedTo {X : Type 0} {F : FieldWords X} {E : EqualityWords X} (link : ℕ)
+    (vectors : List (Grid X)) (hops : List Hop) (count : ℕ)
+    (old new : List (Basis X F E)) : Type 0 where
   pub same_count : length new ≡ length old
   pub links_at : (k : ℕ) (hop : Hop) → k < count → slice_get hops k ≡ Some hop
       → frontier_in new hop.demand ≡ slice_set (frontier_in old hop.demand) hop.path (Some link)
   pub vectors_at : (k : ℕ) (hop : Hop) → k < count → slice_get hops k ≡ Some hop
       → vectors_in new hop.demand
       ≡ with_row (vectors_in old hop.demand) hop.path (row_of (vectors_for vectors hop.demand) link)
-  pub links_other : (demand : ℕ) → IsApart hops count demand → frontier_in new demand ≡ frontier_in old demand
-  pub vectors_other : (demand : ℕ) → IsApart hops count demand → vectors_in new demand ≡ vectors_in old demand
+  pub links_other : (demand : ℕ) → IsApart hops count demand
+      → frontier_in new demand ≡ frontier_in old demand
+  pub vectors_other : (demand : ℕ) → IsApart hops count demand
+      → vectors_in new demand ≡ vectors_in old demand
 
 -- so by all hops
 abbrev pub AreRenewed : {X : Type 0} {F : FieldWords X} {E : EqualityWords X}

@@ -1,14 +1,21 @@
--- What the table of products is made of, by which the coefficients of a link are chosen: a row for each hop over it, a
--- column for each source.
-use Rattle.std.specs.Prelude.{◌≡◌, ◌<◌, ◌%◌, ℕ, Bool, List, [], All, length, slice_index_or, if◌then◌else◌}
-use Rattle.field_vectors.specs.Grid.{Grid}
+-- What the table of products is made of, by which the coefficients of a link are chosen: a row for
+-- each hop over it, a column for each source.
+use Rattle.std.specs.Prelude.{◌≡◌, ◌<◌, ◌%◌, ℕ, Bool, List, [], All, length, replicate, slice_index_or, if◌then◌else◌}
+use Rattle.field_vectors.specs.Grid.{Grid, grid_of}
+use Rattle.gf_tables.specs.declared.kind.FieldKind.{FieldKind}
+use Rattle.linear_algebra.specs.Rows.{dot}
 use Rattle.net_model.specs.declared.net.Net.{Net}
+use Rattle.node_program.specs.Carried.{numbers_at, source_vector}
 use Rattle.node_program.specs.Value.{leaves_source}
 use Rattle.lif_compiler.specs.declared.hops.Hop.{Hop}
 
 -- the matrix at a place
 abbrev pub grid_at : {A : Type 0} → List (Grid A) → ℕ → Grid A
 grid_at grids place = slice_index_or grids place (record { columns = 0; rows = [] })
+
+-- so many matrices whose entries are all one value
+abbrev pub grids_of : {A : Type 0} → ℕ → ℕ → ℕ → A → List (Grid A)
+grids_of count rows columns value = replicate count (grid_of rows columns value)
 
 -- matrices of so many rows and columns
 abbrev pub AreOfShape : {A : Type 0} → ℕ → ℕ → List (Grid A) → Type 0
@@ -29,3 +36,11 @@ CanFeed net rate link sources = AreNamed (leaves_source net link) rate (length n
 -- the matrix of the vectors under the pattern of a demand, where there is one for each pattern
 abbrev pub vectors_for : {A : Type 0} → List (Grid A) → ℕ → Grid A
 vectors_for vectors demand = grid_at vectors (demand % length vectors)
+
+-- the product of the vector of a source of a link, by whether that leaves the source, with a row of
+-- other vectors
+abbrev pub product_by : {A : Type 0}
+    → FieldKind → (A → ℕ) → Bool → Grid A → Grid A → ℕ → ℕ → ℕ
+product_by kind number leaves vectors inverses path from =
+    dot kind (source_vector leaves vectors.columns (numbers_at number vectors) from)
+    (numbers_at number inverses path)

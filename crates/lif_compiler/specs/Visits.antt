@@ -1,5 +1,6 @@
--- The visits of links in order. After each, every demand has a basis over the vectors of its own pattern: each frontier
--- link is the last visited link of its path, and its vector is what that link carries.
+-- The visits of links in order. After each, every demand has a basis over the vectors of its own
+-- pattern: each frontier link is the last visited link of its path, and its vector is what that
+-- link carries.
 use Rattle.std.specs.Prelude.{◌≡◌, ◌<◌, ◌≤◌, ℕ, List, [], All, Option, Some, length, map, replicate, slice_get, slice_index_or, unwrap_or}
 use Rattle.std.specs.declared.cmp.PartialEq.{Ghosts as EqualityWords}
 use Rattle.gf_tables.specs.declared.field.Field.{Ghosts as FieldWords}
@@ -23,7 +24,7 @@ use Rattle.lif_compiler.specs.Bases.{frontier_in, vectors_in}
 use Rattle.lif_compiler.specs.Compiled.{marked_kind}
 use Rattle.lif_compiler.specs.Drafts.{draft_of}
 use Rattle.lif_compiler.specs.Frontier.{IsAtFrontier}
-use Rattle.lif_compiler.specs.Hops.{AreHops, IsHop, Routes}
+use Rattle.lif_compiler.specs.Hops.{AreHops, HaveHops, IsHop, Routes}
 use Rattle.lif_compiler.specs.declared.hops.Hop.{Hop}
 use Rattle.lif_compiler.specs.declared.partial_code.PartialCode.{PartialCode}
 
@@ -41,11 +42,12 @@ pub record AreRoutes (net : Net) (rate : ℕ) (routes : Routes) : Type 0 where
 -- what a link carries under a pattern, by the operands of the visited links
 abbrev pub vector_under : Net → FieldKind → ℕ → List (List Operand) → ℕ → ℕ → List ℕ
 vector_under net field rate visited pattern link =
-    global_vector net field (draft_of (length net.links) visited) (failed_links net.patterns pattern) rate link
+    global_vector net field (draft_of (length net.links) visited)
+    (failed_links net.patterns pattern) rate link
 
 -- a matrix has the vectors of the visited links under a pattern, and zeros for the others
-pub record HasVectors {X : Type 0} (F : FieldWords X) (net : Net) (rate : ℕ) (visited : List (List Operand))
-    (pattern : ℕ) (m : Grid X) : Type 0 where
+pub record HasVectors {X : Type 0} (F : FieldWords X) (net : Net) (rate : ℕ)
+    (visited : List (List Operand)) (pattern : ℕ) (m : Grid X) : Type 0 where
   pub columns : m.columns ≡ rate
   pub height : length m.rows ≡ length net.links
   pub vector : (link : ℕ) → link < length visited
@@ -62,11 +64,12 @@ pub record AreChosen (net : Net) (field : FieldKind) (rate : ℕ) (routes : Rout
     (visited : List (List Operand)) : Type 0 where
   pub draft : IsDraft net rate field (draft_of (length net.links) visited)
   pub few : length visited ≤ length net.links
-  pub of_hops : (link : ℕ) → link < length visited → All (IsOfHop routes link) (slice_index_or visited link [])
+  pub of_hops : (link : ℕ) → link < length visited
+      → All (IsOfHop routes link) (slice_index_or visited link [])
 
 -- for each pattern, a matrix that has its vectors
-pub record AreVectorsOf {X : Type 0} (F : FieldWords X) (net : Net) (rate : ℕ) (visited : List (List Operand))
-    (vectors : List (Grid X)) : Type 0 where
+pub record AreVectorsOf {X : Type 0} (F : FieldWords X) (net : Net) (rate : ℕ)
+    (visited : List (List Operand)) (vectors : List (Grid X)) : Type 0 where
   pub each_pattern : length vectors ≡ length net.patterns
   pub at : (pattern : ℕ) (m : Grid X) → slice_get vectors pattern ≡ Some m
       → HasVectors F net rate visited pattern m
@@ -75,12 +78,13 @@ module _ {X : Type 0} {F : FieldWords X} {E : EqualityWords X} where
   -- a demand's basis stands behind the visited links
   abbrev pub Stands : Net → Routes → ℕ → List (List Operand) → List (Basis X F E) → ℕ → Type 0
   Stands net routes rate visited bases demand =
-      IsAtFrontier (vector_under net (marked_kind F.MARK) rate visited (pattern_of_demand net demand)) rate
-      (paths_of routes demand) (length visited)
+      IsAtFrontier
+      (vector_under net (marked_kind F.MARK) rate visited (pattern_of_demand net demand))
+      rate (paths_of routes demand) (length visited)
       (frontier_in bases demand) (map (numbers F.number) (vectors_in bases demand).rows)
 
-  -- The links before the next one are visited: their operands are chosen, the matrices have their vectors, and each
-  -- demand has a basis that stands before that link.
+  -- The links before the next one are visited: their operands are chosen, the matrices have their
+  -- vectors, and each demand has a basis that stands before that link.
   pub record IsVisited (net : Net) (routes : Routes) (code : PartialCode X F E) : Type 0 where
     pub chosen : AreChosen net (marked_kind F.MARK) code.rate routes code.operands.items
     pub carried : AreVectorsOf F net code.rate code.operands.items code.vectors.items
@@ -89,16 +93,18 @@ module _ {X : Type 0} {F : FieldWords X} {E : EqualityWords X} where
         → Stands net routes code.rate code.operands.items code.bases.items demand
 
   -- the next link can be visited: these are the hops over it
-  pub record CanVisit (net : Net) (routes : Routes) (hops : List Hop) (code : PartialCode X F E) : Type 0 where
+  pub record CanVisit (net : Net) (routes : Routes) (hops : List Hop)
+      (code : PartialCode X F E) : Type 0 where
     pub routes_fit : AreRoutes net code.rate routes
     pub hops_over : AreHops routes (length code.operands.items) hops
     pub before : IsVisited net routes code
 
 -- the hops over all links are those of the routes, whose paths are flows of the network
-pub record AreVisitable (net : Net) (rate : ℕ) (routes : Routes) (hops : List (List Hop)) : Type 0 where
+pub record AreVisitable (net : Net) (rate : ℕ) (routes : Routes)
+    (hops : List (List Hop)) : Type 0 where
   pub routes_fit : AreRoutes net rate routes
   pub each_link : length hops ≡ length net.links
-  pub hops_over : (link : ℕ) (at : List Hop) → slice_get hops link ≡ Some at → AreHops routes link at
+  pub hops_over : HaveHops routes hops
 
 module _ {X : Type 0} {F : FieldWords X} {E : EqualityWords X} where
   -- a code in which no link is visited yet
@@ -107,14 +113,16 @@ module _ {X : Type 0} {F : FieldWords X} {E : EqualityWords X} where
 
   -- what the visit of the next link makes of a code
   abbrev pub VisitsNext : Net → List Hop → PartialCode X F E → PartialCode X F E → Type 0
-  VisitsNext net hops old new = (routes : Routes) → CanVisit net routes hops old → IsVisited net routes new
+  VisitsNext net hops old new = (routes : Routes)
+      → CanVisit net routes hops old → IsVisited net routes new
 
   -- what the visits of all links make of it
   abbrev pub VisitsAll : Net → List (List Hop) → PartialCode X F E → PartialCode X F E → Type 0
   VisitsAll net hops old new = (routes : Routes)
       → AreVisitable net old.rate routes hops → IsVisited net routes old → IsVisited net routes new
 
--- operands and decoders that are made of hops: a code, which is accepted, and whose operands come from the hops
+-- operands and decoders that are made of hops: a code, which is accepted, and whose operands come
+-- from the hops
 pub record IsFilled (net : Net) (field : FieldKind) (rate : ℕ) (routes : Routes)
     (operands : List (List Operand)) (decoders : List Decoder) : Type 0 where
   pub is_code : IsCode net rate field operands decoders
@@ -124,6 +132,7 @@ pub record IsFilled (net : Net) (field : FieldKind) (rate : ℕ) (routes : Route
       → All (IsOfHop routes link) (slice_index_or operands link [])
 
 -- so by whatever routes the hops are of
-abbrev pub IsFilledBy : Net → FieldKind → ℕ → List (List Hop) → List (List Operand) → List Decoder → Type 0
+abbrev pub IsFilledBy : Net → FieldKind → ℕ → List (List Hop)
+    → List (List Operand) → List Decoder → Type 0
 IsFilledBy net field rate hops operands decoders = (routes : Routes)
     → AreVisitable net rate routes hops → IsFilled net field rate routes operands decoders

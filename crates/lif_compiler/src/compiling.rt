@@ -62,7 +62,8 @@ fn fill<F: Field, L: Ledger>(
 // A network with its links in a new order, and with the field named.
 fn in_order<F: Field>(alloc: Global, net: &Net, order: &[u32]) -> Result<Net, AllocError>
     requires { HasEachOnce (length net.now.links) order.now }
-    ensures { IfOk result (λ new. IsRenumbered order.now (choice_of (marked_kind F.MARK)) net.now new) }
+    ensures { IfOk result (λ new.
+        IsRenumbered order.now (choice_of (marked_kind F.MARK)) net.now new) }
 {
     Ok(net.renumbered(alloc, order, choice_of(kind_of::<F>()))?)
 }
@@ -106,7 +107,8 @@ pub fn compile<F: Field, G: Gate + Sync, L: Ledger, R: Threads + Sync>(
     steps: &mut Steps<L>,
 ) -> Result<(Code, Vec<Cert>), CompileRefusal>
     requires { IsOfKind (marked_kind F.MARK) F.SIZE F.BYTES F.MARK F.product }
-    ensures compiled { IfOk result (λ made. IsCompiled net.now (marked_kind F.MARK) made.0 made.1.items) }
+    ensures compiled { IfOk result (λ made.
+        IsCompiled net.now (marked_kind F.MARK) made.0 made.1.items) }
     ensures refused { IfErr result (IsRefusal net.now F.SIZE) }
 {
     let order = order(alloc, net)?;

@@ -1,9 +1,7 @@
 //! The decoders that bases give.
-ghost use Rattle.std.specs.Prelude.{◌≡◌, ◌<◌, ◌≤◌, ◌++◌, ℕ, All, IfOk, OnOk, Some, length, map, slice_get};
-ghost use Rattle.linear_algebra.specs.Elements.{numbers};
+ghost use Rattle.std.specs.Prelude.{◌≡◌, ◌<◌, ◌≤◌, ◌++◌, All, IfOk, OnOk, length, map};
 ghost use Rattle.lif_compiler.specs.Decoders.{AreReadOff, IsReadOffBasis};
-ghost use Rattle.lif_compiler.specs.ReadOff.{AreApart, AreReached, AreSorted, entries_of_paths, placed_links, row_of_entries};
-ghost use Rattle.node_program.specs.declared.Decoder.{Decoder};
+ghost use Rattle.lif_compiler.specs.ReadOff.{AreApart, AreReached, AreSorted, entries_by, placed_links, row_by};
 
 use field_vectors::Matrix;
 use gf_tables::Field;
@@ -95,7 +93,7 @@ fn entries_of<F: Field>(
     sorted: &[PlacedLink],
 ) -> Result<Entries, AllocError>
     requires { All (λ one. one.path < length inverses.now.rows) sorted.now }
-    ensures value { IfOk result (λ entries. entries ≡ entries_of_paths inverses.now.columns (map (numbers F.number) inverses.now.rows) (map (λ one. one.path) sorted.now)) }
+    ensures value { IfOk result (λ entries. entries ≡ entries_by F.number inverses.now sorted.now) }
     ensures below { IfOk result (All (λ entry. entry < F.SIZE)) }
 {
     let mut entries = Vec::new(alloc);
@@ -115,7 +113,8 @@ fn push_row<F: Field>(
     requires paths { All (λ one. one.path < length inverses.now.rows) sorted.now }
     requires row { row < inverses.now.columns }
     requires below { All (λ entry. entry < F.SIZE) entries.old.items }
-    ensures added { OnOk result (entries.new.items ≡ entries.old.items ++ row_of_entries (map (numbers F.number) inverses.now.rows) (map (λ one. one.path) sorted.now) row) }
+    ensures added { OnOk result
+        (entries.new.items ≡ entries.old.items ++ row_by F.number inverses.now sorted.now row) }
     ensures below { OnOk result (All (λ entry. entry < F.SIZE) entries.new.items) }
 {
     for one in sorted {

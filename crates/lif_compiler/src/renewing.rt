@@ -24,8 +24,10 @@ fn renew<F: Field>(
 ) -> Result<(), AllocError>
     requires path { path < length basis.old.frontier }
     requires width { length vector.now ≡ length basis.old.frontier }
-    requires nonzero { dot_of F.zero F.add F.mul vector.now (row_of basis.old.inverses path) ≢ F.zero }
-    ensures frontier { OnOk result (basis.new.frontier ≡ slice_set basis.old.frontier path (Some link)) }
+    requires nonzero { dot_of F.zero F.add F.mul vector.now (row_of basis.old.inverses path)
+        ≢ F.zero }
+    ensures frontier { OnOk result
+        (basis.new.frontier ≡ slice_set basis.old.frontier path (Some link)) }
     ensures vectors { OnOk result (basis.new.vectors ≡ with_row basis.old.vectors path vector.now) }
     ensures matrices { OnOk result (HasMatrices basis.new) }
 {

@@ -1,13 +1,12 @@
 //! A code in the making, before any link is visited.
-ghost use Rattle.std.specs.Prelude.{◌≡◌, ◌≤◌, [], All, IfOk, IsTrue, None, length, replicate};
-ghost use Rattle.field_vectors.specs.Elements.{identity_of};
-ghost use Rattle.field_vectors.specs.Grid.{grid_of};
+ghost use Rattle.std.specs.Prelude.{◌≡◌, ◌≤◌, [], All, IfOk, IsTrue, length};
 ghost use Rattle.gf_tables.specs.Kind.{IsOfKind};
 ghost use Rattle.failure_patterns.specs.UsedField.{pair_demands};
 ghost use Rattle.net_model.specs.Demands.{demand_count};
 ghost use Rattle.node_program.specs.Code.{are_in_order, choice_of};
-ghost use Rattle.lif_compiler.specs.Bases.{HasFrontier, HasMatrices, HasVectorRows};
+ghost use Rattle.lif_compiler.specs.Bases.{HasMatrices, HasNoLinks, HasUnitVectors};
 ghost use Rattle.lif_compiler.specs.Compiled.{marked_kind};
+ghost use Rattle.lif_compiler.specs.Tables.{grids_of};
 ghost use Rattle.lif_compiler.specs.Visits.{IsBegun};
 
 use crate::partial_code::PartialCode;
@@ -25,7 +24,7 @@ fn zero_vectors<F: Field>(
     links: u32,
     rate: u32,
 ) -> Result<Vec<Matrix<F>>, AllocError>
-    ensures { IfOk result (λ vectors. vectors.items ≡ replicate patterns (grid_of links rate F.zero)) }
+    ensures { IfOk result (λ vectors. vectors.items ≡ grids_of patterns links rate F.zero) }
 {
     let mut vectors = Vec::with_capacity(alloc, patterns)?;
     for _ in 0..patterns {
@@ -38,8 +37,8 @@ fn zero_vectors<F: Field>(
 fn unit_basis<F: Field>(alloc: Global, rate: u32) -> Result<Basis<F>, AllocError>
     requires some { 1 ≤ rate }
     requires few { rate ≤ 32 }
-    ensures frontier { IfOk result (λ basis. basis.frontier ≡ replicate rate None) }
-    ensures vectors { IfOk result (λ basis. basis.vectors.rows ≡ identity_of F.zero F.one rate) }
+    ensures frontier { IfOk result (HasNoLinks rate) }
+    ensures vectors { IfOk result (HasUnitVectors rate) }
     ensures matrices { IfOk result HasMatrices }
 {
     let basis = Basis::start(alloc, rate)?;
@@ -53,8 +52,8 @@ fn unit_bases<F: Field>(alloc: Global, count: usize, rate: u32) -> Result<Vec<Ba
     requires some { 1 ≤ rate }
     requires few { rate ≤ 32 }
     ensures count { IfOk result (λ bases. length bases.items ≡ count) }
-    ensures frontiers { IfOk result (λ bases. All (HasFrontier (replicate rate None)) bases.items) }
-    ensures vectors { IfOk result (λ bases. All (HasVectorRows (identity_of F.zero F.one rate)) bases.items) }
+    ensures frontiers { IfOk result (λ bases. All (HasNoLinks rate) bases.items) }
+    ensures vectors { IfOk result (λ bases. All (HasUnitVectors rate) bases.items) }
     ensures matrices { IfOk result (λ bases. All HasMatrices bases.items) }
 {
     let mut bases = Vec::with_capacity(alloc, count)?;

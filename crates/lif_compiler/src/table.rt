@@ -3,11 +3,10 @@ ghost use Rattle.std.specs.Prelude.{◌≡◌, ◌≢◌, ◌<◌, ◌≤◌, �
 ghost use Rattle.field_vectors.specs.Grid.{row_of};
 ghost use Rattle.gf_tables.specs.Kind.{IsOfKind};
 ghost use Rattle.gf_tables.specs.declared.kind.FieldKind.{FieldKind};
-ghost use Rattle.linear_algebra.specs.Rows.{dot};
-ghost use Rattle.node_program.specs.Carried.{numbers_at, source_vector};
+ghost use Rattle.node_program.specs.Carried.{numbers_at};
 ghost use Rattle.lif_compiler.specs.Bases.{HasWidth};
 ghost use Rattle.lif_compiler.specs.PartialCodes.{IsTableFor};
-ghost use Rattle.lif_compiler.specs.Tables.{AreAmong, AreNamed, AreOfShape, CanFeed};
+ghost use Rattle.lif_compiler.specs.Tables.{AreAmong, AreNamed, AreOfShape, CanFeed, product_by};
 
 use crate::Hop;
 use crate::partial_code::{PartialCode, leaves_source};
@@ -33,7 +32,7 @@ fn product<F: Field, L: Ledger>(
     requires width { inverses.now.columns ≡ vectors.now.columns }
     ensures element { F.is_element result }
     ensures value { (kind : FieldKind) → IsOfKind kind F.SIZE F.BYTES F.MARK F.product →
-        F.number result ≡ dot kind (source_vector leaves vectors.now.columns (numbers_at F.number vectors.now) from) (numbers_at F.number inverses.now path) }
+        F.number result ≡ product_by kind F.number leaves vectors.now inverses.now path from }
 {
     let _rows = inverses.rows();
     let _columns = vectors.columns();
@@ -62,8 +61,9 @@ fn fill_row<F: Field, L: Ledger>(
     requires width { inverses.now.columns ≡ vectors.now.columns }
     ensures columns { table.new.columns ≡ table.old.columns }
     ensures height { length table.new.rows ≡ length table.old.rows }
-    ensures products { (kind : FieldKind) → IsOfKind kind F.SIZE F.BYTES F.MARK F.product → numbers_at F.number table.new row
-        ≡ map (λ from. dot kind (source_vector leaves vectors.now.columns (numbers_at F.number vectors.now) from) (numbers_at F.number inverses.now path)) sources.now }
+    ensures products { (kind : FieldKind) → IsOfKind kind F.SIZE F.BYTES F.MARK F.product
+        → numbers_at F.number table.new row
+        ≡ map (product_by kind F.number leaves vectors.now inverses.now path) sources.now }
     ensures others { (other : ℕ) → other ≢ row → row_of table.new other ≡ row_of table.old other }
 {
     let _columns = table.columns();

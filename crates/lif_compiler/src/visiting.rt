@@ -33,7 +33,8 @@ impl<F: Field> PartialCode<F> {
         requires matrices { All HasMatrices self.old.bases.items }
         requires ready { (routes : Routes) × CanVisit net.now routes hops.now self.old }
         ensures rate { self.new.rate ≡ self.old.rate }
-        ensures count { OnOk result (length self.new.operands.items ≡ length self.old.operands.items + 1) }
+        ensures count { OnOk result
+            (length self.new.operands.items ≡ length self.old.operands.items + 1) }
         ensures matrices { OnOk result (All HasMatrices self.new.bases.items) }
         ensures visited { OnOk result (VisitsNext net.now hops.now self.old self.new) }
     {
@@ -75,7 +76,8 @@ impl<F: Field> PartialCode<F> {
         requires none { self.old.operands.items ≡ [] }
         requires matrices { All HasMatrices self.old.bases.items }
         requires ready { (routes : Routes)
-            × AreVisitable net.now self.old.rate routes hops.now × IsVisited net.now routes self.old }
+            × AreVisitable net.now self.old.rate routes hops.now
+            × IsVisited net.now routes self.old }
         ensures rate { self.new.rate ≡ self.old.rate }
         ensures whole { OnOk result (length self.new.operands.items ≡ length net.now.links) }
         ensures matrices { OnOk result (All HasMatrices self.new.bases.items) }
