@@ -1,10 +1,10 @@
 -- What is known after a link is visited: its operands fit it, its vector under each pattern is that of its operands, and
 -- each demand's basis stands behind it.
-use Rattle.std.specs.Prelude.{◌≡◌, ◌≢◌, ◌<◌, ◌&&◌, ◌%◌, nat_lt, ℕ, Bool, true, false, List, [], ◌++◌, ◌∷◌, All, Option, Some, length, map, slice_get, slice_index_or, if◌then◌else◌}
+use Rattle.std.specs.Prelude.{◌≡◌, ◌≢◌, ◌<◌, ◌&&◌, ◌%◌, nat_lt, ℕ, Bool, true, false, List, [], ◌++◌, ◌∷◌, All, Some, length, map, slice_get, slice_index_or, if◌then◌else◌}
 use Rattle.std.proofs.Common.{refl, sym, ap, ◌∙◌, arith, get_or, inl, inr, subst}
 use Rattle.std.proofs.Math.Seq.{get_or-append_seam}
 use Rattle.std.proofs.lemmas.Bool.{and_from, cases_eq, lt-ltb}
-use Rattle.std.proofs.lemmas.List.{get_or-map, get_or_append_left, length-append}
+use Rattle.std.proofs.lemmas.List.{get_or_append_left, length-append}
 use Rattle.std.proofs.lemmas.List.Elements.{All-weaker}
 use Rattle.std.proofs.lemmas.List.Sums.{list_all-from_AllPass}
 use Rattle.std.proofs.lemmas.Option.{get_or_from_slice_get, slice_get-get_or, slice_get_within}

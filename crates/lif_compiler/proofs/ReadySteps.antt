@@ -1,6 +1,6 @@
 -- What is known before a link is visited: the parts of the code fit one another, and on each path over the link what comes
 -- before it has a product with the path's inverse vector that isn't zero.
-use Rattle.std.specs.Prelude.{◌≡◌, ◌≢◌, ◌<◌, ◌≤◌, ◌-◌, ◌%◌, ℕ, Bool, true, false, IsTrue, List, [], ◌∷◌, All, Option, Some, length, map, replicate, slice_get, slice_index_or, if◌then◌else◌}
+use Rattle.std.specs.Prelude.{◌≡◌, ◌≢◌, ◌<◌, ◌≤◌, ◌-◌, ◌%◌, ℕ, Bool, true, false, IsTrue, List, [], ◌∷◌, All, Some, length, map, replicate, slice_get, slice_index_or, if◌then◌else◌}
 use Rattle.std.proofs.Common.{refl, sym, ap, ◌∙◌, arith, get_or, inl, inr, subst}
 use Rattle.std.proofs.Math.Path.{ap₂}
 use Rattle.std.proofs.lemmas.Bool.{cases_lt}

@@ -1,5 +1,5 @@
 -- How each demand's basis stands after a link is visited.
-use Rattle.std.specs.Prelude.{◌≡◌, ◌<◌, ◌+◌, ℕ, true, false, IsTrue, List, [], ◌++◌, ◌∷◌, All, Option, Some, length, map, slice_get, slice_index, slice_index_or, slice_set, ◌⊎◌}
+use Rattle.std.specs.Prelude.{◌≡◌, ◌<◌, ◌+◌, ℕ, true, false, IsTrue, List, [], ◌++◌, ◌∷◌, Option, Some, length, map, slice_get, slice_index, slice_index_or, slice_set, ◌⊎◌}
 use Rattle.std.proofs.Common.{refl, sym, ap, ◌∙◌, arith, get_or, inl, inr, subst}
 use Rattle.std.proofs.lemmas.Bool.{cases_Bool, cases_eq, cases_lt, both_ways}
 use Rattle.std.proofs.lemmas.List.{get_or-map, get_or_default, length-append, length-map, map-set}
@@ -13,7 +13,6 @@ use Rattle.net_model.specs.Failed.{failed_links}
 use Rattle.net_model.specs.Lists.{is_among, is_rising}
 use Rattle.net_model.specs.declared.net.Net.{Net}
 use Rattle.node_program.specs.Code.{are_in_order}
-use Rattle.node_program.specs.Value.{leaves_source}
 use Rattle.node_program.specs.declared.Operand.{Operand}
 use Rattle.sink_basis.specs.declared.basis.Basis.{Basis}
 use Rattle.lif_compiler.proofs.DraftLaws.{global_vector-more}

@@ -1,6 +1,6 @@
 -- Planning: the links of all routes with what comes before them, and the lists by link that they
 -- are added to.
-use Rattle.std.specs.Prelude.{◌≡◌, ◌<◌, ◌-◌, ◌==◌, ℕ, List, [], ◌∷◌, ◌++◌, Vec, filter, if◌then◌else◌, length, map, slice_get, slice_index, unwrap_or}
+use Rattle.std.specs.Prelude.{◌≡◌, ◌<◌, ◌==◌, ℕ, List, [], ◌∷◌, ◌++◌, Vec, filter, length, map, slice_get, slice_index, unwrap_or}
 use Rattle.std.specs.Global.{Global}
 use Rattle.std.specs.List.{flat_map, range_with_len}
 use Rattle.std.specs.Option.{option_map_or}

@@ -1,7 +1,7 @@
 -- The visits of links in order. After each, every demand has a basis over the vectors of its own
 -- pattern: each frontier link is the last visited link of its path, and its vector is what that
 -- link carries.
-use Rattle.std.specs.Prelude.{◌≡◌, ◌<◌, ◌≤◌, ℕ, List, [], All, Option, Some, length, map, replicate, slice_get, slice_index_or, unwrap_or}
+use Rattle.std.specs.Prelude.{◌≡◌, ◌<◌, ◌≤◌, ℕ, List, [], All, Some, length, map, replicate, slice_get, slice_index_or, unwrap_or}
 use Rattle.std.specs.declared.cmp.PartialEq.{Ghosts as EqualityWords}
 use Rattle.gf_tables.specs.declared.field.Field.{Ghosts as FieldWords}
 use Rattle.gf_tables.specs.declared.kind.FieldKind.{FieldKind}

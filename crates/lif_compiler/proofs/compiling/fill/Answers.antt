@@ -1,4 +1,4 @@
-use Rattle.std.proofs.Common.{◌∙◌, ◌≡◌, ◌<◌, ℕ, List, [], All, length, slice_index_or, arith, ap, subst, sym}
+use Rattle.std.proofs.Common.{◌∙◌, ℕ, List, [], All, length, slice_index_or, arith, ap, subst, sym}
 use Rattle.node_program.specs.Code.{IsCode}
 use Rattle.node_program.specs.declared.Operand.{Operand}
 use Rattle.lif_compiler.specs.Compiled.{marked_kind}

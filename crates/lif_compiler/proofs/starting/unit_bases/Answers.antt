@@ -1,6 +1,4 @@
-use Rattle.std.proofs.Common.{◌≡◌, ap, arith, length, length-append}
-use Rattle.std.specs.Prelude.{None, replicate}
-use Rattle.field_vectors.specs.Elements.{identity_of}
+use Rattle.std.proofs.Common.{ap, arith, length, length-append}
 use Rattle.lif_compiler.specs.Bases.{HasMatrices, HasNoLinks, HasUnitVectors}
 use Rattle.lif_compiler.proofs.StartSteps.{All-more}
 use Rattle.lif_compiler.proofs.starting.unit_bases.Goals as goal

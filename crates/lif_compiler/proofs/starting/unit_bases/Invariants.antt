@@ -1,6 +1,4 @@
 use Rattle.std.proofs.Common.{◌≡◌, All, length}
-use Rattle.std.specs.Prelude.{None, replicate}
-use Rattle.field_vectors.specs.Elements.{identity_of}
 use Rattle.lif_compiler.specs.Bases.{HasMatrices, HasNoLinks, HasUnitVectors}
 use Rattle.lif_compiler.proofs.starting.unit_bases.Given as goal
 

@@ -1,4 +1,4 @@
-use Rattle.std.proofs.Common.{◌≡◌, ◌<◌, ◌++◌, List, All, drop, length, replicate, take, arith, ap, ◌∙◌, refl, sym, subst, get_or}
+use Rattle.std.proofs.Common.{◌≡◌, ◌<◌, ◌++◌, List, All, drop, length, replicate, take, arith, ap, ◌∙◌, refl, sym, subst}
 use Rattle.std.proofs.lemmas.List.{take_at}
 use Rattle.field_vectors.specs.Grid.{Grid, row_of}
 use Rattle.node_program.specs.Value.{leaves_source}
