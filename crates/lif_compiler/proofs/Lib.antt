@@ -25,6 +25,7 @@ pub mod ChoosingSteps
 pub mod ReadySteps
 pub mod AfterSteps
 pub mod StandSteps
+pub mod VisitSteps
 pub mod StartSteps
 pub mod AllSteps
 pub mod BuildSteps
