@@ -1,7 +1,7 @@
 -- Steps of the visits of all links.
 use Rattle.std.specs.Prelude.{◌≡◌, ◌<◌, ℕ, List, length, slice_index_or}
 use Rattle.std.specs.declared.cmp.PartialEq.{Ghosts as EqualityWords}
-use Rattle.std.proofs.Common.{refl, sym, subst}
+use Rattle.std.proofs.Common.{◌∙◌, refl, sym, subst}
 use Rattle.std.proofs.lemmas.Option.{slice_get_read}
 use Rattle.gf_tables.specs.declared.field.Field.{Ghosts as FieldWords}
 use Rattle.net_model.specs.declared.net.Net.{Net}
@@ -21,7 +21,11 @@ module _ {X : Type 0} {F : FieldWords X} {E : EqualityWords X} {net : Net} {rate
   }
 
   -- what the visits of all links leave, at the rate that a code was begun with
-  pub visited_all : (first new : PartialCode X F E) → first.rate ≡ rate → IsBegun net first → VisitsAll net hops first new → IsVisited net routes new
-  visited_all first new same begun visits =
-      let here = subst (λ rate. AreVisitable net rate routes hops) (sym same) visitable in
-      visits routes here (begun routes here.routes_fit)
+  module _ (first new : PartialCode X F E) (begun_at : first.rate ≡ rate) (kept : new.rate ≡ first.rate) (begun : IsBegun net first) (visits : VisitsAll net hops first new) where
+    pub routes_all : AreRoutes net new.rate routes
+    routes_all = subst (λ rate. AreRoutes net rate routes) (sym (kept ∙ begun_at)) visitable.routes_fit
+
+    pub visited_all : IsVisited net routes new
+    visited_all =
+        let here = subst (λ rate. AreVisitable net rate routes hops) (sym begun_at) visitable in
+        visits routes here (begun routes here.routes_fit)

@@ -63,8 +63,8 @@ module _ {A : Type 0} (field : FieldKind) (number : A → ℕ) (operands : List 
       }
 
 -- the same, by equal links, operands and matrices
-pub carried_at : {A : Type 0} (field : FieldKind) (number : A → ℕ) (net : Net) (link link' : ℕ) (operands operands' : List Operand) (old old' new : List (Grid A)) → link ≡ link' → operands ≡ operands' → old ≡ old'
+pub carried_at : {A : Type 0} {field : FieldKind} {number : A → ℕ} {net : Net} {link link' : ℕ} {operands operands' : List Operand} {old old' new : List (Grid A)} → link ≡ link' → operands ≡ operands' → old ≡ old'
     → AreCarried field number net link operands old new → AreCarried field number net link' operands' old' new
-carried_at field number net link link' operands operands' old old' new l o v is =
+carried_at {A} {field} {number} {net} {link} {link'} {operands} {operands'} {old} {old'} {new} l o v is =
     subst (λ link. AreCarried field number net link operands' old' new) l
     (subst (λ operands. AreCarried field number net link operands old' new) o (subst (λ old. AreCarried field number net link operands old new) v is))

@@ -61,7 +61,7 @@ module _ {X : Type 0} {F : FieldWords X} {E : EqualityWords X} (L : LawsOf F) {n
       -- after they are made
       module _ (vectors : List (Grid X)) (vectors_are : vectors ≡ code.vectors.items) (new : List (Grid X)) (carried : AreCarried (marked_kind F.MARK) F.number net link given vectors new) where
         pub carried_here : AreCarried (marked_kind F.MARK) F.number net (length code.operands.items) operands code.vectors.items new
-        carried_here = carried_at (marked_kind F.MARK) F.number net link (length code.operands.items) given operands vectors code.vectors.items new link_is given_are vectors_are carried
+        carried_here = carried_at link_is given_are vectors_are carried
 
         pub new_back : (count : ℕ) → count ≡ length code.vectors.items → take count (new ++ drop (length new) code.vectors.items) ≡ new
         new_back count whole = written_back code.vectors.items new count whole carried_here.each_pattern

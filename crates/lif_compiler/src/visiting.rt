@@ -60,9 +60,7 @@ impl<F: Field> PartialCode<F> {
         self.operands.push(operands)?;
         Ok(())
     }
-}
 
-impl<F: Field> PartialCode<F> {
     /// Visits all links in order, over which these are the hops.
     pub fn visit_all<L: Ledger>(
         &mut self,
