@@ -107,7 +107,7 @@ pub record AreVisitable (net : Net) (rate : ℕ) (routes : Routes)
   pub hops_over : HaveHops routes hops
 
 module _ {X : Type 0} {F : FieldWords X} {E : EqualityWords X} where
-  -- a code in which no link is visited yet
+  -- a code that is begun: by all routes of its rate, the links before the next one are visited
   abbrev pub IsBegun : Net → PartialCode X F E → Type 0
   IsBegun net code = (routes : Routes) → AreRoutes net code.rate routes → IsVisited net routes code
 
