@@ -22,7 +22,7 @@ use Rattle.node_program.specs.Value.{leaves_source}
 use Rattle.node_program.specs.declared.Operand.{Operand}
 use Rattle.lif_compiler.specs.Compiled.{Feeds, IsPrintedPath}
 use Rattle.lif_compiler.proofs.HopLaws.{hop-before_first, hop-before_inner, hop-demand, hop-leaves, hop-path}
-use Rattle.lif_compiler.specs.Hops.{IsHop, route_of}
+use Rattle.lif_compiler.specs.Hops.{IsHop, Routes, route_of}
 use Rattle.lif_compiler.proofs.RouteLaws.{IsFlow-below, IsFlow-routes, cert_of, length-routes, routes-count, routes_there}
 use Rattle.lif_compiler.specs.Routes.{renumbered_paths, routes_of_certs}
 use Rattle.lif_compiler.specs.Visits.{AreRoutes, IsOfHop, paths_of}
@@ -31,7 +31,7 @@ use Rattle.lif_compiler.specs.declared.hops.Hop.{Hop}
 module _ (net new : Net) (certs : List Cert) (order : List ℕ) (rate : ℕ) (choice : FieldChoice)
     (are : AreCertificates net certs) (once : HasEachOnce (length net.links) order) (renumbered : IsRenumbered order choice net new)
     (enough : All (λ cert. rate ≤ length cert.paths) certs) where
-  abbrev routes : List (List (List ℕ))
+  abbrev routes : Routes
   routes = routes_of_certs order rate certs
 
   -- there are as many patterns with new numbers

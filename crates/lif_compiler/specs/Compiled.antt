@@ -1,4 +1,5 @@
--- What the compiler makes of a network: a code of the network's rate, and certificates of that rate.
+-- What the compiler makes of a network: a code of the network's rate, and certificates of that
+-- rate.
 use Rattle.std.specs.Prelude.{◌≡◌, ◌<◌, ◌≤◌, ◌+◌, ◌==◌, ℕ, List, Bool, true, false, length, map, slice_get, slice_index, All, Some, if◌then◌else◌}
 use Rattle.gf_tables.specs.Product.{mark_of, size_of}
 use Rattle.gf_tables.specs.declared.kind.FieldKind.{FieldKind}
@@ -45,19 +46,22 @@ pub record IsFirstOf (rate : ℕ) (certs : List Cert) (number link : ℕ) : Type
   pub some : 0 < length path
   pub first : slice_index path 0 ≡ link
 
--- what an operand is of a link, by whether that leaves the source: the number of a path that the link begins, or else a
--- link directly before it
+-- what an operand is of a link, by whether that leaves the source: the number of a path that the
+-- link begins, or else a link directly before it
 abbrev pub Feeds : Bool → List ℕ → ℕ → List Cert → ℕ → ℕ → Type 0
 Feeds true order rate certs from link = IsFirstOf rate certs from (old_number order link)
-Feeds false order rate certs from link = StandsBefore rate certs (old_number order from) (old_number order link)
+Feeds false order rate certs from link =
+    StandsBefore rate certs (old_number order from) (old_number order link)
 
 -- an operand of a link of a code comes from the printed paths, whose links have their old numbers
 abbrev pub IsOfPaths : List ℕ → List Cert → Code → ℕ → Operand → Type 0
-IsOfPaths order certs code link operand = Feeds (leaves_source code.net link) order code.rate certs operand.from link
+IsOfPaths order certs code link operand =
+    Feeds (leaves_source code.net link) order code.rate certs operand.from link
 
--- An accepted code of the network, with its links in order; its rate is the least value of the certificates of all
--- demands, and its operands come from their paths.
-pub record IsCompiled (net : Net) (field : FieldKind) (code : Code) (certs : List Cert) : Type 0 where
+-- An accepted code of the network, with its links in order; its rate is the least value of the
+-- certificates of all demands, and its operands come from their paths.
+pub record IsCompiled (net : Net) (field : FieldKind) (code : Code)
+    (certs : List Cert) : Type 0 where
   pub acyclic : IsAcyclic net.links
   pub served : demand_count net ≤ size_of field
   pub certified : AreCertificates net certs
@@ -67,4 +71,5 @@ pub record IsCompiled (net : Net) (field : FieldKind) (code : Code) (certs : Lis
   pub is_least : IsLeastValue certs least
   pub rate : code.rate ≡ least
   pub accepted : IsAccepted code
-  pub of_paths : (link : ℕ) → link < length net.links → All (IsOfPaths (order_of net.links) certs code link) (operands_at code.operands link)
+  pub of_paths : (link : ℕ) → link < length net.links
+      → All (IsOfPaths (order_of net.links) certs code link) (operands_at code.operands link)

@@ -10,7 +10,7 @@ use sink_basis::Basis;
 
 /// What stands of a code after some links were visited, and what shows that all demands can decode in the end.
 #[derive(Drop)]
-pub struct Draft<F: Field> {
+pub struct PartialCode<F: Field> {
     /// The rate.
     pub rate: u32,
     /// The operands of the visited links.

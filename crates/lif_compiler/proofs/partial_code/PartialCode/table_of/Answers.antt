@@ -2,8 +2,8 @@ use Rattle.std.proofs.Common.{◌<◌, ◌%◌, ◌∙◌, length, slice_index_o
 use Rattle.std.proofs.lemmas.Option.{slice_get-get_or, slice_get_within}
 use Rattle.field_vectors.specs.Grid.{Grid}
 use Rattle.lif_compiler.specs.declared.hops.Hop.{Hop}
-use Rattle.lif_compiler.proofs.TableSteps.{inverses_at, products_same, table_more, vectors_at}
-use Rattle.lif_compiler.proofs.draft.Draft.table_of.Goals as goal
+use Rattle.lif_compiler.proofs.TableSteps.{inverses_read, products_same, table_more, vectors_read}
+use Rattle.lif_compiler.proofs.partial_code.PartialCode.table_of.Goals as goal
 
 pub loop-row-preserved : goal.loop-row-preserved
 loop-row-preserved g c =
@@ -21,8 +21,8 @@ loop-row-preserved g c =
     (λ kind of_kind. c.fill_row.ensures.products kind of_kind
     ∙ products_same kind F.number c.leaves_source-leaves.result _ c.index-vectors.result.now.columns c.args.self.now.rate c.args.sources.now c.index-vectors.result.now _ c.index.result.now.inverses _ hop.path
     c.leaves_source-leaves.ensures (ap (λ (m : Grid g.row.F.Denot). m.columns) c.index-vectors.ensures ∙ (c.requires.vectors (hop.demand % c.len.result) c.index-vectors.result.now place).1)
-    (vectors_at vectors hop.demand c.len.result c.index-vectors.result.now c.requires.some_pattern (omega (arith, c.len.ensures)) c.index-vectors.ensures)
-    (inverses_at _ c.args.self.now.bases.items hop.demand c.index.result.now among.0 c.index.ensures))
+    (vectors_read vectors hop.demand c.len.result c.index-vectors.result.now c.requires.some_pattern (omega (arith, c.len.ensures)) c.index-vectors.ensures)
+    (inverses_read c.args.self.now.bases.items hop.demand c.index.result.now among.0 c.index.ensures))
 
 pub returns : goal.returns
 returns g c = λ kind of_kind.
