@@ -3,8 +3,8 @@ use Rattle.std.proofs.Common.{◌≡◌, ◌≢◌, ◌⊎◌, inl, inr, ℕ, �
 use Rattle.std.proofs.Math.Path.{ap₂}
 use Rattle.std.specs.List.{All}
 use Rattle.std.proofs.lemmas.Bool.{cases_lt}
-use Rattle.std.proofs.lemmas.List.{length-set}
-use Rattle.std.proofs.lemmas.List.Elements.{All-set, All-get_or}
+use Rattle.std.proofs.lemmas.List.{length-set, length-replicate}
+use Rattle.std.proofs.lemmas.List.Elements.{All-set, All-get_or, All-replicate}
 use Rattle.field_vectors.proofs.CutLaws.{length-cut, get_or-cut, cut-with_part, cut-set, cut-replicate, cut-widths, cut-elements, with_part-AreEntries}
 use Rattle.linear_algebra.proofs.EntryLaws.{row_end}
 use Rattle.field_vectors.specs.Cut.{cut, grid_in, AreEntries, with_part}
@@ -17,6 +17,14 @@ grid_in-zeros {A} count width entries n value filled all =
     let same : n ≡ count * width = omega arith in
     let make : List (List A) → Grid A = λ rows. record { columns = width; rows = rows } in
     ap make (ap (cut count width) (filled ∙ ap (λ k. replicate k value) same) ∙ cut-replicate count width value)
+
+-- and they are the entries of a matrix where the value is an element
+pub zeros-entries : {A : Type 0} (P : A → Type 0) (count width : ℕ) (entries : List A) (n : ℕ) (value : A) → P value → entries ≡ replicate n value → n ≡ count * width + 0
+    → AreEntries P count width entries
+zeros-entries P count width entries n value element filled all = record {
+  all = omega (arith, ap length filled, length-replicate n value);
+  elements = rw filled (All-replicate P n value element);
+}
 
 -- a range of entries is a row
 pub range-row : {A : Type 0} (count width i start end : ℕ) (entries : List A) → i < count → start ≡ i * width + 0 → end ≡ i * width + width

@@ -1,7 +1,7 @@
 use Rattle.std.proofs.Common.{◌<◌, length, arith, ap, ◌∙◌, sym, subst, get_or}
 use Rattle.std.proofs.lemmas.List.{get_or_read}
 use Rattle.std.proofs.lemmas.List.Elements.{All-get_or}
-use Rattle.field_vectors.proofs.CutLaws.{get_or-cut_entry}
+use Rattle.field_vectors.proofs.CutLaws.{get_or-cut_entry, entries-IsMatrix}
 use Rattle.linear_algebra.proofs.EntryLaws.{place_within}
 use Rattle.field_vectors.proofs.GridSteps.{row_below, columns_are}
 use Rattle.field_vectors.specs.Grid.{entry_of}
@@ -45,3 +45,8 @@ returns-clause-value g c =
     read ∙ ap (λ p. get_or xs p g.F.Field.zero) c.place_of.ensures
     ∙ sym (get_or-cut_entry m.row_count m.column_count c.args.i c.args.j xs g.F.Field.zero (below g s) (inside g s))
     ∙ ap (λ v. entry_of g.F.Field.zero v c.args.i c.args.j) c.self.view_is
+
+pub returns-clause-kept : goal.returns-clause-kept
+returns-clause-kept g c =
+    let m = c.self.inside in
+    rw (← c.self.view_is) (entries-IsMatrix g.F.Field.is_element m.row_count m.column_count m.entries.items c.self.invariant)
