@@ -2,7 +2,7 @@
 ghost use Rattle.std.specs.Prelude.{◌≡◌, ◌≢◌, ◌<◌, length, All, IfOk, slice_set};
 ghost use Rattle.counted_steps.specs.Steps.{RoseBy};
 ghost use Rattle.field_vectors.specs.Elements.{plus_multiple, multiple_of};
-ghost use Rattle.field_vectors.specs.Grid.{row_of, entry_of, with_row, grid_of, IsMatrix};
+ghost use Rattle.field_vectors.specs.Grid.{row_of, entry_of, with_row, grid_of, AreMatrices, IsMatrix};
 
 use crate::parts::{add_part, copy_to_part, part, place_of, scale_part, zeros};
 use counted_steps::Steps;
@@ -102,7 +102,7 @@ impl<F: Field> Matrix<F> {
         requires row { i < length self.old.rows }
         requires column { j < self.old.columns }
         ensures value { self.new ≡ with_row self.old i (slice_set (row_of self.old i) j value) }
-        ensures kept { IsMatrix F.is_element self.new }
+        ensures kept { AreMatrices F.is_element self.old self.new }
     {
         let _number = value.number();
         let place = place_of(i, j, self.column_count);
@@ -114,7 +114,7 @@ impl<F: Field> Matrix<F> {
         requires row { i < length self.old.rows }
         requires width { length from.now ≡ self.old.columns }
         ensures value { self.new ≡ with_row self.old i from.now }
-        ensures kept { IsMatrix F.is_element self.new }
+        ensures kept { AreMatrices F.is_element self.old self.new }
     {
         let columns = self.column_count;
         let start = place_of(i, 0, columns);
@@ -126,7 +126,7 @@ impl<F: Field> Matrix<F> {
     pub fn scale_row<L: Ledger>(&mut self, i: u32, by: F, steps: &mut Steps<L>)
         requires { i < length self.old.rows }
         ensures value { self.new ≡ with_row self.old i (multiple_of F.mul by (row_of self.old i)) }
-        ensures kept { IsMatrix F.is_element self.new }
+        ensures kept { AreMatrices F.is_element self.old self.new }
         ensures ticks { RoseBy self.old.columns steps.old steps.new }
     {
         let _number = by.number();
@@ -143,7 +143,7 @@ impl<F: Field> Matrix<F> {
         requires apart { i ≢ j }
         ensures value { self.new ≡ with_row self.old i
             (plus_multiple F.add F.mul (row_of self.old i) by (row_of self.old j)) }
-        ensures kept { IsMatrix F.is_element self.new }
+        ensures kept { AreMatrices F.is_element self.old self.new }
         ensures ticks { RoseBy self.old.columns steps.old steps.new }
     {
         let _number = by.number();

@@ -13,10 +13,10 @@ use Rattle.field_vectors.proofs.DifferenceLaws.{same_made, get_or-column_of, len
 use Rattle.field_vectors.proofs.DotOfLaws.{identity_entry-comm, identity_entry-on, identity_entry-off, identity_entry-element, get_or-unit_of, add-nought, mul-nought, mul-one, unit_of-elements, dot_of-element, dot_of-comm, dot_of-plus_multiple, dot_of-multiple_of, dot_of-set, dot_of-rows, dot_of-unit_of, unit_of-dot_of}
 use Rattle.field_vectors.specs.Elements.{dot_of, column_of, plus_multiple, unit_of, identity_of}
 use Rattle.field_vectors.proofs.ElementsLaws.{length-plus_multiple, get_or-plus_multiple, get_or-multiple_of, plus_multiple-elements}
-use Rattle.field_vectors.specs.Grid.{Grid, row_of, with_row, IsMatrix}
+use Rattle.field_vectors.specs.Grid.{AreMatrices, Grid, row_of, with_row, IsMatrix}
 use Rattle.field_vectors.proofs.GridLaws.{IsMatrix-map, length-row_of, row_of-elements, row_of-with_row, row_of-with_other}
 use Rattle.field_vectors.proofs.InverseLaws.{column_of-elements}
-use Rattle.sink_basis.specs.Basis.{AreMatrices, IsBasis, IsNumbered}
+use Rattle.sink_basis.specs.Basis.{IsBasis, IsNumbered}
 use Rattle.sink_basis.specs.Renewal.{IsRenewed}
 
 -- a row of the identity

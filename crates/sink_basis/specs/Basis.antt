@@ -1,15 +1,11 @@
 -- Bases of the vectors of one length, and their inverse vectors.
 use Rattle.std.specs.Prelude.{◌≡◌, ◌<◌, ◌==◌, ℕ, length, if◌then◌else◌}
 use Rattle.field_vectors.specs.Elements.{column_of, dot_of}
-use Rattle.field_vectors.specs.Grid.{Grid, IsMatrix, row_of}
+use Rattle.field_vectors.specs.Grid.{Grid, row_of}
 
 -- it is the element of its number, as just the elements are
 abbrev pub IsNumbered : {A : Type 0} → (A → ℕ) → (ℕ → A) → ℕ → A → Type 0
 IsNumbered number of_number size x = (number x < size) × (of_number (number x) ≡ x)
-
--- the vectors of a basis and their inverse vectors are matrices of elements
-abbrev pub AreMatrices : {A : Type 0} → (A → Type 0) → Grid A → Grid A → Type 0
-AreMatrices is_element vectors inverses = IsMatrix is_element vectors × IsMatrix is_element inverses
 
 -- so many vectors of that length and as many inverse vectors: the product of vector j and inverse k is one for j = k
 -- and zero otherwise, and so is the product of place i of the inverses and place j of the vectors

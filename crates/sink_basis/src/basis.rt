@@ -2,8 +2,8 @@
 ghost use Rattle.std.specs.Prelude.{◌≡◌, ◌≢◌, ◌*◌, ◌<◌, ◌≤◌, length, None, Some, replicate, slice_set, IfOk, OnOk, OnErr};
 ghost use Rattle.counted_steps.specs.Steps.{RoseByAtMost};
 ghost use Rattle.field_vectors.specs.Elements.{dot_of, identity_of};
-ghost use Rattle.field_vectors.specs.Grid.{row_of, with_row};
-ghost use Rattle.sink_basis.specs.Basis.{AreMatrices, IsBasis, IsNumbered};
+ghost use Rattle.field_vectors.specs.Grid.{AreMatrices, row_of, with_row};
+ghost use Rattle.sink_basis.specs.Basis.{IsBasis, IsNumbered};
 
 use crate::renewal::{identity, no_links, renew_inverses};
 use counted_steps::Steps;

@@ -15,7 +15,7 @@ loop-i-preserved g c =
     let m = c.loop-i.matrix in
     let i = c.loop-i.i in
     record {
-      kept = c.set.ensures.kept;
+      kept = c.set.ensures.kept.1;
       filled =
           identity-more F.zero F.one c.args.size m c.set.new.self i (omega arith) c.loop-i.invariant.filled
           (c.set.ensures.value ∙ ap (λ x. with_row m i (set (row_of m i) i x)) c.one.ensures.value);

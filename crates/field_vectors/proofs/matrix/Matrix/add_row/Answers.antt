@@ -4,7 +4,7 @@ use Rattle.std.proofs.lemmas.List.{with_items_is}
 use Rattle.std.specs.List.{All}
 use Rattle.std.specs.Vec.{with_items}
 use Rattle.field_vectors.proofs.CutLaws.{entries-IsMatrix}
-use Rattle.field_vectors.proofs.GridSteps.{row_below, columns_are, range-row, range-within, rows_apart, row-width, row-elements, grid_in-with_part, with_part-entries}
+use Rattle.field_vectors.proofs.GridSteps.{shown-IsMatrix, row_below, columns_are, range-row, range-within, rows_apart, row-width, row-elements, grid_in-with_part, with_part-entries}
 use Rattle.field_vectors.specs.Cut.{cut, AreEntries, with_part}
 use Rattle.field_vectors.specs.Elements.{plus_multiple}
 use Rattle.field_vectors.proofs.ElementsLaws.{length-plus_multiple, plus_multiple-elements}
@@ -84,8 +84,10 @@ invariant_of-self g c = kept g (goal.at.invariant_of-self g c).After-add_part
 
 pub returns-clause-kept : goal.returns-clause-kept
 returns-clause-kept g c =
+    let P = g.F.Field.is_element in
     let m = c.self.inside in
-    entries-IsMatrix g.F.Field.is_element m.row_count m.column_count _ (kept g (goal.at.returns-clause-kept g c).After-add_part)
+    let before = shown-IsMatrix P m.row_count m.column_count m.entries.items c.args.self.now c.self.view_is c.self.invariant in
+    (before, entries-IsMatrix P m.row_count m.column_count _ (kept g (goal.at.returns-clause-kept g c).After-add_part))
 
 pub returns-clause-value : goal.returns-clause-value
 unfolding row_made

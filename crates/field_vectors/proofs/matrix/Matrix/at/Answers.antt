@@ -1,9 +1,9 @@
 use Rattle.std.proofs.Common.{◌<◌, length, arith, ap, ◌∙◌, sym, subst, get_or}
 use Rattle.std.proofs.lemmas.List.{get_or_read}
 use Rattle.std.proofs.lemmas.List.Elements.{All-get_or}
-use Rattle.field_vectors.proofs.CutLaws.{get_or-cut_entry, entries-IsMatrix}
+use Rattle.field_vectors.proofs.CutLaws.{get_or-cut_entry}
 use Rattle.linear_algebra.proofs.EntryLaws.{place_within}
-use Rattle.field_vectors.proofs.GridSteps.{row_below, columns_are}
+use Rattle.field_vectors.proofs.GridSteps.{shown-IsMatrix, row_below, columns_are}
 use Rattle.field_vectors.specs.Grid.{entry_of}
 use Rattle.field_vectors.proofs.matrix.Matrix.at.Goals as goal
 use Rattle.field_vectors.proofs.matrix.Matrix.at.Goals.{After-place_of}
@@ -49,4 +49,4 @@ returns-clause-value g c =
 pub returns-clause-kept : goal.returns-clause-kept
 returns-clause-kept g c =
     let m = c.self.inside in
-    rw (← c.self.view_is) (entries-IsMatrix g.F.Field.is_element m.row_count m.column_count m.entries.items c.self.invariant)
+    shown-IsMatrix g.F.Field.is_element m.row_count m.column_count m.entries.items c.args.self.now c.self.view_is c.self.invariant

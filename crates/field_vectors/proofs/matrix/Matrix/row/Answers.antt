@@ -1,6 +1,5 @@
 use Rattle.std.proofs.Common.{◌≡◌, ◌<◌, length, arith, ap, ◌∙◌, slice_range}
-use Rattle.field_vectors.proofs.CutLaws.{entries-IsMatrix}
-use Rattle.field_vectors.proofs.GridSteps.{row_below, range-row, range-within, row-width, row-elements}
+use Rattle.field_vectors.proofs.GridSteps.{shown-IsMatrix, row_below, range-row, range-within, row-width, row-elements}
 use Rattle.field_vectors.specs.Grid.{row_of}
 use Rattle.field_vectors.proofs.matrix.Matrix.row.Goals as goal
 use Rattle.field_vectors.proofs.matrix.Matrix.row.Goals.{After-part}
@@ -44,4 +43,4 @@ returns-clause-elements g c =
 pub returns-clause-kept : goal.returns-clause-kept
 returns-clause-kept g c =
     let m = c.self.inside in
-    rw (← c.self.view_is) (entries-IsMatrix g.F.Field.is_element m.row_count m.column_count m.entries.items c.self.invariant)
+    shown-IsMatrix g.F.Field.is_element m.row_count m.column_count m.entries.items c.args.self.now c.self.view_is c.self.invariant

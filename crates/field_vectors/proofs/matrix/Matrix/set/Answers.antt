@@ -1,7 +1,7 @@
 use Rattle.std.proofs.Common.{◌<◌, arith, refl}
 use Rattle.linear_algebra.proofs.EntryLaws.{place_within}
 use Rattle.field_vectors.proofs.CutLaws.{entries-IsMatrix}
-use Rattle.field_vectors.proofs.GridSteps.{row_below, columns_are, grid_in-set, set-entries}
+use Rattle.field_vectors.proofs.GridSteps.{shown-IsMatrix, row_below, columns_are, grid_in-set, set-entries}
 use Rattle.field_vectors.proofs.matrix.Matrix.set.Goals as goal
 use Rattle.field_vectors.proofs.matrix.Matrix.set.Goals.{After-place_of-place}
 
@@ -34,4 +34,5 @@ returns-clause-kept g c =
     let P = g.F.Field.is_element in
     let m = c.self.inside in
     let entries = set-entries P m.row_count m.column_count c.place_of-place.result m.entries.items c.args.value c.self.invariant c.number-number.ensures.element in
-    entries-IsMatrix P m.row_count m.column_count _ entries
+    let before = shown-IsMatrix P m.row_count m.column_count m.entries.items c.args.self.now c.self.view_is c.self.invariant in
+    (before, entries-IsMatrix P m.row_count m.column_count _ entries)

@@ -18,13 +18,13 @@ invariant_of-self g c =
     let put = c.put_row.ensures.value in
     let tall : path < length c.put_row.new.self.rows = omega (arith, ap (λ m. length m.rows) put, length-set old.vectors.rows path v, high) in
     let row : row_of c.put_row.new.self path ≡ v = ap (λ m. row_of m path) put ∙ row_of-with_row old.vectors path v high in
-    let elements : All F.is_element v = subst (All F.is_element) row (row_of-elements c.put_row.new.self path c.put_row.ensures.kept tall) in
+    let elements : All F.is_element v = subst (All F.is_element) row (row_of-elements c.put_row.new.self path c.put_row.ensures.kept.1 tall) in
     let made =
     renewed-IsBasis g.met.F.Field.field (length old.frontier) path v old.vectors old.inverses c.renew_inverses.new.inverses old.basis matrices.0 matrices.1
     elements c.requires.path c.requires.width c.requires.nonzero c.renew_inverses.ensures.renewed
     in
     record {
       basis = rw (put, size) made;
-      matrices = AreMatrices-numbered N _ _ (c.put_row.ensures.kept, c.renew_inverses.ensures.renewed.kept);
+      matrices = AreMatrices-numbered N _ _ (c.put_row.ensures.kept.1, c.renew_inverses.ensures.renewed.kept);
       few = rw size old.few;
     }
