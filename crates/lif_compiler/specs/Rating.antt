@@ -1,5 +1,5 @@
 -- Which certificate shows the rate of a network.
-use Rattle.std.specs.Prelude.{◌≡◌, ◌≢◌, ◌<◌, ◌×◌, ℕ, List, Some, slice_get}
+use Rattle.std.specs.Prelude.{◌≡◌, ◌≢◌, ◌<◌, ℕ, List, Some, slice_get}
 use Rattle.cut_witness.specs.declared.cert.Cert.{Cert}
 
 -- the first certificate of a value has this number
