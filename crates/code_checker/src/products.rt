@@ -76,12 +76,10 @@ fn matrix_of<F: Field>(alloc: Global, code: &Code, demand: u32) -> Result<Matrix
     let mut matrix = Matrix::zeros(alloc, rate, rate)?;
     for i in 0..rate {
         for j in 0..rate {
-            let _rows = matrix.rows();
             let entry = entries[i as usize * rate as usize + j as usize];
             matrix.set(i, j, F::of_number(entry));
         }
     }
-    let _rows = matrix.rows();
     Ok(matrix)
 }
 
@@ -101,6 +99,5 @@ fn carried_by<F: Field>(
     for i in 0..code.rate {
         carried.put_row(i, vectors.row(links[i as usize]));
     }
-    let _rows = carried.rows();
     Ok(carried)
 }

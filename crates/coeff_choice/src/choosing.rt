@@ -1,5 +1,5 @@
 //! The choice of coefficients.
-ghost use Rattle.std.specs.Prelude.{◌≡◌, ◌≢◌, ◌+◌, ◌*◌, ◌<◌, ◌≤◌, ℕ, true, false, length, slice_index_or, slice_set, replicate, IfOk};
+ghost use Rattle.std.specs.Prelude.{◌≡◌, ◌≢◌, ◌+◌, ◌*◌, ◌^◌, ◌<◌, ◌≤◌, ℕ, true, false, length, slice_index_or, slice_set, replicate, IfOk};
 ghost use Rattle.counted_steps.specs.Steps.{RoseBy, RoseByAtMost};
 ghost use Rattle.field_vectors.specs.Elements.{dot_of};
 ghost use Rattle.field_vectors.specs.Grid.{row_of, entry_of};
@@ -79,12 +79,12 @@ fn mark_forbidden<F: Field, L: Ledger>(
 )
     requires rows { length products.now ≤ length table.now.rows }
     requires column { place < table.now.columns }
+    requires few { length products.now < 2 ^ 32 }
     requires nonzero { (row : ℕ) → row < length products.now → slice_index_or products.now row F.zero ≢ F.zero }
     ensures marked { IsMarked F.zero F.mul F.inv F.number table.now place products.now (length products.now) marks.new }
     ensures ticks { RoseBy (2 * length products.now) steps.old steps.new }
 {
     marks.fill(false);
-    let _rows = table.rows();
     for row in 0..products.len() {
         let inverse = products[row].inv();
         steps.tick();
@@ -122,13 +122,13 @@ fn allowed_number<F: Field, L: Ledger>(
     requires rows { length products.now < length table.now.rows }
     requires column { place < table.now.columns }
     requires marks { length products.now < length marks.old }
+    requires few { length products.now < 2 ^ 32 }
     requires nonzero { (row : ℕ) → row < length products.now → slice_index_or products.now row F.zero ≢ F.zero }
     ensures below { result ≤ length products.now }
     ensures allowed { (row : ℕ) → row < length products.now →
         F.number (forbidden_at F.zero F.mul F.inv table.now place products.now row) ≢ result }
     ensures ticks { RoseBy (2 * length products.now) steps.old steps.new }
 {
-    let _rows = table.rows();
     let used = &mut marks[..products.len() + 1];
     mark_forbidden(products, table, place, used, steps);
     first_unmarked(used) as u32
@@ -161,7 +161,6 @@ impl<F: Field> Choosing<F> {
             self.new.coefficients.items self.new.products.items self.new.marks.items }
         ensures ticks { RoseBy (table.now.columns + 3 * row) steps.old steps.new }
     {
-        let _columns = table.columns();
         let at = row as usize;
         let products = self.products.as_mut_slice();
         let number = allowed_number(
@@ -195,7 +194,6 @@ impl<F: Field> Choosing<F> {
             self.new.coefficients.items self.new.products.items self.new.marks.items }
         ensures ticks { RoseByAtMost (2 * table.now.columns + 3 * row) steps.old steps.new }
     {
-        let _columns = table.columns();
         let product = dot(self.coefficients.as_slice(), table.row(row), steps);
         if product == F::zero() {
             self.change(table, row, place, steps);

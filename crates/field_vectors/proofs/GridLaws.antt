@@ -5,6 +5,10 @@ use Rattle.std.proofs.lemmas.List.{get_or-set_same, get_or-set_other}
 use Rattle.std.proofs.lemmas.List.Elements.{All-set, All-get_or}
 use Rattle.field_vectors.specs.Grid.{Grid, row_of, entry_of, with_row, IsMatrix}
 
+-- what holds of each element holds of each entry
+pub IsMatrix-map : {A : Type 0} {P Q : A → Type 0} (m : Grid A) → ((x : A) → P x → Q x) → IsMatrix P m → IsMatrix Q m
+IsMatrix-map m to h = record { widths = h.widths; elements = λ i row below j x inside. to _ (h.elements i row below j x inside) }
+
 -- a row of a matrix has an entry for each column
 pub length-row_of : {A : Type 0} {P : A → Type 0} (m : Grid A) (i : ℕ) → IsMatrix P m → i < length m.rows → length (row_of m i) ≡ m.columns
 length-row_of {A} m i h below = All-get_or (λ (row : List A). length row ≡ m.columns) m.rows i [] below h.widths

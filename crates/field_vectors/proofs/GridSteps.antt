@@ -1,14 +1,14 @@
 -- What reads and writes of entries do to a matrix.
-use Rattle.std.proofs.Common.{◌≡◌, ◌≢◌, ◌⊎◌, inl, inr, ℕ, ◌+◌, ◌*◌, ◌-◌, ◌<◌, ◌≤◌, List, [], length, get_or, set, take, drop, replicate, sym, ap, ◌∙◌, arith, slice_range}
+use Rattle.std.proofs.Common.{◌≡◌, ◌≢◌, ◌⊎◌, inl, inr, ℕ, ◌+◌, ◌*◌, ◌-◌, ◌<◌, ◌≤◌, List, [], length, get_or, set, take, drop, replicate, sym, subst, ap, ◌∙◌, arith, slice_range}
 use Rattle.std.proofs.Math.Path.{ap₂}
 use Rattle.std.specs.List.{All}
 use Rattle.std.proofs.lemmas.Bool.{cases_lt}
-use Rattle.std.proofs.lemmas.List.{length-set}
-use Rattle.std.proofs.lemmas.List.Elements.{All-set, All-get_or}
-use Rattle.field_vectors.proofs.CutLaws.{length-cut, get_or-cut, cut-with_part, cut-set, cut-replicate, cut-widths, cut-elements, with_part-AreEntries}
+use Rattle.std.proofs.lemmas.List.{length-set, length-replicate}
+use Rattle.std.proofs.lemmas.List.Elements.{All-set, All-get_or, All-replicate}
+use Rattle.field_vectors.proofs.CutLaws.{length-cut, get_or-cut, cut-with_part, cut-set, cut-replicate, cut-widths, cut-elements, entries-IsMatrix, with_part-AreEntries}
 use Rattle.linear_algebra.proofs.EntryLaws.{row_end}
 use Rattle.field_vectors.specs.Cut.{cut, grid_in, AreEntries, with_part}
-use Rattle.field_vectors.specs.Grid.{Grid, with_row, grid_of}
+use Rattle.field_vectors.specs.Grid.{Grid, IsMatrix, with_row, grid_of}
 
 -- entries that are all zeros
 pub grid_in-zeros : {A : Type 0} (count width : ℕ) (entries : List A) (n : ℕ) (value : A) → entries ≡ replicate n value → n ≡ count * width + 0
@@ -17,6 +17,14 @@ grid_in-zeros {A} count width entries n value filled all =
     let same : n ≡ count * width = omega arith in
     let make : List (List A) → Grid A = λ rows. record { columns = width; rows = rows } in
     ap make (ap (cut count width) (filled ∙ ap (λ k. replicate k value) same) ∙ cut-replicate count width value)
+
+-- and they are the entries of a matrix where the value is an element
+pub zeros-entries : {A : Type 0} (P : A → Type 0) (count width : ℕ) (entries : List A) (n : ℕ) (value : A) → P value → entries ≡ replicate n value → n ≡ count * width + 0
+    → AreEntries P count width entries
+zeros-entries P count width entries n value element filled all = record {
+  all = omega (arith, ap length filled, length-replicate n value);
+  elements = rw filled (All-replicate P n value element);
+}
 
 -- a range of entries is a row
 pub range-row : {A : Type 0} (count width i start end : ℕ) (entries : List A) → i < count → start ≡ i * width + 0 → end ≡ i * width + width
@@ -79,6 +87,10 @@ row_below {A} count width i entries m shown below =
 -- a matrix has as many columns as it shows
 pub columns_are : {A : Type 0} (count width : ℕ) (entries : List A) (m : Grid A) → grid_in count width entries ≡ m → width ≡ m.columns
 columns_are {A} count width entries m shown = ap (λ (g : Grid A). g.columns) shown
+
+-- and what it shows is a matrix of elements
+pub shown-IsMatrix : {A : Type 0} (P : A → Type 0) (count width : ℕ) (entries : List A) (m : Grid A) → grid_in count width entries ≡ m → AreEntries P count width entries → IsMatrix P m
+shown-IsMatrix P count width entries m shown h = subst (IsMatrix P) shown (entries-IsMatrix P count width entries h)
 
 -- a row has an entry for each column
 pub row-width : {A : Type 0} (P : A → Type 0) (count width i : ℕ) (entries : List A) → i < count → AreEntries P count width entries → length (get_or (cut count width entries) i []) ≡ width

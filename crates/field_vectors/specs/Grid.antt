@@ -26,3 +26,8 @@ grid_of rows columns value = record { columns = columns; rows = replicate rows (
 pub record IsMatrix {A : Type 0} (is_element : A → Type 0) (m : Grid A) : Type 0 where
   pub widths : All (λ row. length row ≡ m.columns) m.rows
   pub elements : All (All is_element) m.rows
+
+-- both are matrices of elements, as a matrix before and after a change is, and so are the vectors and the inverse
+-- vectors of a basis
+abbrev pub AreMatrices : {A : Type 0} → (A → Type 0) → Grid A → Grid A → Type 0
+AreMatrices is_element m n = IsMatrix is_element m × IsMatrix is_element n

@@ -1,10 +1,10 @@
 //! The inverse of a matrix, by elimination.
-ghost use Rattle.std.specs.Prelude.{◌≡◌, ◌≢◌, ◌+◌, ◌-◌, ◌<◌, ◌≤◌, ◌++◌, length, map, drop, replicate, slice_get, IfSome, IfNone, IfOk, IfErr, OnOk};
+ghost use Rattle.std.specs.Prelude.{◌≡◌, ◌≢◌, ◌+◌, ◌-◌, ◌^◌, ◌<◌, ◌≤◌, ◌++◌, length, map, drop, replicate, slice_get, IfSome, IfNone, IfOk, IfErr, OnOk};
 ghost use Rattle.std.specs.Bool.{OnTrue, OnFalse};
 ghost use Rattle.std.specs.List.{range_with_len};
 ghost use Rattle.field_vectors.specs.Elements.{unit_of};
 ghost use Rattle.field_vectors.specs.Elimination.{IsStep, IsReduced, IsStuck, IsPivot, IsBeside};
-ghost use Rattle.field_vectors.specs.Grid.{row_of, entry_of, with_row};
+ghost use Rattle.field_vectors.specs.Grid.{row_of, entry_of, with_row, IsMatrix};
 ghost use Rattle.field_vectors.specs.Inverse.{IsInverse, OnlyZeroToZero, IsRightHalf, block_of};
 ghost use Rattle.field_vectors.specs.Refusal.{IsRefusal};
 
@@ -35,6 +35,7 @@ fn pivot_of<F: Field>(work: &Matrix<F>, k: u32) -> Option<u32>
 
 // Makes the entry on the diagonal of column k nonzero, by the pivot's row.
 fn lift_pivot<F: Field, L: Ledger>(work: &mut Matrix<F>, k: u32, pivot: u32, steps: &mut Steps<L>)
+    requires matrix { IsMatrix F.is_element work.old }
     requires column { k < work.old.columns }
     requires reduced { IsReduced F.zero F.one work.old k }
     requires pivot { IsPivot F.zero work.old k pivot }
@@ -42,7 +43,6 @@ fn lift_pivot<F: Field, L: Ledger>(work: &mut Matrix<F>, k: u32, pivot: u32, ste
     ensures kept { IsReduced F.zero F.one work.new k }
     ensures nonzero { entry_of F.zero work.new k k ≢ F.zero }
 {
-    let _rows = work.rows();
     if pivot != k {
         work.add_row(k, F::one(), pivot, steps);
     }
@@ -58,7 +58,6 @@ fn normalize_pivot<F: Field, L: Ledger>(work: &mut Matrix<F>, k: u32, steps: &mu
     ensures kept { IsReduced F.zero F.one work.new k }
     ensures one { entry_of F.zero work.new k k ≡ F.one }
 {
-    let _rows = work.rows();
     let by = work.at(k, k).inv();
     work.scale_row(k, by, steps);
 }
@@ -82,6 +81,7 @@ fn clear_column<F: Field, L: Ledger>(work: &mut Matrix<F>, k: u32, steps: &mut S
 
 // Makes column k that of the identity, where some row from row k on has a nonzero entry there.
 fn reduce_column<F: Field, L: Ledger>(work: &mut Matrix<F>, k: u32, steps: &mut Steps<L>) -> bool
+    requires matrix { IsMatrix F.is_element work.old }
     requires row { k < length work.old.rows }
     requires column { k < work.old.columns }
     requires reduced { IsReduced F.zero F.one work.old k }
@@ -90,7 +90,6 @@ fn reduce_column<F: Field, L: Ledger>(work: &mut Matrix<F>, k: u32, steps: &mut 
     ensures left { OnFalse result (IsReduced F.zero F.one work.new k) }
     ensures stuck { OnFalse result (IsStuck F.zero work.new k) }
 {
-    let _rows = work.rows();
     if let Some(pivot) = pivot_of(work, k) {
         lift_pivot(work, k, pivot, steps);
         normalize_pivot(work, k, steps);
@@ -124,12 +123,13 @@ fn fill_row<F: Field>(work: &mut Matrix<F>, a: &Matrix<F>, i: u32)
     requires square { a.now.columns ≡ length a.now.rows }
     requires height { length work.old.rows ≡ length a.now.rows }
     requires width { work.old.columns ≡ length a.now.rows + length a.now.rows }
+    requires few { length a.now.rows + length a.now.rows < 2 ^ 32 }
     requires zeros { row_of work.old i ≡ replicate (length a.now.rows + length a.now.rows) F.zero }
-    ensures { work.new ≡ with_row work.old i
+    ensures value { work.new ≡ with_row work.old i
         (row_of a.now i ++ unit_of F.zero F.one (length a.now.rows) i) }
+    ensures kept { IsMatrix F.is_element work.new }
 {
     let size = a.columns();
-    let _width = work.columns();
     for j in 0..size {
         work.set(i, j, a.at(i, j));
     }
@@ -139,7 +139,8 @@ fn fill_row<F: Field>(work: &mut Matrix<F>, a: &Matrix<F>, i: u32)
 // A square matrix with the identity beside it.
 fn beside_identity<F: Field>(alloc: Global, a: &Matrix<F>) -> Result<Matrix<F>, AllocError>
     requires { a.now.columns ≡ length a.now.rows }
-    ensures { IfOk result (λ work. IsBeside F.is_element F.zero F.one a.now work) }
+    ensures beside { IfOk result (λ work. IsBeside F.is_element F.zero F.one a.now work) }
+    ensures kept { IsMatrix F.is_element a.now }
 {
     let size = a.rows();
     if size > u32::MAX / 2 {
@@ -149,7 +150,6 @@ fn beside_identity<F: Field>(alloc: Global, a: &Matrix<F>) -> Result<Matrix<F>, 
     for i in 0..size {
         fill_row(&mut work, a, i);
     }
-    let _width = work.columns();
     Ok(work)
 }
 
@@ -164,7 +164,6 @@ fn right_half<F: Field>(alloc: Global, work: &Matrix<F>) -> Result<Matrix<F>, Al
     for i in 0..size {
         half.put_row(i, part(work.row(i), size as usize, width as usize));
     }
-    let _columns = half.columns();
     Ok(half)
 }
 
@@ -217,7 +216,6 @@ fn invert_from<F: Field, L: Ledger>(
     ensures regular { OnOk result (OnlyZeroToZero F.is_element F.zero F.add F.mul a.now) }
     ensures refused { IfErr result (IsRefusal F.is_element F.zero F.add F.mul a.now) }
 {
-    let _size = a.rows();
     let mut work = beside_identity(alloc, a)?;
     match reduce(&mut work, &mut Steps::<L>::start(blank)) {
         None => {

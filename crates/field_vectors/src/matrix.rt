@@ -2,7 +2,7 @@
 ghost use Rattle.std.specs.Prelude.{◌≡◌, ◌≢◌, ◌<◌, length, All, IfOk, slice_set};
 ghost use Rattle.counted_steps.specs.Steps.{RoseBy};
 ghost use Rattle.field_vectors.specs.Elements.{plus_multiple, multiple_of};
-ghost use Rattle.field_vectors.specs.Grid.{row_of, entry_of, with_row, grid_of, IsMatrix};
+ghost use Rattle.field_vectors.specs.Grid.{row_of, entry_of, with_row, grid_of, AreMatrices, IsMatrix};
 
 use crate::parts::{add_part, copy_to_part, part, place_of, scale_part, zeros};
 use counted_steps::Steps;
@@ -33,7 +33,8 @@ impl<F: Field> Model for Matrix<F> {
 impl<F: Field> Matrix<F> {
     /// The matrix of so many rows and columns whose entries are all zero.
     pub fn zeros(alloc: Global, rows: u32, columns: u32) -> Result<Self, AllocError>
-        ensures { IfOk result (λ m. m ≡ grid_of rows columns F.zero) }
+        ensures value { IfOk result (λ m. m ≡ grid_of rows columns F.zero) }
+        ensures kept { IfOk result (IsMatrix F.is_element) }
     {
         let entries = zeros(alloc, place_of(rows, 0, columns))?;
         Ok(Matrix {
@@ -77,6 +78,7 @@ impl<F: Field> Matrix<F> {
         ensures elements { All F.is_element result.now }
         ensures width { length result.now ≡ self.now.columns }
         ensures value { result.now ≡ row_of self.now i }
+        ensures kept { IsMatrix F.is_element self.now }
     {
         let columns = self.column_count;
         let start = place_of(i, 0, columns);
@@ -90,6 +92,7 @@ impl<F: Field> Matrix<F> {
         requires column { j < self.now.columns }
         ensures element { F.is_element result }
         ensures value { result ≡ entry_of F.zero self.now i j }
+        ensures kept { IsMatrix F.is_element self.now }
     {
         self.entries[place_of(i, j, self.column_count)]
     }
@@ -98,7 +101,8 @@ impl<F: Field> Matrix<F> {
     pub fn set(&mut self, i: u32, j: u32, value: F)
         requires row { i < length self.old.rows }
         requires column { j < self.old.columns }
-        ensures { self.new ≡ with_row self.old i (slice_set (row_of self.old i) j value) }
+        ensures value { self.new ≡ with_row self.old i (slice_set (row_of self.old i) j value) }
+        ensures kept { AreMatrices F.is_element self.old self.new }
     {
         let _number = value.number();
         let place = place_of(i, j, self.column_count);
@@ -109,7 +113,8 @@ impl<F: Field> Matrix<F> {
     pub fn put_row(&mut self, i: u32, from: &[F])
         requires row { i < length self.old.rows }
         requires width { length from.now ≡ self.old.columns }
-        ensures { self.new ≡ with_row self.old i from.now }
+        ensures value { self.new ≡ with_row self.old i from.now }
+        ensures kept { AreMatrices F.is_element self.old self.new }
     {
         let columns = self.column_count;
         let start = place_of(i, 0, columns);
@@ -121,6 +126,7 @@ impl<F: Field> Matrix<F> {
     pub fn scale_row<L: Ledger>(&mut self, i: u32, by: F, steps: &mut Steps<L>)
         requires { i < length self.old.rows }
         ensures value { self.new ≡ with_row self.old i (multiple_of F.mul by (row_of self.old i)) }
+        ensures kept { AreMatrices F.is_element self.old self.new }
         ensures ticks { RoseBy self.old.columns steps.old steps.new }
     {
         let _number = by.number();
@@ -137,6 +143,7 @@ impl<F: Field> Matrix<F> {
         requires apart { i ≢ j }
         ensures value { self.new ≡ with_row self.old i
             (plus_multiple F.add F.mul (row_of self.old i) by (row_of self.old j)) }
+        ensures kept { AreMatrices F.is_element self.old self.new }
         ensures ticks { RoseBy self.old.columns steps.old steps.new }
     {
         let _number = by.number();

@@ -34,7 +34,6 @@ pub fn carry<F: Field, L: Ledger>(
     ensures ticks { RoseBy (carry_steps leaves (length operands.now) vectors.old.columns) steps.old steps.new }
 {
     for operand in operands {
-        let _rows = vectors.rows();
         let times = F::of_number(operand.times);
         if leaves {
             let sum = vectors.at(link, operand.from).add(times);

@@ -1,22 +1,22 @@
 -- Laws of bases: the unit vectors are one, and what becomes of one when a vector is replaced (Jaggi et al. 2005).
 use Rattle.std.specs.Prelude.{◌≡◌, ◌≢◌, ℕ, ◌<◌, List, [], All, length, map, get_or, set}
-use Rattle.std.proofs.Common.{arith, sym, ap, ◌∙◌, inl, inr}
+use Rattle.std.proofs.Common.{arith, sym, ap, ◌∙◌, subst, inl, inr}
 use Rattle.std.proofs.Math.Path.{ap₂}
 use Rattle.std.specs.List.{range_with_len}
 use Rattle.std.proofs.lemmas.Bool.{cases_eq}
 use Rattle.std.proofs.lemmas.List.{length-set, length-map, map-set, get_or-map, get_or-set_same, get_or-set_other, ext_get_or}
 use Rattle.std.proofs.lemmas.List.Elements.{All-map, All-get_or, All-set}
 use Rattle.std.proofs.lemmas.List.FromFn.{length-map-range_with_len, get_or-map-range_with_len, fill_by_all}
-use Rattle.gf_tables.specs.Field.{IsField}
+use Rattle.gf_tables.specs.Field.{IsField, IsNumbering}
 use Rattle.field_vectors.specs.Difference.{identity_entry}
 use Rattle.field_vectors.proofs.DifferenceLaws.{same_made, get_or-column_of, length-column_of}
 use Rattle.field_vectors.proofs.DotOfLaws.{identity_entry-comm, identity_entry-on, identity_entry-off, identity_entry-element, get_or-unit_of, add-nought, mul-nought, mul-one, unit_of-elements, dot_of-element, dot_of-comm, dot_of-plus_multiple, dot_of-multiple_of, dot_of-set, dot_of-rows, dot_of-unit_of, unit_of-dot_of}
 use Rattle.field_vectors.specs.Elements.{dot_of, column_of, plus_multiple, unit_of, identity_of}
 use Rattle.field_vectors.proofs.ElementsLaws.{length-plus_multiple, get_or-plus_multiple, get_or-multiple_of, plus_multiple-elements}
-use Rattle.field_vectors.specs.Grid.{Grid, row_of, with_row, IsMatrix}
-use Rattle.field_vectors.proofs.GridLaws.{length-row_of, row_of-elements, row_of-with_row, row_of-with_other}
+use Rattle.field_vectors.specs.Grid.{AreMatrices, Grid, row_of, with_row, IsMatrix}
+use Rattle.field_vectors.proofs.GridLaws.{IsMatrix-map, length-row_of, row_of-elements, row_of-with_row, row_of-with_other}
 use Rattle.field_vectors.proofs.InverseLaws.{column_of-elements}
-use Rattle.sink_basis.specs.Basis.{IsBasis}
+use Rattle.sink_basis.specs.Basis.{IsBasis, IsNumbered}
 use Rattle.sink_basis.specs.Renewal.{IsRenewed}
 
 -- a row of the identity
@@ -297,3 +297,18 @@ module _ {A : Type 0} {P : A → Type 0} {nought one : A} {add mul : A → A →
       dual = new-dual;
       spans = new-spans;
     }
+
+-- elements and their numbers
+module _ {A : Type 0} {P : A → Type 0} {nought one : A} {add mul : A → A → A} {number : A → ℕ} {of_number : ℕ → A} {size : ℕ} {product : ℕ → ℕ → ℕ}
+    (N : IsNumbering P nought one add mul number of_number size product) (vectors inverses : Grid A) where
+  -- matrices of elements have entries that are the elements of their numbers
+  pub AreMatrices-numbered : AreMatrices P vectors inverses → AreMatrices (IsNumbered number of_number size) vectors inverses
+  AreMatrices-numbered h =
+      let to : (x : A) → P x → IsNumbered number of_number size x = λ x p. (N.number_below x p, N.of_number_number x p) in
+      (IsMatrix-map vectors to h.0, IsMatrix-map inverses to h.1)
+
+  -- and the other way round
+  pub numbered-AreMatrices : AreMatrices (IsNumbered number of_number size) vectors inverses → AreMatrices P vectors inverses
+  numbered-AreMatrices h =
+      let to : (x : A) → IsNumbered number of_number size x → P x = λ x p. subst P p.1 (N.element_of_number (number x) p.0) in
+      (IsMatrix-map vectors to h.0, IsMatrix-map inverses to h.1)

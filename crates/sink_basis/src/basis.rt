@@ -2,8 +2,8 @@
 ghost use Rattle.std.specs.Prelude.{◌≡◌, ◌≢◌, ◌*◌, ◌<◌, ◌≤◌, length, None, Some, replicate, slice_set, IfOk, OnOk, OnErr};
 ghost use Rattle.counted_steps.specs.Steps.{RoseByAtMost};
 ghost use Rattle.field_vectors.specs.Elements.{dot_of, identity_of};
-ghost use Rattle.field_vectors.specs.Grid.{row_of, with_row};
-ghost use Rattle.sink_basis.specs.Basis.{IsBasis};
+ghost use Rattle.field_vectors.specs.Grid.{AreMatrices, row_of, with_row};
+ghost use Rattle.sink_basis.specs.Basis.{IsBasis, IsNumbered};
 
 use crate::renewal::{identity, no_links, renew_inverses};
 use counted_steps::Steps;
@@ -25,6 +25,7 @@ pub struct Basis<F: Field> {
     pub vectors: Matrix<F>,
     pub inverses: Matrix<F>,
     ghost basis: { IsBasis F.zero F.one F.add F.mul (length frontier) vectors inverses },
+    ghost matrices: { AreMatrices (IsNumbered F.number F.of_number F.SIZE) vectors inverses },
     ghost few: { length frontier ≤ 32 },
 }
 
@@ -92,11 +93,8 @@ impl<F: Field> Basis<F> {
         ensures vectors { self.new.vectors ≡ with_row self.old.vectors path vector.now }
         ensures ticks { let h = length self.old.frontier in RoseByAtMost (3 * h * h) steps.old steps.new }
     {
-        let _rows = self.vectors.rows();
-        let _inverses = self.inverses.rows();
         renew_inverses(&mut self.inverses, path, vector, steps);
         self.vectors.put_row(path, vector);
-        let _columns = self.vectors.columns();
         self.frontier.set(path as usize, Some(link));
     }
 }

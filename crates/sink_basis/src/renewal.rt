@@ -2,7 +2,7 @@
 ghost use Rattle.std.specs.Prelude.{◌≡◌, ◌≢◌, ◌+◌, ◌*◌, ◌<◌, length, None, replicate, IfOk};
 ghost use Rattle.counted_steps.specs.Steps.{RoseByAtMost};
 ghost use Rattle.field_vectors.specs.Elements.{dot_of, identity_of};
-ghost use Rattle.field_vectors.specs.Grid.{row_of};
+ghost use Rattle.field_vectors.specs.Grid.{IsMatrix, row_of};
 ghost use Rattle.sink_basis.specs.Renewal.{IsClearedBelow, IsRenewed};
 
 use crate::basis::Frontier;
@@ -23,6 +23,7 @@ pub fn no_links(alloc: Global, h: u32) -> Result<Frontier, AllocError>
 
 /// The identity matrix.
 pub fn identity<F: Field>(alloc: Global, size: u32) -> Result<Matrix<F>, AllocError>
+    ensures kept { IfOk result (IsMatrix F.is_element) }
     ensures columns { IfOk result (λ m. m.columns ≡ size) }
     ensures rows { IfOk result (λ m. m.rows ≡ identity_of F.zero F.one size) }
 {
@@ -44,6 +45,7 @@ fn clear_others<F: Field, L: Ledger>(
     requires path { path < length inverses.old.rows }
     requires width { length vector.now ≡ inverses.old.columns }
     ensures cleared { IsClearedBelow F.zero F.add F.mul path vector.now inverses.old inverses.new (length inverses.old.rows) }
+    ensures kept { IsMatrix F.is_element inverses.new }
     ensures ticks { (others : _) → others + 1 ≡ length inverses.old.rows →
         RoseByAtMost (others * (2 * inverses.old.columns)) steps.old steps.new }
 {
@@ -72,5 +74,4 @@ pub fn renew_inverses<F: Field, L: Ledger>(
     let product = dot(vector, inverses.row(path), steps);
     inverses.scale_row(path, product.inv(), steps);
     clear_others(inverses, path, vector, steps);
-    let _columns = inverses.columns();
 }

@@ -19,8 +19,12 @@ loop-j-preserved g c =
     let At : List ℕ → Type 0 = λ entries. slice_index entries place < F.SIZE in
     let below : slice_index entries place < F.SIZE =
     subst At (sym same) (omega (arith, shape.elements place 0 inside, c.requires.field.size)) in
-    filled_more F.zero F.number entries rate c.loop-i.i c.loop-j.j c.loop-j.matrix c.set.new.self c.of_number.result c.loop-i-test.true c.loop-j-test.true
-    c.rows-rows.ensures.kept c.set.ensures (ap F.number c.of_number.ensures.value ∙ g.met.F.Field.number_of_number (slice_index entries place) below) c.loop-j.invariant
+    record {
+      kept = c.set.ensures.kept.1;
+      filled =
+          filled_more F.zero F.number entries rate c.loop-i.i c.loop-j.j c.loop-j.matrix c.set.new.self c.of_number.result c.loop-i-test.true c.loop-j-test.true
+          c.loop-j.invariant.kept c.set.ensures.value (ap F.number c.of_number.ensures.value ∙ g.met.F.Field.number_of_number (slice_index entries place) below) c.loop-j.invariant.filled;
+    }
 
 pub returns : goal.returns
 returns g c =
@@ -33,4 +37,4 @@ returns g c =
     let Fit : List ℕ → Type 0 = AreElements code.field in
     subst Matrix (ap (rows_of code.rate code.rate) same ∙ decoder_matrix-rows code c.args.demand c.decoder_of.result.now c.decoder_of.ensures.value)
     (filled_all F.zero F.number code.field entries code.rate c.loop-i.i c.loop-i.matrix g.met.F.Field.number_zero
-    (ap length same ∙ shape.entry_count) (subst Fit (sym same) shape.elements) c.loop-i-test.false c.rows-rows-2.ensures.kept c.loop-i.invariant)
+    (ap length same ∙ shape.entry_count) (subst Fit (sym same) shape.elements) c.loop-i-test.false c.loop-i.invariant.kept c.loop-i.invariant.filled)

@@ -17,10 +17,10 @@ loop-j-preserved g c =
     let below : i < length old.rows = omega (arith, c.requires.height, c.requires.row) in
     let within : c.loop-j.j < length (row_of old i) = omega (arith, wide, c.requires.square, c.columns-size.ensures.value) in
     let inside : c.loop-j.j < length (row_of a i) = omega (arith, long, c.columns-size.ensures.value) in
-    fill-more g.F.Field.zero old c.loop-j.work c.set.new.self i c.loop-j.j (row_of a i) c.at.result below within inside c.loop-j.invariant c.at.ensures.value c.set.ensures
+    fill-more g.F.Field.zero old c.loop-j.work c.set.new.self i c.loop-j.j (row_of a i) c.at.result below within inside c.loop-j.invariant c.at.ensures.value c.set.ensures.value
 
-pub returns : goal.returns
-returns g c =
+pub returns-clause-value : goal.returns-clause-value
+returns-clause-value g c =
     let F = g.F.Field in
     let a = c.args.a.now in
     let old = c.args.work.now in
@@ -31,5 +31,5 @@ returns g c =
     let all : c.loop-j.j ≡ n = omega (arith, c.requires.square, c.columns-size.ensures.value) in
     let at : c.columns-size.result + i ≡ n + i = omega (arith, c.requires.square, c.columns-size.ensures.value) in
     let filled = c.loop-j.invariant ∙ ap (λ j. with_row old i (joined_below (λ x y. y) j (row_of old i) (row_of a i))) all in
-    let put = c.set-2.ensures ∙ ap (λ x. with_row c.loop-j.work i (set (row_of c.loop-j.work i) (c.columns-size.result + i) x)) c.one.ensures.value in
+    let put = c.set-2.ensures.value ∙ ap (λ x. with_row c.loop-j.work i (set (row_of c.loop-j.work i) (c.columns-size.result + i) x)) c.one.ensures.value in
     fill-all F.zero F.one old c.loop-j.work c.set-2.new.self i n (c.columns-size.result + i) (row_of a i) below c.requires.row long at c.requires.zeros filled put

@@ -27,14 +27,14 @@ loop-operand-preserved g c =
     let below = c.requires.times k d more in
     elim c.if-leaves.branch [
       | then-leaves w ↦
-          let written = w.vectors-is ∙ w.set.ensures in
+          let written = w.vectors-is ∙ w.set.ensures.value in
           record {
             columns = same_columns old m now c.args.link _ written is.columns;
             height = same_height old m now c.args.link _ written is.height;
             carried = λ kind of_kind.
                 source_added L.field L.numbering kind of_kind c.args.leaves c.args.link k old m now c.args.operands.now d
                 c.of_number-times.result more c.requires.link below c.of_number-times.ensures.value c.of_number-times.ensures.element
-                c.rows-rows.ensures.kept (is.carried kind of_kind)
+                w.at.ensures.kept (is.carried kind of_kind)
                 w.at.result w.add-sum.result w.if-leaves.true (c.requires.rows w.if-leaves.true k d more)
                 w.at.ensures.value w.add-sum.ensures.value written;
             ticks = w.steps-is ∙ steps_same c.args.leaves k old.columns _ _ w.if-leaves.true is.ticks;
@@ -48,7 +48,7 @@ loop-operand-preserved g c =
             carried = λ kind of_kind.
                 link_added L.field L.numbering kind of_kind c.args.leaves c.args.link k old m now c.args.operands.now d
                 c.of_number-times.result more c.requires.link below c.of_number-times.ensures.value c.of_number-times.ensures.element
-                c.rows-rows.ensures.kept (is.carried kind of_kind)
+                w.add_row.ensures.kept.0 (is.carried kind of_kind)
                 w.if-leaves.false other.0 other.1 written;
             ticks = w.steps-is ∙ steps_more c.args.leaves k old.columns m.columns _ _ _ w.if-leaves.false is.columns is.ticks w.add_row.ensures.ticks;
           }

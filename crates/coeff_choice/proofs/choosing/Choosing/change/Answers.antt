@@ -30,7 +30,7 @@ returns-clause-after g c =
     let short = length-take-le row old.products.items (omega (arith, s.each_row)) in
     let before = ap (take row) c.as_mut_slice-products.ensures.value in
     let small : n ≤ row = omega (arith, c.allowed_number-number.ensures.below, ap length before, short) in
-    choosing-changed g.met.F.Field.field g.met.F.Field.numbering table c.columns-columns.ensures.kept row place n by old.coefficients.items old.products.items old.marks.items _ _ _ s
+    choosing-changed g.met.F.Field.field g.met.F.Field.numbering table c.at.ensures.kept row place n by old.coefficients.items old.products.items old.marks.items _ _ _ s
     c.requires.row c.requires.column c.requires.nonzero c.requires.is_zero (omega arith) c.of_number-by.ensures.value
     (λ r below e.
     let inside : r < length (take row c.as_mut_slice-products.result.now) = omega (arith, ap length before, short) in

@@ -3,8 +3,9 @@ use Rattle.std.proofs.Math.Path.{ap₂}
 use Rattle.std.proofs.lemmas.List.{with_items_is}
 use Rattle.std.specs.List.{All}
 use Rattle.std.specs.Vec.{with_items}
-use Rattle.field_vectors.proofs.GridSteps.{row_below, columns_are, range-row, range-within, rows_apart, row-width, row-elements, grid_in-with_part, with_part-entries}
-use Rattle.field_vectors.specs.Cut.{cut, with_part}
+use Rattle.field_vectors.proofs.CutLaws.{entries-IsMatrix}
+use Rattle.field_vectors.proofs.GridSteps.{shown-IsMatrix, row_below, columns_are, range-row, range-within, rows_apart, row-width, row-elements, grid_in-with_part, with_part-entries}
+use Rattle.field_vectors.specs.Cut.{cut, AreEntries, with_part}
 use Rattle.field_vectors.specs.Elements.{plus_multiple}
 use Rattle.field_vectors.proofs.ElementsLaws.{length-plus_multiple, plus_multiple-elements}
 use Rattle.field_vectors.proofs.matrix.Matrix.add_row.Goals as goal
@@ -71,12 +72,22 @@ elements g c =
     plus_multiple-elements P g.F.Field.add g.F.Field.mul (λ x y p q. g.met.F.Field.add_element x y p q) (λ x y p q. g.met.F.Field.mul_element x y p q) (get_or (cut m.row_count m.column_count m.entries.items) c.args.i []) c.args.by (get_or (cut m.row_count m.column_count m.entries.items) c.args.j [])
     (row-elements P m.row_count m.column_count c.args.i m.entries.items (below g c) c.self.invariant) c.number-number.ensures.element (row-elements P m.row_count m.column_count c.args.j m.entries.items (other_below g c) c.self.invariant)
 
-pub invariant_of-self : goal.invariant_of-self
-invariant_of-self g c =
-    let s = (goal.at.invariant_of-self g c).After-add_part in
+-- so the entries are those of a matrix
+kept : (g : _) (c : After-add_part g) → AreEntries g.F.Field.is_element c.self.inside.row_count c.self.inside.column_count (with_items c.self.inside.entries c.add_part.new.entries).items
+kept g c =
     let m = c.self.inside in
-    with_part-entries g.F.Field.is_element m.row_count m.column_count c.args.i c.place_of-start.result m.entries.items (row_made g s) _ (below g s) c.place_of-start.ensures c.self.invariant
-    (width g s) (elements g s) (written g s)
+    with_part-entries g.F.Field.is_element m.row_count m.column_count c.args.i c.place_of-start.result m.entries.items (row_made g c) _ (below g c) c.place_of-start.ensures c.self.invariant
+    (width g c) (elements g c) (written g c)
+
+pub invariant_of-self : goal.invariant_of-self
+invariant_of-self g c = kept g (goal.at.invariant_of-self g c).After-add_part
+
+pub returns-clause-kept : goal.returns-clause-kept
+returns-clause-kept g c =
+    let P = g.F.Field.is_element in
+    let m = c.self.inside in
+    let before = shown-IsMatrix P m.row_count m.column_count m.entries.items c.args.self.now c.self.view_is c.self.invariant in
+    (before, entries-IsMatrix P m.row_count m.column_count _ (kept g (goal.at.returns-clause-kept g c).After-add_part))
 
 pub returns-clause-value : goal.returns-clause-value
 unfolding row_made

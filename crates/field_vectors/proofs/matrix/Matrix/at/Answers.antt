@@ -3,7 +3,7 @@ use Rattle.std.proofs.lemmas.List.{get_or_read}
 use Rattle.std.proofs.lemmas.List.Elements.{All-get_or}
 use Rattle.field_vectors.proofs.CutLaws.{get_or-cut_entry}
 use Rattle.linear_algebra.proofs.EntryLaws.{place_within}
-use Rattle.field_vectors.proofs.GridSteps.{row_below, columns_are}
+use Rattle.field_vectors.proofs.GridSteps.{shown-IsMatrix, row_below, columns_are}
 use Rattle.field_vectors.specs.Grid.{entry_of}
 use Rattle.field_vectors.proofs.matrix.Matrix.at.Goals as goal
 use Rattle.field_vectors.proofs.matrix.Matrix.at.Goals.{After-place_of}
@@ -45,3 +45,8 @@ returns-clause-value g c =
     read ∙ ap (λ p. get_or xs p g.F.Field.zero) c.place_of.ensures
     ∙ sym (get_or-cut_entry m.row_count m.column_count c.args.i c.args.j xs g.F.Field.zero (below g s) (inside g s))
     ∙ ap (λ v. entry_of g.F.Field.zero v c.args.i c.args.j) c.self.view_is
+
+pub returns-clause-kept : goal.returns-clause-kept
+returns-clause-kept g c =
+    let m = c.self.inside in
+    shown-IsMatrix g.F.Field.is_element m.row_count m.column_count m.entries.items c.args.self.now c.self.view_is c.self.invariant

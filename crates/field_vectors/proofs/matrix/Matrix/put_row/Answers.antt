@@ -2,8 +2,9 @@ use Rattle.std.proofs.Common.{◌≡◌, ◌<◌, length, arith, ap, ◌∙◌, 
 use Rattle.std.proofs.lemmas.List.{with_items_is}
 use Rattle.std.specs.List.{All}
 use Rattle.std.specs.Vec.{with_items}
-use Rattle.field_vectors.proofs.GridSteps.{row_below, columns_are, range-within, grid_in-with_part, with_part-entries}
-use Rattle.field_vectors.specs.Cut.{with_part}
+use Rattle.field_vectors.proofs.CutLaws.{entries-IsMatrix}
+use Rattle.field_vectors.proofs.GridSteps.{shown-IsMatrix, row_below, columns_are, range-within, grid_in-with_part, with_part-entries}
+use Rattle.field_vectors.specs.Cut.{AreEntries, with_part}
 use Rattle.field_vectors.proofs.matrix.Matrix.put_row.Goals as goal
 use Rattle.field_vectors.proofs.matrix.Matrix.put_row.Goals.{After-copy_to_part}
 
@@ -47,17 +48,27 @@ elements g c =
     let P = g.F.Field.is_element in
     c.copy_to_part.ensures.elements
 
-pub invariant_of-self : goal.invariant_of-self
-invariant_of-self g c =
-    let s = (goal.at.invariant_of-self g c).After-copy_to_part in
+-- so the entries are those of a matrix
+kept : (g : _) (c : After-copy_to_part g) → AreEntries g.F.Field.is_element c.self.inside.row_count c.self.inside.column_count (with_items c.self.inside.entries c.copy_to_part.new.entries).items
+kept g c =
     let m = c.self.inside in
-    with_part-entries g.F.Field.is_element m.row_count m.column_count c.args.i c.place_of-start.result m.entries.items (row_made g s) _ (below g s) c.place_of-start.ensures c.self.invariant
-    (width g s) (elements g s) (written g s)
+    with_part-entries g.F.Field.is_element m.row_count m.column_count c.args.i c.place_of-start.result m.entries.items (row_made g c) _ (below g c) c.place_of-start.ensures c.self.invariant
+    (width g c) (elements g c) (written g c)
 
-pub returns : goal.returns
+pub invariant_of-self : goal.invariant_of-self
+invariant_of-self g c = kept g (goal.at.invariant_of-self g c).After-copy_to_part
+
+pub returns-clause-kept : goal.returns-clause-kept
+returns-clause-kept g c =
+    let P = g.F.Field.is_element in
+    let m = c.self.inside in
+    let before = shown-IsMatrix P m.row_count m.column_count m.entries.items c.args.self.now c.self.view_is c.self.invariant in
+    (before, entries-IsMatrix P m.row_count m.column_count _ (kept g (goal.at.returns-clause-kept g c).After-copy_to_part))
+
+pub returns-clause-value : goal.returns-clause-value
 unfolding row_made
-returns g c =
-    let s = (goal.at.returns g c).After-copy_to_part in
+returns-clause-value g c =
+    let s = (goal.at.returns-clause-value g c).After-copy_to_part in
     let m = c.self.inside in
     rw (← c.self.view_is) (grid_in-with_part g.F.Field.is_element m.row_count m.column_count c.args.i c.place_of-start.result m.entries.items (row_made g s) _ (below g s) c.place_of-start.ensures c.self.invariant
     (width g s) (written g s))

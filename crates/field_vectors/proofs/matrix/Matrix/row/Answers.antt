@@ -1,5 +1,5 @@
 use Rattle.std.proofs.Common.{◌≡◌, ◌<◌, length, arith, ap, ◌∙◌, slice_range}
-use Rattle.field_vectors.proofs.GridSteps.{row_below, range-row, range-within, row-width, row-elements}
+use Rattle.field_vectors.proofs.GridSteps.{shown-IsMatrix, row_below, range-row, range-within, row-width, row-elements}
 use Rattle.field_vectors.specs.Grid.{row_of}
 use Rattle.field_vectors.proofs.matrix.Matrix.row.Goals as goal
 use Rattle.field_vectors.proofs.matrix.Matrix.row.Goals.{After-part}
@@ -39,3 +39,8 @@ returns-clause-elements g c =
     let P = g.F.Field.is_element in
     let h = row-elements P m.row_count m.column_count c.args.i m.entries.items (below g s) c.self.invariant in
     rw (row_given g s, ← c.self.view_is) h
+
+pub returns-clause-kept : goal.returns-clause-kept
+returns-clause-kept g c =
+    let m = c.self.inside in
+    shown-IsMatrix g.F.Field.is_element m.row_count m.column_count m.entries.items c.args.self.now c.self.view_is c.self.invariant

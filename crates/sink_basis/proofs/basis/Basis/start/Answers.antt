@@ -1,7 +1,7 @@
 use Rattle.std.proofs.Common.{◌≡◌, length, None, ap, ◌∙◌, sym, subst}
 use Rattle.std.proofs.lemmas.List.{length-replicate}
 use Rattle.sink_basis.specs.Basis.{IsBasis}
-use Rattle.sink_basis.proofs.BasisLaws.{identity-IsBasis}
+use Rattle.sink_basis.proofs.BasisLaws.{AreMatrices-numbered, identity-IsBasis}
 use Rattle.sink_basis.proofs.basis.Basis.start.Goals as goal
 
 pub invariant_of-result : goal.invariant_of-result
@@ -13,5 +13,6 @@ invariant_of-result g c =
     record {
       basis = subst (λ n. IsBasis F.zero F.one F.add F.mul n vectors inverses) (sym size)
           (identity-IsBasis g.met.F.Field.field vectors inverses c.args.h c.in_ok-vectors.ensures.columns c.in_ok-inverses.ensures.columns c.in_ok-vectors.ensures.rows c.in_ok-inverses.ensures.rows);
+      matrices = AreMatrices-numbered g.met.F.Field.numbering vectors inverses (c.in_ok-vectors.ensures.kept, c.in_ok-inverses.ensures.kept);
       few = rw size c.requires.few;
     }
