@@ -11,8 +11,7 @@ mod two_hundred;
 
 use net_model::{LinkList, Net};
 use net_reader::read_net;
-use numbered_networks::net_of;
-use std::alloc::Global;
+use std::alloc::{AllocError, Global};
 
 // The network of a text.
 fn read(alloc: Global, text: &[u8]) -> Option<Net> {
@@ -23,17 +22,61 @@ fn read(alloc: Global, text: &[u8]) -> Option<Net> {
     }
 }
 
-// The network of so many nodes with these links, from node 0 to these sinks, and with these patterns.
-fn numbered(
+// The text of a network with these links, from node 0 to these sinks, and with these patterns: node 3 is named
+// `n3`, and link 5 `l5`.
+fn text_of(
     alloc: Global,
-    nodes: u32,
+    ends: &[(u32, u32)],
+    sinks: &[u32],
+    patterns: &[&[u32]],
+) -> Result<String, AllocError> {
+    let mut text = String::new(alloc);
+    text.push_str("source n0\n")?;
+    for sink in sinks {
+        writeln!(text, "sink n{sink}")?;
+    }
+    for (number, ends) in ends.iter().enumerate() {
+        let (tail, head) = *ends;
+        writeln!(text, "link l{number} n{tail} n{head}")?;
+    }
+    for (number, links) in patterns.iter().enumerate() {
+        write!(text, "pattern p{number}")?;
+        for link in *links {
+            write!(text, " l{link}")?;
+        }
+        writeln!(text)?;
+    }
+    Ok(text)
+}
+
+// The network of such a text, in which nodes are numbered as their names first appear there.
+fn network_of(
+    alloc: Global,
     ends: &[(u32, u32)],
     sinks: &[u32],
     patterns: &[&[u32]],
 ) -> Option<Net> {
-    match net_of(alloc, nodes, ends, sinks, patterns) {
-        Ok(net) => net,
+    match text_of(alloc, ends, sinks, patterns) {
+        Ok(text) => read(alloc, text.as_bytes()),
         Err(_) => None,
+    }
+}
+
+// Whether node 3 of a network is named `n3`, and so on.
+fn are_numbered(alloc: Global, net: &Net) -> Result<bool, AllocError> {
+    for (number, node) in net.nodes.as_slice().iter().enumerate() {
+        if node.bytes() != format!(in alloc; "n{number}")?.as_bytes() {
+            return Ok(false);
+        }
+    }
+    Ok(true)
+}
+
+// The network of such a text, where it keeps the numbers of the nodes.
+fn numbered(alloc: Global, ends: &[(u32, u32)], sinks: &[u32], patterns: &[&[u32]]) -> Option<Net> {
+    match network_of(alloc, ends, sinks, patterns) {
+        Some(net) if matches!(are_numbered(alloc, &net), Ok(true)) => Some(net),
+        _ => None,
     }
 }
 

@@ -11,7 +11,6 @@ use std::thread::Threads;
 
 // A network from node 0, with the certificates of its demands and its rate.
 struct Example {
-    nodes: u32,
     ends: &'static [(u32, u32)],
     sinks: &'static [u32],
     patterns: &'static [&'static [u32]],
@@ -29,7 +28,6 @@ struct Expected {
 
 // The links s-a, s-b, a-t1, b-t2, a-c, b-c, c-d, d-t1 and d-t2 of the nodes s, t1, t2, a, b, c and d.
 const BUTTERFLY: Example = Example {
-    nodes: 7,
     ends: &[
         (0, 3),
         (0, 4),
@@ -68,7 +66,6 @@ const BUTTERFLY: Example = Example {
 
 // Two parallel links, of which either fails, or none.
 const TWO_LINKS: Example = Example {
-    nodes: 2,
     ends: &[(0, 1), (0, 1)],
     sinks: &[1],
     patterns: &[&[0], &[1]],
@@ -106,7 +103,6 @@ const TWO_LINKS: Example = Example {
 
 // One link, which fails or not.
 const ONE_LINK: Example = Example {
-    nodes: 2,
     ends: &[(0, 1)],
     sinks: &[1],
     patterns: &[&[0]],
@@ -136,13 +132,7 @@ const ONE_LINK: Example = Example {
 const EXAMPLES: &[Example] = &[BUTTERFLY, TWO_LINKS, ONE_LINK];
 
 fn net_of_example(alloc: Global, example: &Example) -> Option<Net> {
-    numbered(
-        alloc,
-        example.nodes,
-        example.ends,
-        example.sinks,
-        example.patterns,
-    )
+    numbered(alloc, example.ends, example.sinks, example.patterns)
 }
 
 fn is_expected(cert: &Cert, expected: &Expected) -> bool {

@@ -5,9 +5,8 @@ use net_model::Net;
 use std::alloc::{AllocError, Global};
 use unit_flow::Flow;
 
-// A network of so many nodes with these links, and its flow: where no link fails (0), or where link 0 does (1).
+// A network with these links, and its flow: where no link fails (0), or where link 0 does (1).
 struct Example {
-    nodes: u32,
     ends: &'static [(u32, u32)],
     pattern: u64,
     paths: &'static [&'static [u32]],
@@ -16,7 +15,6 @@ struct Example {
 
 const EXAMPLES: &[Example] = &[
     Example {
-        nodes: 2,
         ends: &[(0, 1)],
         pattern: 0,
         paths: &[&[0]],
@@ -24,26 +22,24 @@ const EXAMPLES: &[Example] = &[
     },
     // Parallel links.
     Example {
-        nodes: 2,
         ends: &[(0, 1), (0, 1)],
         pattern: 0,
         paths: &[&[0], &[1]],
         side: &[true, false],
     },
-    // The butterfly: the links s-a, s-b, a-t1, b-t2, a-c, b-c, c-d, d-t1 and d-t2 of the nodes s, t1, t2, a, b, c
+    // The butterfly: the links s-a, s-b, a-t1, b-t2, a-c, b-c, c-d, d-t1 and d-t2 of the nodes s, t1, a, b, t2, c
     // and d.
     Example {
-        nodes: 7,
         ends: &[
+            (0, 2),
             (0, 3),
-            (0, 4),
-            (3, 1),
-            (4, 2),
+            (2, 1),
+            (3, 4),
+            (2, 5),
             (3, 5),
-            (4, 5),
             (5, 6),
             (6, 1),
-            (6, 2),
+            (6, 4),
         ],
         pattern: 0,
         paths: &[&[0, 2], &[1, 5, 6, 7]],
@@ -51,7 +47,6 @@ const EXAMPLES: &[Example] = &[
     },
     // The shortest path takes link 1, and the second unit goes back over it.
     Example {
-        nodes: 8,
         ends: &[
             (0, 2),
             (2, 3),
@@ -69,7 +64,6 @@ const EXAMPLES: &[Example] = &[
     },
     // The link that fails cuts all.
     Example {
-        nodes: 4,
         ends: &[(2, 1), (0, 2), (0, 3), (2, 3)],
         pattern: 1,
         paths: &[],
@@ -77,7 +71,6 @@ const EXAMPLES: &[Example] = &[
     },
     // A sink that forwards.
     Example {
-        nodes: 3,
         ends: &[(0, 1), (1, 2), (0, 2), (2, 1)],
         pattern: 0,
         paths: &[&[0], &[2, 3]],
@@ -85,7 +78,6 @@ const EXAMPLES: &[Example] = &[
     },
     // Links into the source.
     Example {
-        nodes: 4,
         ends: &[(2, 0), (0, 2), (0, 3), (2, 1), (3, 0)],
         pattern: 0,
         paths: &[&[1, 3]],
@@ -106,7 +98,7 @@ fn is_found(alloc: Global, net: &Net, example: &Example) -> bool {
 }
 
 fn is_example(alloc: Global, example: &Example) -> bool {
-    match numbered(alloc, example.nodes, example.ends, &[1], &[&[0]]) {
+    match numbered(alloc, example.ends, &[1], &[&[0]]) {
         Some(net) => is_found(alloc, &net, example),
         None => false,
     }
@@ -165,7 +157,7 @@ fn is_path_found(alloc: Global) -> Result<bool, AllocError> {
         ends.push((tail, head))?;
         ends.push((tail, head))?;
     }
-    match numbered(alloc, 4096, &ends, &[1], &[]) {
+    match numbered(alloc, &ends, &[1], &[]) {
         Some(net) => Ok(are_two_paths_found(alloc, &net)),
         None => Ok(false),
     }
@@ -196,7 +188,7 @@ fn are_links_found(alloc: Global, net: &Net) -> bool {
 
 fn are_parallel_found(alloc: Global) -> Result<bool, AllocError> {
     let ends = vec![in alloc; (0, 1); 8192]?;
-    match numbered(alloc, 2, &ends, &[1], &[]) {
+    match numbered(alloc, &ends, &[1], &[]) {
         Some(net) => Ok(are_links_found(alloc, &net)),
         None => Ok(false),
     }

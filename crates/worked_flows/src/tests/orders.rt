@@ -12,9 +12,8 @@ enum Shown {
     Cycle,
 }
 
-// A network of so many nodes with these links, from node 0 to node 1, and what is shown of it.
+// A network with these links, from node 0 to node 1, and what is shown of it.
 struct Example {
-    nodes: u32,
     ends: &'static [(u32, u32)],
     shown: Shown,
     links: &'static [u32],
@@ -22,36 +21,32 @@ struct Example {
 
 const EXAMPLES: &[Example] = &[
     Example {
-        nodes: 2,
         ends: &[],
         shown: Shown::Order,
         links: &[],
     },
     Example {
-        nodes: 2,
         ends: &[(0, 1)],
         shown: Shown::Order,
         links: &[0],
     },
     // Parallel links.
     Example {
-        nodes: 2,
         ends: &[(0, 1), (0, 1), (0, 1)],
         shown: Shown::Order,
         links: &[0, 1, 2],
     },
     // The links of the butterfly, from the sinks back.
     Example {
-        nodes: 7,
         ends: &[
-            (4, 6),
-            (4, 5),
-            (3, 4),
-            (2, 6),
-            (1, 5),
             (2, 3),
-            (1, 3),
-            (0, 2),
+            (2, 4),
+            (5, 2),
+            (6, 3),
+            (1, 4),
+            (6, 5),
+            (1, 5),
+            (0, 6),
             (0, 1),
         ],
         shown: Shown::Order,
@@ -59,15 +54,13 @@ const EXAMPLES: &[Example] = &[
     },
     // A loop of two.
     Example {
-        nodes: 3,
         ends: &[(0, 1), (2, 1), (1, 2)],
         shown: Shown::Cycle,
         links: &[1, 2],
     },
     // A link leads to the cycle, and another, which is found first, away from it.
     Example {
-        nodes: 5,
-        ends: &[(3, 4), (0, 1), (1, 2), (3, 1), (2, 3)],
+        ends: &[(2, 3), (0, 1), (1, 4), (2, 1), (4, 2)],
         shown: Shown::Cycle,
         links: &[2, 4, 3],
     },
@@ -84,28 +77,16 @@ fn is_shown(alloc: Global, net: &Net, shown: Shown, links: &[u32]) -> bool {
     }
 }
 
-// Whether that is shown of a network of so many nodes with these links.
-fn is_shown_of(
-    alloc: Global,
-    nodes: u32,
-    ends: &[(u32, u32)],
-    shown: Shown,
-    links: &[u32],
-) -> bool {
-    match numbered(alloc, nodes, ends, &[1], &[]) {
+// Whether that is shown of a network with these links.
+fn is_shown_of(alloc: Global, ends: &[(u32, u32)], shown: Shown, links: &[u32]) -> bool {
+    match numbered(alloc, ends, &[1], &[]) {
         Some(net) => is_shown(alloc, &net, shown, links),
         None => false,
     }
 }
 
 fn is_example(alloc: Global, example: &Example) -> bool {
-    is_shown_of(
-        alloc,
-        example.nodes,
-        example.ends,
-        example.shown,
-        example.links,
-    )
+    is_shown_of(alloc, example.ends, example.shown, example.links)
 }
 
 #[test]
@@ -131,7 +112,7 @@ fn is_loop_shown(alloc: Global) -> Result<bool, AllocError> {
         ends.push((node, (node + 1) % 4096))?;
     }
     let links = rising(alloc, 4096)?;
-    Ok(is_shown_of(alloc, 4096, &ends, Shown::Cycle, &links))
+    Ok(is_shown_of(alloc, &ends, Shown::Cycle, &links))
 }
 
 #[test]
@@ -142,7 +123,7 @@ fn a_loop_of_4096_nodes(rt: HostRuntime) {
 fn are_parallel_shown(alloc: Global) -> Result<bool, AllocError> {
     let ends = vec![in alloc; (0, 1); 8192]?;
     let links = rising(alloc, 8192)?;
-    Ok(is_shown_of(alloc, 2, &ends, Shown::Order, &links))
+    Ok(is_shown_of(alloc, &ends, Shown::Order, &links))
 }
 
 #[test]
@@ -150,17 +131,17 @@ fn links_of_one_node(rt: HostRuntime) {
     assert!(rt; matches!(are_parallel_shown(rt.alloc()), Ok(true)));
 }
 
-// Two links between each node and the next, the last ones first.
+// Two links into each node from the one above, and into the last from the source: those of node 1 come first.
 fn is_path_shown(alloc: Global) -> Result<bool, AllocError> {
     let mut ends = Vec::new(alloc);
     let mut links = Vec::new(alloc);
-    for node in (0..4095u32).rev() {
-        for link in [2 * node, 2 * node + 1] {
-            ends.push((node, node + 1))?;
+    for node in 1..4096u32 {
+        for link in [8190 - 2 * node, 8191 - 2 * node] {
+            ends.push(((node + 1) % 4096, node))?;
             links.push(link)?;
         }
     }
-    Ok(is_shown_of(alloc, 4096, &ends, Shown::Order, &links))
+    Ok(is_shown_of(alloc, &ends, Shown::Order, &links))
 }
 
 #[test]

@@ -1,8 +1,8 @@
 //! Small networks by a rule, each by its number.
 ghost use Rattle.std.specs.Prelude.{◌≡◌, ◌<◌, ◌≤◌};
 
+use super::network_of;
 use net_model::Net;
-use numbered_networks::net_of;
 use std::alloc::{AllocError, Global};
 
 // The most links of a network.
@@ -144,7 +144,8 @@ fn source_links(alloc: Global, links: &[(u32, u32)]) -> Result<Vec<u32>, AllocEr
     Ok(leaving)
 }
 
-// The network of a number. In its patterns no link fails, a few do, many do, and all do that leave the source.
+// The network of a number, with the nodes that a link or a sink names. In its patterns no link fails, a few do, many
+// do, and all do that leave the source.
 pub(super) fn network(alloc: Global, number: u32) -> Result<Option<Net>, AllocError> {
     let mut draws = Draws {
         state: number.wrapping_mul(2654435769),
@@ -157,11 +158,10 @@ pub(super) fn network(alloc: Global, number: u32) -> Result<Option<Net>, AllocEr
     let few = some_of(alloc, &mut draws, 0, count, 6)?;
     let many = some_of(alloc, &mut draws, 0, count, 2)?;
     let all = source_links(alloc, links.as_slice())?;
-    net_of(
+    Ok(network_of(
         alloc,
-        nodes,
         links.as_slice(),
         sinks.as_slice(),
         &[few.as_slice(), many.as_slice(), all.as_slice()],
-    )
+    ))
 }
