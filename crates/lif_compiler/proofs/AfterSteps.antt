@@ -11,7 +11,7 @@ use Rattle.std.proofs.lemmas.Option.{get_or_from_slice_get, slice_get-get_or, sl
 use Rattle.std.proofs.lemmas.Simd.{map-map}
 use Rattle.failure_patterns.proofs.DemandLaws.{pattern_place_within}
 use Rattle.field_vectors.specs.Elements.{dot_of}
-use Rattle.field_vectors.specs.Grid.{Grid, IsMatrix, row_of}
+use Rattle.field_vectors.specs.Grid.{AreMatrices, Grid, IsMatrix, row_of}
 use Rattle.field_vectors.proofs.GridLaws.{length-row_of, row_of-elements}
 use Rattle.field_vectors.proofs.NumberLaws.{number-dot_of, numbers-IsRow, numbers-zeros}
 use Rattle.gf_tables.specs.Field.{IsField, IsNumbering}
@@ -40,7 +40,7 @@ use Rattle.lif_compiler.specs.Hops.{IsHop}
 use Rattle.lif_compiler.proofs.OperandLaws.{All-operands_of, AreRows-map, combination-operands_of, rising-operands_of}
 use Rattle.lif_compiler.specs.Operands.{befores}
 use Rattle.lif_compiler.specs.Steps.{AreCarried, IsCarriedUnless}
-use Rattle.lif_compiler.specs.Tables.{AreChosenBy, AreMatrices, grid_at, vectors_for}
+use Rattle.lif_compiler.specs.Tables.{AreChosenBy, grid_at, vectors_for}
 use Rattle.lif_compiler.specs.Visits.{AreChosen, AreVectorsOf, CanVisit, HasVectors, IsOfHop, vector_under}
 use Rattle.lif_compiler.specs.declared.hops.Hop.{Hop}
 use Rattle.lif_compiler.proofs.ChoosingSteps.{All-befores, All-sources, nonzero-from_number}

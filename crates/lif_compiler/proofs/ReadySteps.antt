@@ -9,7 +9,7 @@ use Rattle.std.proofs.lemmas.Option.{slice_get-get_or}
 use Rattle.failure_patterns.proofs.DemandLaws.{pattern_place_within, some_demand, some_pattern}
 use Rattle.field_vectors.proofs.DotOfLaws.{identity_entry-on}
 use Rattle.field_vectors.specs.Elements.{dot_of}
-use Rattle.field_vectors.specs.Grid.{Grid, row_of}
+use Rattle.field_vectors.specs.Grid.{AreMatrices, Grid, row_of}
 use Rattle.field_vectors.proofs.GridLaws.{row_of-elements}
 use Rattle.field_vectors.proofs.NumberLaws.{number-dot_of}
 use Rattle.gf_tables.specs.Field.{IsField, IsNumbering}
@@ -27,7 +27,7 @@ use Rattle.sink_basis.specs.Basis.{IsBasis}
 use Rattle.lif_compiler.proofs.HopLaws.{hop-before_first, hop-before_inner, hop-demand, hop-path, rising-route}
 use Rattle.lif_compiler.specs.Hops.{IsHop, route_of}
 use Rattle.lif_compiler.proofs.RisingLaws.{rising-below, rising-place}
-use Rattle.lif_compiler.specs.Tables.{AreAmong, AreMatrices, AreOfShape, grid_at, vectors_for}
+use Rattle.lif_compiler.specs.Tables.{AreAmong, AreOfShape, grid_at, vectors_for}
 use Rattle.lif_compiler.proofs.VisitLaws.{hop-vector}
 use Rattle.lif_compiler.specs.Visits.{AreVectorsOf, CanVisit, HasVectors, vector_under}
 use Rattle.lif_compiler.specs.declared.hops.Hop.{Hop}

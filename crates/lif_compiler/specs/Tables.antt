@@ -1,7 +1,7 @@
 -- The table of products by which the coefficients of a link are chosen: a row for each hop over it, a column for each
 -- source.
 use Rattle.std.specs.Prelude.{◌≡◌, ◌≢◌, ◌<◌, ◌%◌, ℕ, Bool, List, [], All, Some, length, map, slice_get, slice_index_or, if◌then◌else◌}
-use Rattle.field_vectors.specs.Grid.{Grid, IsMatrix}
+use Rattle.field_vectors.specs.Grid.{Grid}
 use Rattle.gf_tables.specs.declared.kind.FieldKind.{FieldKind}
 use Rattle.linear_algebra.specs.Rows.{AreElements, dot}
 use Rattle.node_program.specs.Carried.{numbers_at, source_vector}
@@ -16,10 +16,6 @@ grid_at grids place = slice_index_or grids place (record { columns = 0; rows = [
 -- matrices of so many rows and columns
 abbrev pub AreOfShape : {A : Type 0} → ℕ → ℕ → List (Grid A) → Type 0
 AreOfShape rows columns grids = All (λ m. (length m.rows ≡ rows) × (m.columns ≡ columns)) grids
-
--- the vectors of a basis and their inverse vectors are matrices of elements
-abbrev pub AreMatrices : {A : Type 0} → (A → Type 0) → Grid A → Grid A → Type 0
-AreMatrices is_element vectors inverses = IsMatrix is_element vectors × IsMatrix is_element inverses
 
 -- each hop is one of a demand and a path that there are
 abbrev pub AreAmong : ℕ → ℕ → List Hop → Type 0

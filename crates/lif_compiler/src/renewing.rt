@@ -1,10 +1,10 @@
 //! The bases of the demands whose paths a visited link is on.
 ghost use Rattle.std.specs.Prelude.{◌≡◌, ◌≢◌, ◌<◌, ℕ, All, IsTrue, OnOk, Some, length, map, slice_get, slice_set};
 ghost use Rattle.field_vectors.specs.Elements.{dot_of};
-ghost use Rattle.field_vectors.specs.Grid.{row_of, with_row};
+ghost use Rattle.field_vectors.specs.Grid.{AreMatrices, row_of, with_row};
 ghost use Rattle.net_model.specs.Lists.{is_rising};
 ghost use Rattle.lif_compiler.specs.Steps.{AreRenewed};
-ghost use Rattle.lif_compiler.specs.Tables.{AreAmong, AreMatrices, AreOfShape, grid_at, vectors_for};
+ghost use Rattle.lif_compiler.specs.Tables.{AreAmong, AreOfShape, grid_at, vectors_for};
 ghost use Rattle.lif_compiler.specs.declared.hops.Hop.{Hop};
 
 use crate::Hop;
@@ -29,8 +29,6 @@ fn renew<F: Field>(
     ensures matrices { OnOk result (AreMatrices F.is_element basis.new.vectors basis.new.inverses) }
 {
     basis.renew(alloc, path, link, vector)?;
-    let _rows = basis.vectors.rows();
-    let _inverses = basis.inverses.rows();
     Ok(())
 }
 
@@ -61,7 +59,6 @@ pub fn renew_all<F: Field>(
     for hop in hops {
         let demand = hop.demand as usize;
         let vectors = &vectors[demand % vectors.len()];
-        let _columns = vectors.columns();
         renew(alloc, &mut bases[demand], hop.path, link, vectors.row(link))?;
     }
     Ok(())

@@ -1,13 +1,12 @@
 //! The draft before any link is visited.
 ghost use Rattle.std.specs.Prelude.{◌≡◌, ◌≤◌, [], All, IfOk, IsTrue, List, None, length, map, replicate, ℕ};
 ghost use Rattle.field_vectors.specs.Elements.{identity_of};
-ghost use Rattle.field_vectors.specs.Grid.{grid_of};
+ghost use Rattle.field_vectors.specs.Grid.{AreMatrices, grid_of};
 ghost use Rattle.gf_tables.specs.Kind.{IsOfKind};
 ghost use Rattle.failure_patterns.specs.UsedField.{pair_demands};
 ghost use Rattle.net_model.specs.Demands.{demand_count};
 ghost use Rattle.node_program.specs.Code.{are_in_order, choice_of};
 ghost use Rattle.lif_compiler.specs.Compiled.{marked_kind};
-ghost use Rattle.lif_compiler.specs.Tables.{AreMatrices};
 ghost use Rattle.lif_compiler.specs.Visits.{AreRoutes, IsVisited};
 
 use crate::draft::Draft;
@@ -43,8 +42,6 @@ fn unit_basis<F: Field>(alloc: Global, rate: u32) -> Result<Basis<F>, AllocError
     ensures matrices { IfOk result (λ basis. AreMatrices F.is_element basis.vectors basis.inverses) }
 {
     let basis = Basis::start(alloc, rate)?;
-    let _rows = basis.vectors.rows();
-    let _inverses = basis.inverses.rows();
     Ok(basis)
 }
 

@@ -1,9 +1,9 @@
 //! The visit of a link.
 ghost use Rattle.std.specs.Prelude.{◌≡◌, ◌<◌, ◌≤◌, ◌+◌, ℕ, List, [], All, OnOk, length, map};
+ghost use Rattle.field_vectors.specs.Grid.{AreMatrices};
 ghost use Rattle.gf_tables.specs.Kind.{IsOfKind};
 ghost use Rattle.net_model.specs.Demands.{demand_count};
 ghost use Rattle.lif_compiler.specs.Compiled.{marked_kind};
-ghost use Rattle.lif_compiler.specs.Tables.{AreMatrices};
 ghost use Rattle.lif_compiler.specs.Visits.{AreVisitable, CanVisit, IsVisited};
 
 use crate::carrying::carry_all;

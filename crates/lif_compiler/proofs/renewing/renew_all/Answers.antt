@@ -2,8 +2,7 @@ use Rattle.std.proofs.Common.{◌<◌, length, slice_index_or, arith, refl, ap, 
 use Rattle.std.proofs.lemmas.List.{get_or_default}
 use Rattle.std.proofs.lemmas.List.Elements.{All-set}
 use Rattle.std.proofs.lemmas.Option.{slice_get-get_or}
-use Rattle.field_vectors.specs.Grid.{Grid, row_of}
-use Rattle.lif_compiler.specs.Tables.{AreMatrices}
+use Rattle.field_vectors.specs.Grid.{AreMatrices, Grid, row_of}
 use Rattle.lif_compiler.specs.declared.hops.Hop.{Hop}
 use Rattle.lif_compiler.proofs.RenewSteps.{apart_before, more_other, renewed_more, renewed_nonzero, widths_more}
 use Rattle.lif_compiler.proofs.TableSteps.{inverses_there, vectors_at}

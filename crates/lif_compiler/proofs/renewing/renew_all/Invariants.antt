@@ -1,6 +1,7 @@
 use Rattle.std.proofs.Common.{◌≡◌, ℕ, All, length, map}
+use Rattle.field_vectors.specs.Grid.{AreMatrices}
 use Rattle.lif_compiler.specs.Steps.{AreRenewed, IsApart}
-use Rattle.lif_compiler.specs.Tables.{AreMatrices, grid_at}
+use Rattle.lif_compiler.specs.Tables.{grid_at}
 use Rattle.lif_compiler.proofs.renewing.renew_all.Given as goal
 
 -- the bases of the hops before this one are renewed; the others are as they were

@@ -1,7 +1,7 @@
 use Rattle.std.proofs.Common.{◌≡◌, ap, arith, length, length-append}
 use Rattle.std.specs.Prelude.{None, replicate}
 use Rattle.field_vectors.specs.Elements.{identity_of}
-use Rattle.lif_compiler.specs.Tables.{AreMatrices}
+use Rattle.field_vectors.specs.Grid.{AreMatrices}
 use Rattle.lif_compiler.proofs.StartSteps.{All-more}
 use Rattle.lif_compiler.proofs.starting.unit_bases.Goals as goal
 

@@ -1,7 +1,7 @@
 use Rattle.std.proofs.Common.{◌≡◌, All, length}
 use Rattle.std.specs.Prelude.{None, replicate}
 use Rattle.field_vectors.specs.Elements.{identity_of}
-use Rattle.lif_compiler.specs.Tables.{AreMatrices}
+use Rattle.field_vectors.specs.Grid.{AreMatrices}
 use Rattle.lif_compiler.proofs.starting.unit_bases.Given as goal
 
 -- so many bases of the unit vectors

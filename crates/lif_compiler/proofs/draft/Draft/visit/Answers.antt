@@ -2,13 +2,13 @@ use Rattle.std.proofs.Common.{◌≡◌, ◌≢◌, ◌<◌, ◌++◌, ◌∷◌
 use Rattle.std.specs.Prelude.{if◌then◌else◌}
 use Rattle.std.proofs.lemmas.List.{take_at}
 use Rattle.std.proofs.lemmas.Option.{slice_get-get_or}
-use Rattle.field_vectors.specs.Grid.{Grid, row_of}
+use Rattle.field_vectors.specs.Grid.{AreMatrices, Grid, row_of}
 use Rattle.linear_algebra.specs.Rows.{dot}
 use Rattle.node_program.specs.Carried.{numbers_at, source_vector}
 use Rattle.node_program.specs.Value.{leaves_source}
 use Rattle.node_program.specs.declared.Operand.{Operand}
 use Rattle.lif_compiler.specs.Compiled.{marked_kind}
-use Rattle.lif_compiler.specs.Tables.{AreAmong, AreChosenBy, AreMatrices, AreOfShape, grid_at, vectors_for}
+use Rattle.lif_compiler.specs.Tables.{AreAmong, AreChosenBy, AreOfShape, grid_at, vectors_for}
 use Rattle.lif_compiler.specs.Visits.{IsVisited}
 use Rattle.lif_compiler.proofs.AfterSteps.{operand_links, operand_rows, operand_times, product_nonzero, vectors_more}
 use Rattle.lif_compiler.proofs.CarrySteps.{carried_at}

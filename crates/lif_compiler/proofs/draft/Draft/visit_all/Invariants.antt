@@ -1,6 +1,6 @@
 use Rattle.std.proofs.Common.{◌≡◌, ℕ, List, All, length, map}
+use Rattle.field_vectors.specs.Grid.{AreMatrices}
 use Rattle.lif_compiler.specs.Compiled.{marked_kind}
-use Rattle.lif_compiler.specs.Tables.{AreMatrices}
 use Rattle.lif_compiler.specs.Visits.{AreVisitable, IsVisited}
 use Rattle.lif_compiler.proofs.draft.Draft.visit_all.Given as goal
 
