@@ -17,7 +17,8 @@ use Rattle.node_program.proofs.BlockLaws.{IsBlock-rows}
 use Rattle.node_program.specs.Decoding.{IsBlock}
 use Rattle.node_program.specs.Value.{row_at, width_of}
 use Rattle.node_program.specs.declared.code.Code.{Code}
-use Rattle.block_carrier.specs.Carried.{row_bytes, block_elements}
+use Rattle.generation_frame.specs.Blocks.{row_bytes}
+use Rattle.block_carrier.specs.Carried.{block_elements}
 use Rattle.block_carrier.specs.LinkRows.{row_width, row_of, elements_at, IsBlockOf}
 use Rattle.block_carrier.proofs.RowLaws.{row_lies_within, whole_row, length-row_of, row_of-bytes, elements_at-IsRow}
 

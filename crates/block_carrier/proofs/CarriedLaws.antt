@@ -12,7 +12,8 @@ use Rattle.node_program.specs.CodeValue.{value_in, is_live_in}
 use Rattle.node_program.proofs.LiveLaws.{is_live_in-failed}
 use Rattle.node_program.proofs.OperandLaws.{operands_of_draft}
 use Rattle.node_program.specs.Operands.{IsOperand}
-use Rattle.node_program.specs.Value.{row_at, operands_at, leaves_source, width_of, value_from}
+use Rattle.net_model.specs.Walks.{leaves_source}
+use Rattle.node_program.specs.Value.{row_at, operands_at, width_of, value_from}
 use Rattle.node_program.proofs.ValueLaws.{map-agree, value_from-agree, value-equation, value-dead}
 use Rattle.node_program.specs.declared.Operand.{Operand}
 use Rattle.node_program.specs.declared.code.Code.{Code}

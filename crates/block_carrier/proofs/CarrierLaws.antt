@@ -7,7 +7,8 @@ use Rattle.std.proofs.lemmas.List.{length-replicate}
 use Rattle.std.proofs.lemmas.List.Elements.{All-replicate, All-take, All-drop}
 use Rattle.node_program.specs.Decoding.{IsAccepted}
 use Rattle.node_program.specs.declared.code.Code.{Code}
-use Rattle.block_carrier.specs.Carried.{row_bytes, HasBlock}
+use Rattle.generation_frame.specs.Blocks.{row_bytes}
+use Rattle.block_carrier.specs.Carried.{HasBlock}
 use Rattle.block_carrier.specs.LinkRows.{AreCarried, IsLiveTable, AreLinkRows, IsBlockOf, decoded_block, carried_of, IsCarrier}
 use Rattle.block_carrier.proofs.DecodedLaws.{decoded_block-first}
 

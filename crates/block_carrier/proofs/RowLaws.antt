@@ -13,7 +13,7 @@ use Rattle.linear_algebra.specs.Elements.{AreBytes}
 use Rattle.linear_algebra.proofs.ElementsLaws.{elements_of-IsRow, elements_of-zero_row, length-elements_of}
 use Rattle.linear_algebra.proofs.EntryLaws.{row_end}
 use Rattle.linear_algebra.specs.Rows.{add_rows, scale_row, zero_row, combination, IsRow}
-use Rattle.block_carrier.specs.Carried.{row_bytes}
+use Rattle.generation_frame.specs.Blocks.{row_bytes}
 use Rattle.block_carrier.specs.LinkRows.{row_width, row_of, elements_at, sum_of_rows, IsRowWritten}
 
 -- a row has so many elements

@@ -1,11 +1,8 @@
 -- A code at work on blocks, under a pattern.
 use Rattle.std.specs.Prelude.{◌≡◌, ◌*◌, ℕ, List, length}
 use Rattle.field_rows.specs.Bytes.{element_rows}
+use Rattle.generation_frame.specs.Blocks.{row_bytes}
 use Rattle.node_program.specs.declared.code.Code.{Code}
-
--- the bytes of a row
-abbrev pub row_bytes : ℕ
-row_bytes = 1024
 
 -- A code, a pattern, and the block that was carried last; none was where it is empty.
 pub record Carried : Type 0 where

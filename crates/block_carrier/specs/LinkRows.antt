@@ -10,7 +10,8 @@ use Rattle.linear_algebra.specs.Matrices.{matrix_times}
 use Rattle.linear_algebra.specs.Rows.{combination}
 use Rattle.node_program.specs.CodeValue.{value_in, is_live_in}
 use Rattle.node_program.specs.declared.code.Code.{Code}
-use Rattle.block_carrier.specs.Carried.{Carried, row_bytes, block_elements}
+use Rattle.generation_frame.specs.Blocks.{row_bytes}
+use Rattle.block_carrier.specs.Carried.{Carried, block_elements}
 
 -- how many elements a row has
 abbrev pub row_width : FieldKind → ℕ

@@ -2,13 +2,16 @@
 ghost use Rattle.std.specs.Prelude.{◌≡◌, ◌<◌, ◌*◌, [], length, IfOk};
 ghost use Rattle.field_rows.specs.Bytes.{elements_of};
 ghost use Rattle.node_program.specs.CodeValue.{value_in};
-ghost use Rattle.block_carrier.specs.Carried.{row_bytes, HasBlock, block_elements};
+ghost use Rattle.generation_frame.specs.Blocks.{row_bytes};
+ghost use Rattle.block_carrier.specs.Carried.{HasBlock, block_elements};
 
 use crate::links::{carry_link, decode_rows};
 use crate::sums::row_of;
 use code_checker::Checked;
+use failure_patterns::number_of;
 use field_rows::RowTables;
 use generation_frame::ROW;
+use net_model::Demand;
 use node_program::{LiveLinks, live_links};
 use std::alloc::{AllocError, Global};
 use std::marker::Model;
@@ -96,7 +99,8 @@ impl<'c> Carrier<'c> {
         ensures { into.new ≡ self.now.block }
     {
         let code = self.code.code();
-        let demand = sink as usize * code.net.patterns.len() + self.pattern as usize;
+        let pattern = self.pattern;
+        let demand = number_of(&code.net, Demand { sink, pattern }) as usize;
         decode_rows(&self.tables, code, demand, &self.rows, into);
     }
 }

@@ -2,7 +2,8 @@
 ghost use Rattle.std.specs.Prelude.{◌≡◌, ◌≢◌, ◌<◌, ◌*◌, ℕ, [], length};
 ghost use Rattle.net_model.specs.Demands.{demand_count};
 ghost use Rattle.node_program.specs.Value.{value_from};
-ghost use Rattle.block_carrier.specs.Carried.{row_bytes, block_elements};
+ghost use Rattle.generation_frame.specs.Blocks.{row_bytes};
+ghost use Rattle.block_carrier.specs.Carried.{block_elements};
 ghost use Rattle.block_carrier.specs.LinkRows.{row_of, elements_at, decoded_rows};
 
 use crate::sums::{sum_links, sum_operands};
@@ -22,10 +23,10 @@ pub(crate) fn carry_link(tables: &RowTables, code: &Code, link: u32, block: &[u8
         ≡ value_from code.now.net code.now.field code.now.operands [] (block_elements code.now block.now) (elements_at code.now.field rows.old) link }
 {
     let operands = code.operands.at(link as usize).as_slice();
-    let leaves_source = code.net.links.at(link as usize).tail == code.net.source;
+    let leaves = code.net.leaves_source(link);
     let (before, rest) = rows.split_at_mut(link as usize * ROW);
     let (row, _) = rest.split_at_mut(ROW);
-    if leaves_source {
+    if leaves {
         sum_operands(tables, code.field, operands, block, row);
     } else {
         sum_operands(tables, code.field, operands, before, row);

@@ -3,7 +3,7 @@ ghost use Rattle.std.specs.Prelude.{◌≡◌, ◌<◌, ◌≤◌, ◌+◌, ◌*
 ghost use Rattle.gf_tables.specs.Product.{size_of};
 ghost use Rattle.linear_algebra.specs.Rows.{AreElements};
 ghost use Rattle.field_rows.specs.Bytes.{elements_of};
-ghost use Rattle.block_carrier.specs.Carried.{row_bytes};
+ghost use Rattle.generation_frame.specs.Blocks.{row_bytes};
 ghost use Rattle.block_carrier.specs.LinkRows.{row_of, sum_of_rows};
 
 use field_rows::RowTables;

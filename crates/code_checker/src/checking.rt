@@ -8,8 +8,10 @@ ghost use Rattle.code_checker.specs.First.{IsFirstBefore, fails_below};
 use crate::checked::{CheckRefusal, Checked, Refused};
 use crate::products::{Failure, difference};
 use counted_steps::Steps;
+use failure_patterns::number_of;
 use gf_tables::{Field, FieldKind, Gf8, Gf16};
 use lif_outside::Gate;
+use net_model::Demand;
 use node_program::{Code, vectors};
 use std::alloc::{AllocError, Global};
 use std::marker::Brand;
@@ -104,9 +106,8 @@ fn first_up_to<F: Field, L: Ledger>(
     ensures { IfOk result (IsFirstBefore code.now (pattern + 1) 0) }
 {
     let vectors = vectors::<F>(alloc, code, pattern)?;
-    let patterns = code.net.patterns.len() as u32;
     for sink in 0..code.net.sinks.len() as u32 {
-        let demand = sink * patterns + pattern;
+        let demand = number_of(&code.net, Demand { sink, pattern }) as u32;
         if fails_below(&first, demand) {
             return Ok(first);
         }

@@ -4,20 +4,15 @@ use Rattle.std.specs.Int.{w16, from_be_bytes}
 use Rattle.gf_tables.specs.declared.kind.FieldKind.{FieldKind}
 use Rattle.gf_tables.specs.declared.kind.FieldKind.TheVariants.{Eight, Sixteen}
 use Rattle.net_model.specs.Name.{is_name}
-use Rattle.code_file.specs.declared.refusal.CodeRefusal.{CodeRefusal}
 use Rattle.code_file.specs.declared.refusal.CodeRefusal.TheVariants.{BadName, Truncated}
-use Rattle.code_file.specs.Reading.{Rest, Reading, ◌>>=◌, refused_first, item, byte_at, number_at, element_at, name_at}
+use Rattle.code_file.specs.Reading.{Rest, Reading, ◌>>=◌, refused_first, item, byte_at, number_at, element_at, name_at, Conditions}
 
--- no conditions
-abbrev pub none : {X : Type 0} → X → List (Bool × CodeRefusal)
-none _ = []
-
-item_by : (b : Bool) (at : ℕ) (x : List ℕ × Rest) (conditions : List ℕ → List (Bool × CodeRefusal))
+item_by : (b : Bool) (at : ℕ) (x : List ℕ × Rest) (conditions : List ℕ → Conditions)
     → cond b (Err (Truncated at)) (refused_first (conditions x.0) x) ≡ (cond b (Err (Truncated at)) (Ok x) >>= λ it. refused_first (conditions it.0) it)
 item_by true at x conditions = refl
 item_by false at x conditions = refl
 
-pub item_checked : (size : ℕ) (rest : Rest) (conditions : List ℕ → List (Bool × CodeRefusal)) → item size rest conditions ≡ (item size rest (λ _. []) >>= λ it. refused_first (conditions it.0) it)
+pub item_checked : (size : ℕ) (rest : Rest) (conditions : List ℕ → Conditions) → item size rest conditions ≡ (item size rest (λ _. []) >>= λ it. refused_first (conditions it.0) it)
 unfolding item
 item_checked size rest conditions =
     item_by (ltb (length rest.bytes) size) rest.at (take size rest.bytes, record { at = rest.at + size; bytes = drop size rest.bytes }) conditions
@@ -27,27 +22,27 @@ abbrev seen : {X Y : Type 0} → (X × Rest → Y) → X × Rest → Reading Y
 seen f x = Ok (f x, x.1)
 
 -- what is made of an item doesn't matter for its conditions
-made : {X Y : Type 0} (conditions : List (Bool × CodeRefusal)) (f : X × Rest → Y) (x : X × Rest) → (refused_first conditions x >>= seen f) ≡ refused_first conditions (f x, x.1)
+made : {X Y : Type 0} (conditions : Conditions) (f : X × Rest → Y) (x : X × Rest) → (refused_first conditions x >>= seen f) ≡ refused_first conditions (f x, x.1)
 made [] f x = refl
 made {Y = Y} (condition ∷ conditions) f x =
     elim condition.0 as (λ (b : Bool). (cond b (Err condition.1) (refused_first conditions x) >>= seen f) ≡ cond b (Err condition.1) (refused_first conditions (f x, x.1))) [ true ↦ refl | false ↦ made conditions f x ]
 
-made_of : {X Y : Type 0} (it : Reading X) (f : X × Rest → Y) (conditions : Y → List (Bool × CodeRefusal))
+made_of : {X Y : Type 0} (it : Reading X) (f : X × Rest → Y) (conditions : Y → Conditions)
     → ((it >>= λ x. refused_first (conditions (f x)) x) >>= seen f) ≡ ((it >>= seen f) >>= λ y. refused_first (conditions y.0) y)
 made_of (Ok x) f conditions = made (conditions (f x)) f x
 made_of (Err refusal) f conditions = refl
 
-pub byte_checked : (rest : Rest) (conditions : ℕ → List (Bool × CodeRefusal)) → byte_at rest conditions ≡ (byte_at rest (λ _. []) >>= λ n. refused_first (conditions n.0) n)
+pub byte_checked : (rest : Rest) (conditions : ℕ → Conditions) → byte_at rest conditions ≡ (byte_at rest (λ _. []) >>= λ n. refused_first (conditions n.0) n)
 unfolding byte_at
 byte_checked rest conditions =
     rw (item_checked 1 rest (λ bytes. conditions (slice_index bytes 0))) (made_of (item 1 rest (λ _. [])) (λ it. slice_index it.0 0) conditions)
 
-pub number_checked : (rest : Rest) (conditions : ℕ → List (Bool × CodeRefusal)) → number_at rest conditions ≡ (number_at rest (λ _. []) >>= λ n. refused_first (conditions n.0) n)
+pub number_checked : (rest : Rest) (conditions : ℕ → Conditions) → number_at rest conditions ≡ (number_at rest (λ _. []) >>= λ n. refused_first (conditions n.0) n)
 unfolding number_at
 number_checked rest conditions =
     rw (item_checked 2 rest (λ bytes. conditions (from_be_bytes w16 bytes))) (made_of (item 2 rest (λ _. [])) (λ it. from_be_bytes w16 it.0) conditions)
 
-pub element_checked : (field : FieldKind) (rest : Rest) (conditions : ℕ → List (Bool × CodeRefusal)) → element_at field rest conditions ≡ (element_at field rest (λ _. []) >>= λ n. refused_first (conditions n.0) n)
+pub element_checked : (field : FieldKind) (rest : Rest) (conditions : ℕ → Conditions) → element_at field rest conditions ≡ (element_at field rest (λ _. []) >>= λ n. refused_first (conditions n.0) n)
 element_checked Eight rest conditions = byte_checked rest conditions
 element_checked Sixteen rest conditions = number_checked rest conditions
 

@@ -1,5 +1,5 @@
 -- Readers of the front, of the operands, of the decoders and of all of a code file.
-use Rattle.std.specs.Prelude.{◌≡◌, ℕ, ◌+◌, ◌*◌, ◌<◌, ◌≤◌, Bool, true, false, not, ◌==◌, List, [], ◌∷◌, ◌++◌, length, map, drop, codes, Result, Ok, Err}
+use Rattle.std.specs.Prelude.{◌≡◌, ℕ, ◌+◌, ◌*◌, ◌<◌, ◌≤◌, true, false, not, ◌==◌, List, [], ◌∷◌, ◌++◌, length, map, drop, codes, Result, Ok, Err}
 use Rattle.std.specs.List.{concat, flat_map}
 use Rattle.std.specs.Str.{bytes_eq}
 use Rattle.std.proofs.Common.{refl, sym, subst, ap, ◌∙◌, append_assoc, append-nil, arith, lit<}
@@ -14,7 +14,7 @@ use Rattle.node_program.specs.Code.{leads_into}
 use Rattle.node_program.specs.declared.Operand.{Operand}
 use Rattle.node_program.specs.declared.Decoder.{Decoder}
 use Rattle.code_file.specs.Items.{Item, byte_item, number_item, element_item, name_item, link_items, pattern_items, operand_items, operand_list_items, operand_table_items, decoder_items, decoder_table_items, code_mark, code_version}
-use Rattle.code_file.specs.Reading.{Rest, Reading, ◌>>=◌, Front, Contents, item, byte_at, number_at, element_at, each_at, is_above_last, mark_at, field_at, rate_at, nodes_at, links_at, source_at, sinks_at, patterns_at, front_at, may_read, operand_at, operands_at_link, decoder_at, demand_sinks}
+use Rattle.code_file.specs.Reading.{Rest, Reading, ◌>>=◌, Front, Contents, item, byte_at, element_at, each_at, is_above_last, mark_at, field_at, rate_at, nodes_at, links_at, source_at, sinks_at, patterns_at, front_at, may_read, operand_at, operands_at_link, decoder_at, demand_sinks, decoder_link_at, any, reads_of, Conditions}
 use Rattle.code_file.specs.Spelling.{front_items_in, items_in, spelling_of}
 use Rattle.code_file.proofs.Readers.{ok_of, is_memory, IsBytes, IsReader, Takes, AllAfter, EachFits, Takes-then, bind_ok, bind_not_memory, ok_is, item_takes, item_again, item_not_memory, empty_reader, then_reader, same_reader, repeated_reader, each_reader}
 use Rattle.code_file.proofs.ItemReaders.{AreConditions, byte_reader, number_reader, element_reader}
@@ -41,7 +41,7 @@ version_conditions version = record {
 }
 
 -- when the mark is refused
-abbrev mark_conditions : List ℕ → List ℕ → List (Bool × CodeRefusal)
+abbrev mark_conditions : List ℕ → List ℕ → Conditions
 mark_conditions mark bytes = (not (bytes_eq bytes mark), BadMagic) ∷ []
 
 -- the mark and the version as a text
@@ -228,8 +228,8 @@ pub record OperandAfter (front : Front) (link : Link) (earlier : List Operand) (
 
 -- what a link may read, above the one before
 from_conditions : (front : Front) (link : Link) (earlier : List Operand)
-    → AreConditions (λ rest n. (not (is_above_last (map (λ operand. operand.from) earlier) n), NotRising rest.at) ∷ (not (may_read front link n), BadOperand rest.at) ∷ [])
-    (λ n. (is_above_last (map (λ operand. operand.from) earlier) n ≡ true) × (may_read front link n ≡ true))
+    → AreConditions (λ rest n. (not (is_above_last (reads_of earlier) n), NotRising rest.at) ∷ (not (may_read front link n), BadOperand rest.at) ∷ [])
+    (λ n. (is_above_last (reads_of earlier) n ≡ true) × (may_read front link n ≡ true))
 from_conditions front link earlier = record {
   to = λ rest n none. (not-false _ none.0, not-false _ none.1.0);
   from = λ rest n fit. (not_from_true _ fit.0, (not_from_true _ fit.1, tt));
@@ -295,7 +295,7 @@ decoder_link_conditions front sink earlier = record {
 
 -- one link of a decoder
 decoder_link_reader : (front : Front) (sink : ℕ) (earlier : List ℕ)
-    → IsReader (λ at. number_at at (λ n. (not (is_above_last earlier n), NotRising at.at) ∷ (not (leads_into front.links sink n), BadOperand at.at) ∷ [])) number_item (DecoderLinkAfter front sink earlier)
+    → IsReader (decoder_link_at front.links sink earlier) number_item (DecoderLinkAfter front sink earlier)
 decoder_link_reader front sink earlier =
     same_reader (number_reader (decoder_link_conditions front sink earlier)) (λ n fit. refl)
     (λ n fit. record { fits = fit.0; rises = fit.1.0; into = fit.1.1 })
@@ -310,7 +310,7 @@ no_conditions = record {
 }
 
 -- one entry of a matrix
-entry_reader : (field : FieldKind) (earlier : List ℕ) → IsReader (λ at. element_at field at (λ n. [])) (element_item field) (λ n. n < size_of field)
+entry_reader : (field : FieldKind) (earlier : List ℕ) → IsReader (any (element_at field)) (element_item field) (λ n. n < size_of field)
 entry_reader field earlier = same_reader (element_reader field no_conditions) (λ n fit. refl) (λ n fit. fit.0) (λ n fit. (fit, tt))
 
 -- what the items of a decoder say one by one
@@ -326,10 +326,10 @@ unfolding decoder_at
 decoder_reader front sink =
     same_reader
     (then_reader (λ (decoder : Decoder). decoder.links)
-    (repeated_reader (λ earlier at. number_at at (λ n. (not (is_above_last earlier n), NotRising at.at) ∷ (not (leads_into front.links sink n), BadOperand at.at) ∷ []))
+    (repeated_reader (decoder_link_at front.links sink)
     number_item (DecoderLinkAfter front sink) (decoder_link_reader front sink) front.rate [])
     (λ links. then_reader (λ (decoder : Decoder). decoder.entries)
-    (repeated_reader (λ earlier at. element_at front.field at (λ n. [])) (element_item front.field) (λ earlier n. n < size_of front.field) (entry_reader front.field) (front.rate * front.rate) [])
+    (repeated_reader (λ _. any (element_at front.field)) (element_item front.field) (λ earlier n. n < size_of front.field) (entry_reader front.field) (front.rate * front.rate) [])
     (λ entries. empty_reader (record { links = links; entries = entries }))
     (λ entries decoder fit more. ap (λ (d : Decoder). d.entries) more))
     (λ links decoder fit more. ap (λ (d : Decoder). d.links) more.1))

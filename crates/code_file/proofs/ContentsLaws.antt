@@ -1,5 +1,5 @@
 -- What the items of a file say one by one is what holds of a code.
-use Rattle.std.specs.Prelude.{◌≡◌, ℕ, zero, suc, ◌+◌, ◌*◌, ◌<◌, ◌≤◌, Bool, true, false, ◌||◌, ◌&&◌, ◌==◌, nat_eq, nat_lt, List, [], ◌∷◌, length, map, drop, codes, if◌then◌else◌}
+use Rattle.std.specs.Prelude.{◌≡◌, ℕ, zero, suc, ◌+◌, ◌*◌, ◌<◌, ◌≤◌, Bool, true, false, ◌&&◌, ◌==◌, nat_eq, nat_lt, List, [], ◌∷◌, length, map, drop, codes, if◌then◌else◌}
 use Rattle.std.specs.List.{list_all, list_any}
 use Rattle.std.specs.Str.{bytes_eq}
 use Rattle.std.proofs.Common.{refl, sym, subst, ap, ◌∙◌, arith}
@@ -11,7 +11,7 @@ use Rattle.gf_tables.specs.Product.{size_of}
 use Rattle.gf_tables.specs.declared.kind.FieldKind.{FieldKind}
 use Rattle.net_model.specs.Demands.{sinks_of_demands}
 use Rattle.net_model.specs.Lists.{are_distinct, is_rising, is_among}
-use Rattle.net_model.proofs.ListLaws.{length-are_distinct, list_all-implied, list_any-map, nat_eq-swap}
+use Rattle.net_model.proofs.ListLaws.{length-are_distinct, list_all-implied, list_any-map, nat_eq-swap, is_among-same}
 use Rattle.net_model.specs.Network.{are_names, is_link_among, is_sink_among, is_listed_pattern, are_patterns, IsNetwork}
 use Rattle.net_model.specs.declared.Link.{Link}
 use Rattle.net_model.specs.declared.Pattern.{Pattern}
@@ -20,19 +20,19 @@ use Rattle.node_program.specs.Code.{choice_of, leads_into, are_in_order, is_sour
 use Rattle.node_program.specs.declared.Operand.{Operand}
 use Rattle.node_program.specs.declared.Decoder.{Decoder}
 use Rattle.node_program.specs.declared.code.Code.{Code}
-use Rattle.code_file.specs.Reading.{Front, Contents}
+use Rattle.code_file.specs.Reading.{Front, Contents, names_of, none_pattern}
 use Rattle.code_file.specs.Spelling.{front_of, contents_in, AreContents}
 use Rattle.code_file.proofs.Readers.{AllAfter, EachFits}
-use Rattle.code_file.proofs.FrontReaders.{NameAfter, LinkAfter, SinkAfter, LinkNumberAfter, PatternAfter, none_pattern}
+use Rattle.code_file.proofs.FrontReaders.{NameAfter, LinkAfter, SinkAfter, LinkNumberAfter, PatternAfter}
 use Rattle.code_file.proofs.CodeReaders.{OperandAfter, AreOperandsRead, DecoderLinkAfter, IsDecoderRead, IsFrontRead, AreContentsRead}
 use Rattle.code_file.proofs.AfterLaws.{Rises, LeadsOn, AllAfter-weaker, AllAfter-both, AllAfter-map, AllAfter-from_map, AllAfter-from_list_all, list_all-from_AllAfter, are_distinct-from_AllAfter, AllAfter-from_are_distinct, are_names-from_AllAfter, AllAfter-from_are_names, is_rising-from_AllAfter, AllAfter-from_is_rising, length-is_rising, are_in_order-from_AllAfter, AllAfter-from_are_in_order}
 
 -- ---- links
 
 -- the names of the links
-link_names-from_read : (nodes : ℕ) (links : List Link) → AllAfter (LinkAfter nodes) [] links → are_names (map (λ link. link.name) links) ≡ true
+link_names-from_read : (nodes : ℕ) (links : List Link) → AllAfter (LinkAfter nodes) [] links → are_names (names_of links) ≡ true
 link_names-from_read nodes links all =
-    are_names-from_AllAfter (map (λ (link : Link). link.name) links)
+    are_names-from_AllAfter (names_of links)
     (AllAfter-map (λ (link : Link). link.name) NameAfter [] links
     (AllAfter-weaker (LinkAfter nodes) (λ before link. NameAfter (map (λ (one : Link). one.name) before) link.name) [] links
     (λ before link is. (is.name, list_any-map (λ (one : Link). one.name) (bytes_eq link.name) before ∙ is.is_new)) all))
@@ -51,12 +51,12 @@ pub link_order-from_read : (nodes : ℕ) (links : List Link) → AllAfter (LinkA
 link_order-from_read nodes links all = are_in_order-from_AllAfter links (AllAfter-weaker (LinkAfter nodes) LeadsOn [] links (λ before link is. is.leads_on) all)
 
 -- links of a network in order are read
-LinkAfter-from_network : (nodes : ℕ) (links : List Link) → nodes ≤ 4096 → are_names (map (λ link. link.name) links) ≡ true → list_all (is_link_among nodes) links ≡ true → are_in_order [] links ≡ true
+LinkAfter-from_network : (nodes : ℕ) (links : List Link) → nodes ≤ 4096 → are_names (names_of links) ≡ true → list_all (is_link_among nodes) links ≡ true → are_in_order [] links ≡ true
     → AllAfter (LinkAfter nodes) [] links
 LinkAfter-from_network nodes links few names ends order =
     let Named : List Link → Link → Type 0 = λ before link. NameAfter (map (λ (one : Link). one.name) before) link.name in
     let Ended : List Link → Link → Type 0 = λ before link. is_link_among nodes link ≡ true in
-    let named : AllAfter Named [] links = AllAfter-from_map (λ (link : Link). link.name) NameAfter [] links (AllAfter-from_are_names (map (λ (link : Link). link.name) links) names) in
+    let named : AllAfter Named [] links = AllAfter-from_map (λ (link : Link). link.name) NameAfter [] links (AllAfter-from_are_names (names_of links) names) in
     let ended : AllAfter Ended [] links = AllAfter-from_list_all (is_link_among nodes) [] links ends in
     let ordered : AllAfter LeadsOn [] links = AllAfter-from_are_in_order links order in
     AllAfter-weaker (λ before link. Named before link × (Ended before link × LeadsOn before link)) (LinkAfter nodes) [] links
@@ -83,11 +83,6 @@ sink_nodes-from_read nodes source sinks all =
     list_all-from_AllAfter (is_sink_among nodes source) [] sinks
     (AllAfter-weaker (SinkAfter nodes source) (λ before sink. is_sink_among nodes source sink ≡ true) [] sinks
     (λ before sink is. and_from _ _ (lt-ltb _ _ is.node) (not_from_false _ is.not_source)) all)
-
--- a number is among others, whichever side of the test it's on
-is_among-same : (numbers : List ℕ) (n : ℕ) → list_any (nat_eq n) numbers ≡ is_among numbers n
-is_among-same [] n = refl
-is_among-same (one ∷ numbers) n = ap (λ (b : Bool). b || list_any (nat_eq n) numbers) (nat_eq-swap n one) ∙ ap (λ (b : Bool). (one == n) || b) (is_among-same numbers n)
 
 -- the sinks are distinct
 distinct_sinks-from_read : (nodes source : ℕ) (sinks : List ℕ) → AllAfter (SinkAfter nodes source) [] sinks → are_distinct nat_eq sinks ≡ true

@@ -1,5 +1,5 @@
 -- Readers of the parts of a code file up to the operands.
-use Rattle.std.specs.Prelude.{◌≡◌, ℕ, ◌+◌, ◌*◌, ◌<◌, ◌≤◌, true, false, not, ◌||◌, ◌==◌, nat_lt, List, [], ◌∷◌, ◌++◌, length, map, drop, codes, ◌⊎◌, if◌then◌else◌}
+use Rattle.std.specs.Prelude.{◌≡◌, ℕ, ◌+◌, ◌*◌, ◌<◌, ◌≤◌, true, false, not, ◌||◌, ◌==◌, nat_lt, List, [], ◌∷◌, ◌++◌, length, map, drop, ◌⊎◌, if◌then◌else◌}
 use Rattle.std.specs.List.{concat, flat_map, list_any}
 use Rattle.std.specs.Str.{bytes_eq}
 use Rattle.std.proofs.Common.{refl, sym, ap, ◌∙◌, append-nil, arith, inl, inr}
@@ -12,7 +12,7 @@ use Rattle.net_model.specs.Name.{is_name}
 use Rattle.net_model.specs.declared.Link.{Link}
 use Rattle.net_model.specs.declared.Pattern.{Pattern}
 use Rattle.code_file.specs.Items.{byte_item, number_item, name_item, link_items, pattern_items}
-use Rattle.code_file.specs.Reading.{Rest, Reading, ◌>>=◌, number_at, name_at, repeated_at, is_above_last, field_at, rate_at, nodes_at, link_at, links_at, source_at, sinks_at, pattern_at, patterns_at}
+use Rattle.code_file.specs.Reading.{Rest, Reading, ◌>>=◌, repeated_at, is_above_last, field_at, rate_at, nodes_at, link_at, links_at, source_at, sinks_at, pattern_at, patterns_at, failed_at, sink_at, other_name_at, tails_of, none_pattern}
 use Rattle.code_file.proofs.Readers.{IsReader, AllAfter, empty_reader, then_reader, same_reader, repeated_reader}
 use Rattle.code_file.proofs.ItemReaders.{AreConditions, byte_reader, number_reader, name_reader}
 use Rattle.code_file.specs.declared.refusal.CodeRefusal.TheVariants.{BadField, BadRate, BadIndex, OutOfOrder, NotRising, TooMany}
@@ -129,7 +129,7 @@ NameAfter earlier name = (is_name name ≡ true) × (list_any (bytes_eq name) ea
 pub nodes_reader : IsReader nodes_at (λ nodes. number_item (length nodes) ++ flat_map name_item nodes) (λ nodes. (length nodes ≤ 4096) × AllAfter NameAfter [] nodes)
 unfolding nodes_at
 nodes_reader =
-    same_reader (counted_reader (number_reader (count_conditions 4096)) (λ earlier at. name_at at (λ name. list_any (bytes_eq name) earlier)) name_item NameAfter (λ earlier. name_reader (λ name. list_any (bytes_eq name) earlier)) [])
+    same_reader (counted_reader (number_reader (count_conditions 4096)) other_name_at name_item NameAfter (λ earlier. name_reader (λ name. list_any (bytes_eq name) earlier)) [])
     (λ nodes fit. refl) (λ nodes fit. (fit.0.1, fit.1.1)) (λ nodes fit. ((omega (arith, fit.0), fit.0), (refl, fit.1)))
 
 -- ---- links
@@ -146,8 +146,8 @@ pub record LinkAfter (nodes : ℕ) (earlier : List Link) (link : Link) : Type 0 
 
 -- a node that is neither the tail of the link nor that of an earlier one
 head_conditions : (nodes : ℕ) (earlier : List Link) (tail : ℕ)
-    → AreConditions (λ rest n. (not (nat_lt n nodes), BadIndex rest.at) ∷ ((n == tail) || is_among (map (λ link. link.tail) earlier) n, OutOfOrder (length earlier)) ∷ [])
-    (λ n. (n < nodes) × (((n == tail) || is_among (map (λ link. link.tail) earlier) n) ≡ false))
+    → AreConditions (λ rest n. (not (nat_lt n nodes), BadIndex rest.at) ∷ ((n == tail) || is_among (tails_of earlier) n, OutOfOrder (length earlier)) ∷ [])
+    (λ n. (n < nodes) × (((n == tail) || is_among (tails_of earlier) n) ≡ false))
 head_conditions nodes earlier tail = record {
   to = λ rest n none. (ltb-true _ _ (not-false _ none.0), none.1.0);
   from = λ rest n fit. (not_from_true _ (lt-ltb _ _ fit.0), (fit.1, tt));
@@ -206,7 +206,7 @@ sink_conditions nodes source earlier = record {
 
 -- one sink
 pub sink_reader : (nodes source : ℕ) (earlier : List ℕ)
-    → IsReader (λ at. number_at at (λ n. (not (nat_lt n nodes) || (n == source) || is_among earlier n, BadIndex at.at) ∷ [])) number_item (SinkAfter nodes source earlier)
+    → IsReader (sink_at nodes source earlier) number_item (SinkAfter nodes source earlier)
 sink_reader nodes source earlier =
     same_reader (number_reader (sink_conditions nodes source earlier)) (λ n fit. refl)
     (λ n fit. record { fits = fit.0; node = fit.1.0; not_source = fit.1.1.0; is_new = fit.1.1.1 })
@@ -218,7 +218,7 @@ pub sinks_reader : (nodes source : ℕ) → IsReader (sinks_at nodes source) (λ
 unfolding sinks_at
 sinks_reader nodes source =
     same_reader
-    (counted_reader (number_reader (some_conditions 4096)) (λ earlier at. number_at at (λ n. (not (nat_lt n nodes) || (n == source) || is_among earlier n, BadIndex at.at) ∷ []))
+    (counted_reader (number_reader (some_conditions 4096)) (sink_at nodes source)
     number_item (SinkAfter nodes source) (sink_reader nodes source) [])
     (λ sinks fit. refl) (λ sinks fit. (fit.0.1.0, (fit.0.1.1, fit.1.1))) (λ sinks fit. ((omega (arith, fit.1.0), (fit.0, fit.1.0)), (refl, fit.1.1)))
 
@@ -242,7 +242,7 @@ link_number_conditions links earlier = record {
 
 -- one link of a pattern
 link_number_reader : (links : ℕ) (earlier : List ℕ)
-    → IsReader (λ at. number_at at (λ n. (not (nat_lt n links), BadIndex at.at) ∷ (not (is_above_last earlier n), NotRising at.at) ∷ [])) number_item (LinkNumberAfter links earlier)
+    → IsReader (failed_at links earlier) number_item (LinkNumberAfter links earlier)
 link_number_reader links earlier =
     same_reader (number_reader (link_number_conditions links earlier)) (λ n fit. refl)
     (λ n fit. record { fits = fit.0; below = fit.1.0; rises = fit.1.1 })
@@ -265,7 +265,7 @@ pattern_reader links earlier =
     (then_reader (λ (pattern : Pattern). pattern.name) (name_reader (λ name. list_any (λ pattern. bytes_eq name pattern.name) earlier))
     (λ name. then_reader (λ (pattern : Pattern). length pattern.links) (number_reader (some_conditions links))
     (λ count. then_reader (λ (pattern : Pattern). pattern.links)
-    (repeated_reader (λ before at. number_at at (λ n. (not (nat_lt n links), BadIndex at.at) ∷ (not (is_above_last before n), NotRising at.at) ∷ []))
+    (repeated_reader (failed_at links)
     number_item (LinkNumberAfter links) (link_number_reader links) count [])
     (λ failed. empty_reader (record { name = name; links = failed }))
     (λ failed pattern fit more. ap (λ (p : Pattern). p.links) more))
@@ -274,10 +274,6 @@ pattern_reader links earlier =
     (λ pattern fit. ap (λ (t : List ℕ). name_item pattern.name ++ (number_item (length pattern.links) ++ t)) (append-nil (flat_map number_item pattern.links) ∙ sym (concat-map number_item pattern.links)))
     (λ pattern fit. record { name = fit.0.0; is_new = fit.0.1; count_fits = fit.1.0.0; some_link = fit.1.0.1.0; few_links = fit.1.0.1.1; numbers = fit.1.1.0.1.1 })
     (λ pattern fit. ((fit.name, fit.is_new), ((fit.count_fits, (fit.some_link, fit.few_links)), ((refl, (refl, fit.numbers)), refl))))
-
--- the pattern without links
-abbrev pub none_pattern : Pattern
-none_pattern = record { name = codes "none"; links = [] }
 
 -- the limits of the number of listed patterns
 patterns_conditions : (sinks : ℕ) → AreConditions (λ rest n. (nat_lt 4095 n || nat_lt 65536 (sinks * (n + 1)), TooMany rest.at) ∷ []) (λ n. (n ≤ 4095) × (sinks * (n + 1) ≤ 65536))

@@ -9,13 +9,12 @@ use Rattle.gf_tables.specs.declared.kind.FieldKind.{FieldKind}
 use Rattle.gf_tables.specs.declared.kind.FieldKind.TheVariants.{Eight, Sixteen}
 use Rattle.net_model.specs.Name.{is_name}
 use Rattle.code_file.specs.Items.{byte_item, number_item, element_item, name_item}
-use Rattle.code_file.specs.Reading.{Rest, Reading, ◌>>=◌, item, byte_at, number_at, element_at, name_at}
+use Rattle.code_file.specs.Reading.{Rest, Reading, ◌>>=◌, item, byte_at, number_at, element_at, name_at, Conditions}
 use Rattle.code_file.proofs.Readers.{ok_of, IsReader, Takes, NoneHolds, AreNotMemory, bind_ok, bind_not_memory, ok_is, item_takes, item_again, item_not_memory}
-use Rattle.code_file.specs.declared.refusal.CodeRefusal.{CodeRefusal}
 use Rattle.code_file.specs.declared.refusal.CodeRefusal.TheVariants.{BadName}
 
 -- the conditions of a number in view of what is left, and what their absence says of it
-pub record AreConditions {X : Type 0} (conditions : Rest → X → List (Bool × CodeRefusal)) (Fits : X → Type 0) : Type 0 where
+pub record AreConditions {X : Type 0} (conditions : Rest → X → Conditions) (Fits : X → Type 0) : Type 0 where
   pub to : (rest : Rest) (x : X) → NoneHolds (conditions rest x) → Fits x
   pub from : (rest : Rest) (x : X) → Fits x → NoneHolds (conditions rest x)
   pub not_memory : (rest : Rest) (x : X) → AreNotMemory (conditions rest x)
@@ -27,7 +26,7 @@ one_byte (b ∷ []) h = refl
 one_byte (b ∷ c ∷ text) h = absurd (omega arith)
 
 -- a number of one byte
-pub byte_reader : {conditions : Rest → ℕ → List (Bool × CodeRefusal)} {Fits : ℕ → Type 0} → AreConditions conditions Fits
+pub byte_reader : {conditions : Rest → ℕ → Conditions} {Fits : ℕ → Type 0} → AreConditions conditions Fits
     → IsReader (λ rest. byte_at rest (conditions rest)) byte_item (λ n. (n < 256) × Fits n)
 unfolding byte_at
 byte_reader {conditions} {Fits} are = record {
@@ -47,7 +46,7 @@ byte_reader {conditions} {Fits} are = record {
 }
 
 -- a number of two
-pub number_reader : {conditions : Rest → ℕ → List (Bool × CodeRefusal)} {Fits : ℕ → Type 0} → AreConditions conditions Fits
+pub number_reader : {conditions : Rest → ℕ → Conditions} {Fits : ℕ → Type 0} → AreConditions conditions Fits
     → IsReader (λ rest. number_at rest (conditions rest)) number_item (λ n. (n < 65536) × Fits n)
 unfolding number_at
 number_reader {conditions} {Fits} are = record {
@@ -72,7 +71,7 @@ number_reader {conditions} {Fits} are = record {
 }
 
 -- the number of an element
-pub element_reader : (field : FieldKind) {conditions : Rest → ℕ → List (Bool × CodeRefusal)} {Fits : ℕ → Type 0} → AreConditions conditions Fits
+pub element_reader : (field : FieldKind) {conditions : Rest → ℕ → Conditions} {Fits : ℕ → Type 0} → AreConditions conditions Fits
     → IsReader (λ rest. element_at field rest (conditions rest)) (element_item field) (λ n. (n < size_of field) × Fits n)
 element_reader Eight are = byte_reader are
 element_reader Sixteen are = number_reader are
@@ -86,7 +85,7 @@ name_text rest (b ∷ text) left size parts =
     ap (λ (n : ℕ). n ∷ text) same
 
 -- when a name is refused
-abbrev name_conditions : (List ℕ → Bool) → Rest → List ℕ → List (Bool × CodeRefusal)
+abbrev name_conditions : (List ℕ → Bool) → Rest → List ℕ → Conditions
 name_conditions is_bad rest text = (not (is_name (drop 1 text)) || is_bad (drop 1 text), BadName rest.at) ∷ []
 
 -- a name that passes a further test

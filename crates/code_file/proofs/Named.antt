@@ -5,9 +5,9 @@ use Rattle.std.specs.Str.{bytes_eq}
 use Rattle.net_model.proofs.ListLaws.{list_any-map}
 use Rattle.net_model.specs.declared.Link.{Link}
 use Rattle.net_model.specs.declared.Pattern.{Pattern}
-use Rattle.code_file.specs.Reading.{Rest, name_at}
+use Rattle.code_file.specs.Reading.{Rest, name_at, names_of}
 
-pub named_link : (rest : Rest) (earlier : List Link) (names : List (List ℕ)) → names ≡ map (λ link. link.name) earlier
+pub named_link : (rest : Rest) (earlier : List Link) (names : List (List ℕ)) → names ≡ names_of earlier
     → name_at rest (λ name. list_any (λ link. bytes_eq name link.name) earlier) ≡ name_at rest (λ name. list_any (bytes_eq name) names)
 named_link rest earlier names same =
     ap (name_at rest) (λ j name. (sym (list_any-map (λ (link : Link). link.name) (bytes_eq name) earlier) ∙ ap (list_any (bytes_eq name)) (sym same)) j)

@@ -6,7 +6,7 @@ use Rattle.std.proofs.lemmas.Bool.{cases_lt, ltb-false, le-ltb}
 use Rattle.std.proofs.lemmas.List.{take_at, drop_at, take-append-drop, length-append, length-take, get_or-drop, get_or-take, get_or_past}
 use Rattle.code_file.specs.declared.refusal.CodeRefusal.{CodeRefusal}
 use Rattle.code_file.specs.declared.refusal.CodeRefusal.TheVariants.{Truncated, OutOfMemory}
-use Rattle.code_file.specs.Reading.{Rest, Reading, ◌>>=◌, refused_first, item, repeated_at, each_at}
+use Rattle.code_file.specs.Reading.{Rest, Reading, ◌>>=◌, refused_first, item, repeated_at, each_at, Conditions}
 
 -- each byte is one
 abbrev pub IsBytes : List ℕ → Type 0
@@ -35,12 +35,12 @@ is_memory (Ok x) = false
 is_memory (Err refusal) = is_memory_refusal refusal
 
 -- no condition holds
-abbrev pub NoneHolds : List (Bool × CodeRefusal) → Type 0
+abbrev pub NoneHolds : Conditions → Type 0
 NoneHolds [] = Unit {0}
 NoneHolds (condition ∷ conditions) = (condition.0 ≡ false) × NoneHolds conditions
 
 -- no condition is refused for want of memory
-abbrev pub AreNotMemory : List (Bool × CodeRefusal) → Type 0
+abbrev pub AreNotMemory : Conditions → Type 0
 AreNotMemory [] = Unit {0}
 AreNotMemory (condition ∷ conditions) = (is_memory_refusal condition.1 ≡ false) × AreNotMemory conditions
 
@@ -98,7 +98,7 @@ ok_is x y e = cc
 -- ---- conditions
 
 -- where no refusal comes, no condition holds
-pub refused_first_takes : {A : Type 0} (conditions : List (Bool × CodeRefusal)) (x y : A) → refused_first conditions x ≡ Ok y → NoneHolds conditions × (x ≡ y)
+pub refused_first_takes : {A : Type 0} (conditions : Conditions) (x y : A) → refused_first conditions x ≡ Ok y → NoneHolds conditions × (x ≡ y)
 refused_first_takes [] x y e = (tt, ok_is x y e)
 refused_first_takes (condition ∷ conditions) x y e =
     let g = else_ok condition.0 condition.1 (refused_first conditions x) y e in
@@ -106,12 +106,12 @@ refused_first_takes (condition ∷ conditions) x y e =
     ((g.0, t.0), t.1)
 
 -- where no condition holds, no refusal comes
-pub refused_first_again : {A : Type 0} (conditions : List (Bool × CodeRefusal)) (x : A) → NoneHolds conditions → refused_first conditions x ≡ Ok x
+pub refused_first_again : {A : Type 0} (conditions : Conditions) (x : A) → NoneHolds conditions → refused_first conditions x ≡ Ok x
 refused_first_again [] x none = refl
 refused_first_again (condition ∷ conditions) x none = rw (none.0, refused_first_again conditions x none.1) refl
 
 -- a refusal is that of one of the conditions
-pub refused_first_not_memory : {A : Type 0} (conditions : List (Bool × CodeRefusal)) (x : A) → AreNotMemory conditions → is_memory (refused_first conditions x) ≡ false
+pub refused_first_not_memory : {A : Type 0} (conditions : Conditions) (x : A) → AreNotMemory conditions → is_memory (refused_first conditions x) ≡ false
 refused_first_not_memory [] x not_memory = refl
 refused_first_not_memory (condition ∷ conditions) x not_memory = either condition.0 condition.1 (refused_first conditions x) not_memory.0 (refused_first_not_memory conditions x not_memory.1)
   where
@@ -122,14 +122,14 @@ refused_first_not_memory (condition ∷ conditions) x not_memory = either condit
 -- ---- one item
 
 -- an item of a size, of which no condition holds
-pub record TakesItem (size : ℕ) (rest : Rest) (conditions : List ℕ → List (Bool × CodeRefusal)) (text : List ℕ) (left : Rest) : Type 0 where
+pub record TakesItem (size : ℕ) (rest : Rest) (conditions : List ℕ → Conditions) (text : List ℕ) (left : Rest) : Type 0 where
   pub size_is : length text ≡ size
   pub none_holds : NoneHolds (conditions text)
   pub takes : Takes rest text left
   pub text_fits : IsBytes text
 
 -- what is read as an item was taken from the front
-pub item_takes : (size : ℕ) (rest : Rest) (conditions : List ℕ → List (Bool × CodeRefusal)) (text : List ℕ) (left : Rest) → IsBytes rest.bytes
+pub item_takes : (size : ℕ) (rest : Rest) (conditions : List ℕ → Conditions) (text : List ℕ) (left : Rest) → IsBytes rest.bytes
     → item size rest conditions ≡ Ok (text, left) → TakesItem size rest conditions text left
 unfolding item
 item_takes size rest conditions text left fits e =
@@ -146,7 +146,7 @@ item_takes size rest conditions text left fits e =
     subst (λ (p : List ℕ × Rest). TakesItem size rest conditions p.0 p.1) t.1 here
 
 -- an item that stands at the front is read
-pub item_again : (size at : ℕ) (text more : List ℕ) (conditions : List ℕ → List (Bool × CodeRefusal)) → length text ≡ size → NoneHolds (conditions text)
+pub item_again : (size at : ℕ) (text more : List ℕ) (conditions : List ℕ → Conditions) → length text ≡ size → NoneHolds (conditions text)
     → item size (record { at = at; bytes = text ++ more }) conditions ≡ Ok (text, record { at = at + size; bytes = more })
 unfolding item
 item_again size at text more conditions size_is none =
@@ -154,7 +154,7 @@ item_again size at text more conditions size_is none =
     rw (long, take_at text more size size_is, drop_at text more size size_is) (refused_first_again (conditions text) (text, record { at = at + size; bytes = more }) none)
 
 -- the refusal of an item is that of its end or of a condition
-pub item_not_memory : (size : ℕ) (rest : Rest) (conditions : List ℕ → List (Bool × CodeRefusal)) → ((text : List ℕ) → AreNotMemory (conditions text)) → is_memory (item size rest conditions) ≡ false
+pub item_not_memory : (size : ℕ) (rest : Rest) (conditions : List ℕ → Conditions) → ((text : List ℕ) → AreNotMemory (conditions text)) → is_memory (item size rest conditions) ≡ false
 unfolding item
 item_not_memory size rest conditions not_memory =
     either (nat_lt (length rest.bytes) size) _ (refused_first_not_memory (conditions (take size rest.bytes)) (take size rest.bytes, record { at = rest.at + size; bytes = drop size rest.bytes }) (not_memory (take size rest.bytes)))

@@ -12,7 +12,7 @@ use Rattle.net_model.specs.declared.Link.{Link}
 use Rattle.net_model.specs.declared.Pattern.{Pattern}
 use Rattle.node_program.specs.declared.Operand.{Operand}
 use Rattle.node_program.specs.declared.Decoder.{Decoder}
-use Rattle.code_file.specs.Items.{Item, number_item, name_item, element_item, link_items, pattern_items, operand_items, operand_list_items, decoder_items, front_items}
+use Rattle.code_file.specs.Items.{Item, number_item, name_item, element_item, link_items, pattern_items, operand_items, operand_list_items, decoder_items, front_items, operands_items}
 use Rattle.code_file.specs.Room.{size_of_items}
 
 pub size-append : (items others : List Item) → size_of_items (items ++ others) ≡ size_of_items items + size_of_items others
@@ -59,10 +59,10 @@ pattern-size pattern =
     let b = size-cons (number_item (length pattern.links)) (map number_item pattern.links) in
     omega (arith, numbers-size pattern.links)
 
-operands-size : (field : FieldKind) (operands : List Operand) → size_of_items (flat_map (operand_items field) operands) ≡ (2 + bytes_of_element field) * length operands
+operands-size : (field : FieldKind) (operands : List Operand) → size_of_items (operands_items field operands) ≡ (2 + bytes_of_element field) * length operands
 operands-size field [] = size-nil ∙ omega arith
 operands-size field (operand ∷ operands) =
-    let a = size-append (operand_items field operand) (flat_map (operand_items field) operands) in
+    let a = size-append (operand_items field operand) (operands_items field operands) in
     let b = size-cons (number_item operand.from) (element_item field operand.times ∷ []) in
     let c = size-cons (element_item field operand.times) [] in
     let d = element-size field operand.times in
@@ -72,7 +72,7 @@ operands-size field (operand ∷ operands) =
 
 pub operand_list-size : (field : FieldKind) (operands : List Operand) → size_of_items (operand_list_items field operands) ≡ (2 + bytes_of_element field) * length operands + 2
 operand_list-size field operands =
-    let a = size-cons (number_item (length operands)) (flat_map (operand_items field) operands) in
+    let a = size-cons (number_item (length operands)) (operands_items field operands) in
     omega (arith, operands-size field operands)
 
 pub decoder-size : (field : FieldKind) (decoder : Decoder) → size_of_items (decoder_items field decoder) ≡ 2 * length decoder.links + bytes_of_element field * length decoder.entries

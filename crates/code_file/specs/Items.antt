@@ -37,18 +37,24 @@ link_items link = name_item link.name ∷ number_item link.tail ∷ number_item 
 
 -- the number of the links of a pattern, and the links
 abbrev pub pattern_items : Pattern → List Item
-pattern_items pattern = name_item pattern.name ∷ number_item (length pattern.links) ∷ map number_item pattern.links
+pattern_items pattern =
+    name_item pattern.name ∷ number_item (length pattern.links) ∷ map number_item pattern.links
 
 abbrev pub operand_items : FieldKind → Operand → List Item
 operand_items field operand = number_item operand.from ∷ element_item field operand.times ∷ []
 
+abbrev pub operands_items : FieldKind → List Operand → List Item
+operands_items field operands = flat_map (operand_items field) operands
+
 -- the number of the operands of a link, and the operands
 abbrev pub operand_list_items : FieldKind → List Operand → List Item
-operand_list_items field operands = number_item (length operands) ∷ flat_map (operand_items field) operands
+operand_list_items field operands =
+    number_item (length operands) ∷ operands_items field operands
 
 -- the links of a decoder, and its matrix row by row
 abbrev pub decoder_items : FieldKind → Decoder → List Item
-decoder_items field decoder = map number_item decoder.links ++ map (element_item field) decoder.entries
+decoder_items field decoder =
+    map number_item decoder.links ++ map (element_item field) decoder.entries
 
 -- what stands at the front of a code file, and the version behind it
 abbrev pub code_mark : Item
@@ -57,7 +63,13 @@ code_mark = codes "LIFC"
 abbrev pub code_version : ℕ
 code_version = 1
 
--- The mark, the version, the field, the rate, the nodes, the links, the source, the sinks and the listed patterns.
+-- the mark, the version, the field and the rate
+abbrev pub head_items : Item → ℕ → FieldKind → ℕ → List Item
+head_items mark version field rate =
+    mark ∷ byte_item version ∷ byte_item (mark_of field) ∷ byte_item rate ∷ []
+
+-- The mark, the version, the field, the rate, the nodes, the links, the source, the sinks and the
+-- listed patterns.
 unfoldable pub front_items : Item → ℕ → Net → ℕ → FieldKind → List Item
 front_items mark version net rate field =
     let listed = drop 1 net.patterns in
@@ -79,7 +91,8 @@ decoder_table_items field decoders = flat_map (decoder_items field) decoders
 unfoldable pub items_of : Code → List Item
 items_of code =
     front_items code_mark code_version code.net code.rate code.field
-    ++ (operand_table_items code.field code.operands ++ decoder_table_items code.field code.decoders)
+    ++ (operand_table_items code.field code.operands
+    ++ decoder_table_items code.field code.decoders)
 
 -- the code file of a code
 unfoldable pub bytes_of : Code → List ℕ

@@ -4,7 +4,19 @@ use Rattle.code_file.specs.declared.parts.Parts as rust_parts
 use Rattle.code_file.specs.Reading.{Front, Contents}
 
 abbrev pub front_seen : rust_front.Front → Front
-front_seen front = record { field = front.field; rate = front.rate; nodes = front.nodes; links = front.links; source = front.source; sinks = front.sinks; patterns = front.patterns }
+front_seen front = record {
+  field = front.field;
+  rate = front.rate;
+  nodes = front.nodes;
+  links = front.links;
+  source = front.source;
+  sinks = front.sinks;
+  patterns = front.patterns;
+}
 
 abbrev pub contents_seen : rust_parts.Parts → Contents
-contents_seen parts = record { front = front_seen parts.front; operands = parts.operands; decoders = parts.decoders }
+contents_seen parts = record {
+  front = front_seen parts.front;
+  operands = parts.operands;
+  decoders = parts.decoders;
+}

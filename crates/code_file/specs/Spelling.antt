@@ -24,9 +24,14 @@ front_of net rate field = record {
 
 -- what the file of a code says
 abbrev pub contents_in : Code → Contents
-contents_in code = record { front = front_of code.net code.rate code.field; operands = code.operands; decoders = code.decoders }
+contents_in code = record {
+  front = front_of code.net code.rate code.field;
+  operands = code.operands;
+  decoders = code.decoders;
+}
 
--- The mark, the version, the field, the rate, the nodes, the links, the source, the sinks and the listed patterns.
+-- The mark, the version, the field, the rate, the nodes, the links, the source, the sinks and the
+-- listed patterns.
 unfoldable pub front_items_in : Item → ℕ → Front → List Item
 front_items_in mark version front =
     let listed = drop 1 front.patterns in
@@ -39,16 +44,30 @@ front_items_in mark version front =
 -- the front, the operands and the decoders
 unfoldable pub items_in : Contents → List Item
 items_in contents =
+    let field = contents.front.field in
     front_items_in code_mark code_version contents.front
-    ++ (operand_table_items contents.front.field contents.operands ++ decoder_table_items contents.front.field contents.decoders)
+    ++ (operand_table_items field contents.operands
+    ++ decoder_table_items field contents.decoders)
 
 -- the file that says this
 unfoldable pub spelling_of : Contents → List ℕ
 spelling_of contents = concat (items_in contents)
 
--- The parts are those of a network, and with every network of these parts that names the field they make a code.
+-- the parts are those of a network
+abbrev pub IsNetworkFront : Front → Type 0
+IsNetworkFront front =
+    IsNetwork front.nodes front.links front.source front.sinks front.patterns
+
+-- with a network of these parts that names the field they make a code
+abbrev pub IsCodeWith : Contents → Net → Type 0
+IsCodeWith contents net =
+    let front = contents.front in
+    net.nodes ≡ front.nodes → net.links ≡ front.links → net.source ≡ front.source
+    → net.sinks ≡ front.sinks → net.patterns ≡ front.patterns → net.field ≡ choice_of front.field
+    → IsCode net front.rate front.field contents.operands contents.decoders
+
+-- The parts are those of a network, and with every network of these parts that names the field they
+-- make a code.
 pub record AreContents (contents : Contents) : Type 0 where
-  pub network : IsNetwork contents.front.nodes contents.front.links contents.front.source contents.front.sinks contents.front.patterns
-  pub code : (net : Net) → net.nodes ≡ contents.front.nodes → net.links ≡ contents.front.links → net.source ≡ contents.front.source
-      → net.sinks ≡ contents.front.sinks → net.patterns ≡ contents.front.patterns → net.field ≡ choice_of contents.front.field
-      → IsCode net contents.front.rate contents.front.field contents.operands contents.decoders
+  pub network : IsNetworkFront contents.front
+  pub code : (net : Net) → IsCodeWith contents net

@@ -1,10 +1,16 @@
--- The numbers of elements that are written fit the field.
-use Rattle.std.specs.Prelude.{Bool, nat_lt, List}
-use Rattle.std.specs.List.{list_all}
+-- What is written, and that the numbers of elements fit the field.
+use Rattle.std.specs.Prelude.{◌≡◌, ℕ, Bool, nat_lt, List, ◌++◌, Vec, Result, OnOk}
+use Rattle.std.specs.List.{concat, list_all}
+use Rattle.std.specs.Global.{Global}
 use Rattle.gf_tables.specs.Product.{size_of}
 use Rattle.gf_tables.specs.declared.kind.FieldKind.{FieldKind}
 use Rattle.node_program.specs.declared.Operand.{Operand}
 use Rattle.node_program.specs.declared.Decoder.{Decoder}
+use Rattle.code_file.specs.Items.{Item}
+
+-- unless memory ran out, the bytes of the items were added behind the old bytes
+abbrev pub Adds : {X E : Type 0} → Result X E → Vec ℕ Global → Vec ℕ Global → List Item → Type 0
+Adds result old new items = OnOk result (new.items ≡ old.items ++ concat items)
 
 -- each coefficient is an element
 abbrev pub are_elements : FieldKind → List Operand → Bool

@@ -1,8 +1,7 @@
 //! The decoders of demands.
-ghost use Rattle.std.specs.Prelude.{◌≡◌, ◌≤◌, ◌*◌, ◌++◌, ◌∷◌, [], not, length, replicate, IfOk, OnOk};
-ghost use Rattle.node_program.specs.Code.{leads_into};
-ghost use Rattle.code_file.specs.Reading.{number_at, element_at, is_above_last, repeated_at, decoder_at, demand_sinks, each_at};
-ghost use Rattle.code_file.specs.Gives.{Gives, left_of};
+ghost use Rattle.std.specs.Prelude.{◌≡◌, ◌++◌, replicate, IfOk, OnOk};
+ghost use Rattle.code_file.specs.Reading.{decoder_link_at, decoder_links_at, entries_at, decoder_at, demand_sinks, decoders_at, decoder_table_at};
+ghost use Rattle.code_file.specs.Gives.{Reads, ReadsAll};
 ghost use Rattle.code_file.specs.Parts.{front_seen};
 
 use crate::CodeRefusal;
@@ -24,7 +23,7 @@ fn read_link<'a>(
     earlier: &[u32],
     rest: Rest<'a>,
 ) -> Result<(u32, Rest<'a>), CodeRefusal>
-    ensures { Gives (λ x. (x.0, left_of x.1)) result (number_at (left_of rest.entry) (λ n. (not (is_above_last earlier.now n), CodeRefusal.NotRising rest.entry.at) ∷ (not (leads_into front.now.links sink n), CodeRefusal.BadOperand rest.entry.at) ∷ [])) }
+    ensures { Reads result (decoder_link_at front.now.links sink earlier.now) rest.entry }
 {
     let (link, after) = number(rest)?;
     let link = u32::from(link);
@@ -44,7 +43,7 @@ fn read_links<'a>(
     sink: u32,
     start: Rest<'a>,
 ) -> Result<(Vec<u32>, Rest<'a>), CodeRefusal>
-    ensures { Gives (λ x. (x.0.items, left_of x.1)) result (repeated_at (λ earlier at. number_at at (λ n. (not (is_above_last earlier n), CodeRefusal.NotRising at.at) ∷ (not (leads_into front.now.links sink n), CodeRefusal.BadOperand at.at) ∷ [])) front.now.rate [] (left_of start.entry)) }
+    ensures { ReadsAll result (decoder_links_at (front_seen front.now) sink) start.entry }
 {
     let count = front.rate;
     let mut all = Vec::with_capacity(alloc, count as usize)?;
@@ -64,7 +63,7 @@ fn entries<'a>(
     count: u32,
     start: Rest<'a>,
 ) -> Result<(Vec<u32>, Rest<'a>), CodeRefusal>
-    ensures { Gives (λ x. (x.0.items, left_of x.1)) result (repeated_at (λ earlier at. element_at field at (λ n. [])) count [] (left_of start.entry)) }
+    ensures { ReadsAll result (entries_at field count) start.entry }
 {
     let mut entries = Vec::with_capacity(alloc, count as usize)?;
     let mut rest = start;
@@ -84,7 +83,7 @@ fn decoder<'a>(
     sink: u32,
     rest: Rest<'a>,
 ) -> Result<(Decoder, Rest<'a>), CodeRefusal>
-    ensures { Gives (λ x. (x.0, left_of x.1)) result (decoder_at (front_seen front.now) sink (left_of rest.entry)) }
+    ensures { Reads result (decoder_at (front_seen front.now) sink) rest.entry }
 {
     let (links, rest) = read_links(alloc, front, sink, rest)?;
     let (entries, rest) = entries(alloc, front.field, front.rate * front.rate, rest)?;
@@ -125,7 +124,7 @@ fn counted_decoders<'a>(
     sinks: &[u32],
     start: Rest<'a>,
 ) -> Result<(Vec<Decoder>, Rest<'a>), CodeRefusal>
-    ensures { Gives (λ x. (x.0.items, left_of x.1)) result (each_at (decoder_at (front_seen front.now)) sinks.now (left_of start.entry)) }
+    ensures { ReadsAll result (decoders_at (front_seen front.now) sinks.now) start.entry }
 {
     let mut decoders = Vec::with_capacity(alloc, sinks.len())?;
     let mut rest = start;
@@ -143,7 +142,7 @@ pub(crate) fn decoder_table<'a>(
     front: &Front,
     rest: Rest<'a>,
 ) -> Result<(Vec<Decoder>, Rest<'a>), CodeRefusal>
-    ensures { Gives (λ x. (x.0.items, left_of x.1)) result (each_at (decoder_at (front_seen front.now)) (demand_sinks (front_seen front.now)) (left_of rest.entry)) }
+    ensures { ReadsAll result (decoder_table_at (front_seen front.now)) rest.entry }
 {
     let sinks = sinks_of_demands(alloc, front)?;
     counted_decoders(alloc, front, &sinks, rest)

@@ -1,7 +1,7 @@
 //! A code file up to the operands.
-ghost use Rattle.std.specs.Prelude.{◌≡◌, ◌<◌, ◌≤◌, ◌+◌, ◌*◌, ◌==◌, ◌||◌, ◌++◌, ◌∷◌, [], List, not, nat_lt, length, map, codes, IfOk};
-ghost use Rattle.code_file.specs.Reading.{number_at, mark_at, field_at, rate_at, front_at};
-ghost use Rattle.code_file.specs.Gives.{Gives, left_of};
+ghost use Rattle.std.specs.Prelude.{◌≤◌, IfOk};
+ghost use Rattle.code_file.specs.Reading.{mark_at, field_at, rate_at, front_at};
+ghost use Rattle.code_file.specs.Gives.{Gives, left_of, ReadsAs, Reads};
 ghost use Rattle.code_file.specs.Parts.{front_seen};
 
 use crate::CodeRefusal;
@@ -33,7 +33,7 @@ fn mark<'a>(mark: &[u8], version: u8, rest: Rest<'a>) -> Result<Rest<'a>, CodeRe
 // The field.
 #[tactic(auto, using(crate::proofs::Checks::byte_checked), unfolding(crate::specs::Reading::field_at))]
 fn field<'a>(rest: Rest<'a>) -> Result<(FieldKind, Rest<'a>), CodeRefusal>
-    ensures { Gives (λ x. (x.0, left_of x.1)) result (field_at (left_of rest.entry)) }
+    ensures { Reads result field_at rest.entry }
 {
     let (number, after) = byte(rest)?;
     match number {
@@ -46,7 +46,7 @@ fn field<'a>(rest: Rest<'a>) -> Result<(FieldKind, Rest<'a>), CodeRefusal>
 // The rate.
 #[tactic(auto, using(crate::proofs::Checks::byte_checked))]
 fn rate<'a>(rest: Rest<'a>) -> Result<(u32, Rest<'a>), CodeRefusal>
-    ensures gives { Gives (λ x. (x.0, left_of x.1)) result (rate_at (left_of rest.entry)) }
+    ensures gives { Reads result rate_at rest.entry }
     ensures low { IfOk result (λ x. x.0 ≤ 32) }
 {
     let (number, after) = byte(rest)?;
@@ -64,7 +64,7 @@ pub(crate) fn front<'a>(
     version: u8,
     start: Rest<'a>,
 ) -> Result<(Front, Rest<'a>), CodeRefusal>
-    ensures { Gives (λ x. (front_seen x.0, left_of x.1)) result (front_at sign.now version (left_of start.entry)) }
+    ensures { ReadsAs front_seen result (front_at sign.now version) start.entry }
 {
     let rest = mark(sign, version, start)?;
     let (field, rest) = field(rest)?;

@@ -1,8 +1,8 @@
 //! The next items of a file: numbers and elements.
-ghost use Rattle.std.specs.Prelude.{◌≡◌, ◌<◌, ◌≤◌, ◌∷◌, not, [], length, nat_lt, IfOk};
+ghost use Rattle.std.specs.Prelude.{◌≡◌, ◌<◌, ◌≤◌, length, IfOk};
 ghost use Rattle.gf_tables.specs.Product.{size_of};
-ghost use Rattle.code_file.specs.Reading.{item, byte_at, number_at, element_at};
-ghost use Rattle.code_file.specs.Gives.{Gives, left_of};
+ghost use Rattle.code_file.specs.Reading.{any, item, byte_at, number_at, element_at, count_at, positive_count_at, index_at};
+ghost use Rattle.code_file.specs.Gives.{ReadsAs, Reads};
 
 use crate::CodeRefusal;
 use crate::rest::Rest;
@@ -11,7 +11,7 @@ use gf_tables::FieldKind;
 /// The next item, of so many bytes.
 #[tactic(auto, unfolding(crate::specs::Reading::item))]
 pub(crate) fn item<'a>(rest: Rest<'a>, size: usize) -> Result<(&'a [u8], Rest<'a>), CodeRefusal>
-    ensures gives { Gives (λ x. (x.0.now, left_of x.1)) result (item size (left_of rest.entry) (λ _. [])) }
+    ensures gives { ReadsAs (λ bytes. bytes.now) result (any (item size)) rest.entry }
     ensures size { IfOk result (λ x. length x.0.now ≡ size) }
 {
     if rest.bytes.len() < size {
@@ -30,7 +30,7 @@ pub(crate) fn item<'a>(rest: Rest<'a>, size: usize) -> Result<(&'a [u8], Rest<'a
 /// A number of one byte.
 #[tactic(auto, unfolding(crate::specs::Reading::byte_at))]
 pub(crate) fn byte<'a>(rest: Rest<'a>) -> Result<(u8, Rest<'a>), CodeRefusal>
-    ensures { Gives (λ x. (x.0, left_of x.1)) result (byte_at (left_of rest.entry) (λ _. [])) }
+    ensures { Reads result (any byte_at) rest.entry }
 {
     let (item, after) = item(rest, 1)?;
     Ok((item[0], after))
@@ -39,7 +39,7 @@ pub(crate) fn byte<'a>(rest: Rest<'a>) -> Result<(u8, Rest<'a>), CodeRefusal>
 /// A number of two bytes.
 #[tactic(auto, unfolding(crate::specs::Reading::number_at))]
 pub(crate) fn number<'a>(rest: Rest<'a>) -> Result<(u16, Rest<'a>), CodeRefusal>
-    ensures { Gives (λ x. (x.0, left_of x.1)) result (number_at (left_of rest.entry) (λ _. [])) }
+    ensures { Reads result (any number_at) rest.entry }
 {
     let (item, after) = item(rest, 2)?;
     Ok((u16::from_be_bytes([item[0], item[1]]), after))
@@ -47,7 +47,7 @@ pub(crate) fn number<'a>(rest: Rest<'a>) -> Result<(u16, Rest<'a>), CodeRefusal>
 
 /// The number of an element.
 pub(crate) fn element<'a>(field: FieldKind, rest: Rest<'a>) -> Result<(u32, Rest<'a>), CodeRefusal>
-    ensures gives { Gives (λ x. (x.0, left_of x.1)) result (element_at field (left_of rest.entry) (λ _. [])) }
+    ensures gives { Reads result (any (element_at field)) rest.entry }
     ensures below { IfOk result (λ x. x.0 < size_of field) }
 {
     match field {
@@ -65,7 +65,7 @@ pub(crate) fn element<'a>(field: FieldKind, rest: Rest<'a>) -> Result<(u32, Rest
 /// A count that has a limit.
 #[tactic(auto, using(crate::proofs::Checks::number_checked))]
 pub(crate) fn count<'a>(rest: Rest<'a>, limit: u16) -> Result<(u16, Rest<'a>), CodeRefusal>
-    ensures gives { Gives (λ x. (x.0, left_of x.1)) result (number_at (left_of rest.entry) (λ n. (nat_lt limit n, CodeRefusal.TooMany rest.entry.at) ∷ [])) }
+    ensures gives { Reads result (count_at limit) rest.entry }
     ensures few { IfOk result (λ x. x.0 ≤ limit) }
 {
     let (count, after) = number(rest)?;
@@ -75,10 +75,29 @@ pub(crate) fn count<'a>(rest: Rest<'a>, limit: u16) -> Result<(u16, Rest<'a>), C
     Ok((count, after))
 }
 
+/// A count that has a limit, of a list that isn't empty.
+#[tactic(auto, using(crate::proofs::Checks::number_checked))]
+pub(crate) fn positive_count<'a>(
+    rest: Rest<'a>,
+    limit: usize,
+) -> Result<(u16, Rest<'a>), CodeRefusal>
+    ensures gives { Reads result (positive_count_at limit) rest.entry }
+    ensures few { IfOk result (λ x. x.0 ≤ limit) }
+{
+    let (count, after) = number(rest)?;
+    if count == 0 {
+        return Err(CodeRefusal::BadIndex { at: rest.at });
+    }
+    if usize::from(count) > limit {
+        return Err(CodeRefusal::TooMany { at: rest.at });
+    }
+    Ok((count, after))
+}
+
 /// A number below a limit.
 #[tactic(auto, using(crate::proofs::Checks::number_checked))]
 pub(crate) fn index<'a>(rest: Rest<'a>, limit: usize) -> Result<(u32, Rest<'a>), CodeRefusal>
-    ensures gives { Gives (λ x. (x.0, left_of x.1)) result (number_at (left_of rest.entry) (λ n. (not (nat_lt n limit), CodeRefusal.BadIndex rest.entry.at) ∷ [])) }
+    ensures gives { Reads result (index_at limit) rest.entry }
     ensures below { IfOk result (λ x. x.0 < limit) }
 {
     let (index, after) = number(rest)?;

@@ -19,6 +19,6 @@ mod rising;
 mod room;
 mod writing;
 
-pub use reading::read_code;
+pub use reading::{CODE_LIMIT, read_code};
 pub use refusal::CodeRefusal;
 pub use writing::write_code;

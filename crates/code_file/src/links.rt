@@ -1,9 +1,8 @@
 //! Links.
-ghost use Rattle.std.specs.Prelude.{◌≡◌, ◌<◌, ◌≤◌, ◌==◌, ◌||◌, ◌++◌, ◌∷◌, [], not, nat_lt, length, map, IfOk};
-ghost use Rattle.net_model.specs.Lists.{is_among};
-ghost use Rattle.code_file.specs.Reading.{number_at, repeated_at, link_at, links_at};
-ghost use Rattle.code_file.specs.Gives.{Gives, left_of};
-ghost use Rattle.code_file.specs.Marks.{AreMarks};
+ghost use Rattle.std.specs.Prelude.{◌≡◌, ◌≤◌, ◌++◌, ◌∷◌, [], length, IfOk};
+ghost use Rattle.code_file.specs.Reading.{repeated_at, names_of, head_at, link_at, links_at};
+ghost use Rattle.code_file.specs.Gives.{Reads, ReadsAll};
+ghost use Rattle.code_file.specs.Marks.{AreTailMarks};
 
 use crate::CodeRefusal;
 use crate::items::{count, index, number};
@@ -24,8 +23,8 @@ fn head<'a>(
     rest: Rest<'a>,
 ) -> Result<(u32, Rest<'a>), CodeRefusal>
     requires few { length earlier.now ≤ 8192 }
-    requires tails { AreMarks nodes (map (λ link. link.tail) earlier.now) tails.now }
-    ensures { Gives (λ x. (x.0, left_of x.1)) result (number_at (left_of rest.entry) (λ n. (not (nat_lt n nodes), CodeRefusal.BadIndex rest.entry.at) ∷ ((n == tail) || is_among (map (λ link. link.tail) earlier.now) n, CodeRefusal.OutOfOrder (length earlier.now)) ∷ [])) }
+    requires tails { AreTailMarks nodes earlier.now tails.now }
+    ensures { Reads result (head_at nodes tail earlier.now) rest.entry }
 {
     let (head, after) = number(rest)?;
     let place = usize::from(head);
@@ -51,11 +50,11 @@ fn link<'a>(
     rest: Rest<'a>,
 ) -> Result<(Link, Rest<'a>), CodeRefusal>
     requires few { length earlier.now ≤ 8192 }
-    requires names { names.old ≡ map (λ link. link.name) earlier.now }
-    requires tails { AreMarks nodes (map (λ link. link.tail) earlier.now) tails.old }
-    ensures gives { Gives (λ x. (x.0, left_of x.1)) result (link_at nodes earlier.now (left_of rest.entry)) }
-    ensures named { IfOk result (λ x. names.new ≡ map (λ link. link.name) (earlier.now ++ x.0 ∷ [])) }
-    ensures marked { IfOk result (λ x. AreMarks nodes (map (λ link. link.tail) (earlier.now ++ x.0 ∷ [])) tails.new) }
+    requires names { names.old ≡ names_of earlier.now }
+    requires tails { AreTailMarks nodes earlier.now tails.old }
+    ensures gives { Reads result (link_at nodes earlier.now) rest.entry }
+    ensures named { IfOk result (λ x. names.new ≡ names_of (earlier.now ++ x.0 ∷ [])) }
+    ensures marked { IfOk result (λ x. AreTailMarks nodes (earlier.now ++ x.0 ∷ []) tails.new) }
 {
     let (name, rest) = name(alloc, rest, names)?;
     let (tail, rest) = index(rest, nodes)?;
@@ -72,7 +71,7 @@ fn counted_links<'a>(
     start: Rest<'a>,
 ) -> Result<(Vec<Link>, Rest<'a>), CodeRefusal>
     requires { count ≤ 8192 }
-    ensures { Gives (λ x. (x.0.items, left_of x.1)) result (repeated_at (link_at nodes) count [] (left_of start.entry)) }
+    ensures { ReadsAll result (repeated_at (link_at nodes) count []) start.entry }
 {
     let mut links = Vec::with_capacity(alloc, usize::from(count))?;
     let mut names = Names::new(alloc);
@@ -93,7 +92,7 @@ pub(crate) fn links<'a>(
     nodes: usize,
     rest: Rest<'a>,
 ) -> Result<(LinkTable, Rest<'a>), CodeRefusal>
-    ensures { Gives (λ x. (x.0, left_of x.1)) result (links_at nodes (left_of rest.entry)) }
+    ensures { Reads result (links_at nodes) rest.entry }
 {
     let (count, rest) = count(rest, 8192)?;
     let (links, rest) = counted_links(alloc, nodes, count, rest)?;

@@ -1,7 +1,6 @@
 //! Which numbers below a limit have come, by a table.
-ghost use Rattle.std.specs.Prelude.{◌≡◌, ◌<◌, ◌++◌, ◌∷◌, [], ℕ, List, length, IfOk};
-ghost use Rattle.net_model.specs.Lists.{is_among};
-ghost use Rattle.code_file.specs.Marks.{AreMarks};
+ghost use Rattle.std.specs.Prelude.{◌<◌, [], length, IfOk};
+ghost use Rattle.code_file.specs.Marks.{AreMarks, TellsMark, AddsMark};
 
 use std::alloc::{AllocError, Global};
 
@@ -15,7 +14,7 @@ pub(crate) fn no_marks(alloc: Global, limit: usize) -> Result<Vec<bool>, AllocEr
 /// Whether a number has come.
 pub(crate) fn is_marked(marks: &[bool], number: usize) -> bool
     requires { number < length marks.now }
-    ensures { (limit : ℕ) (numbers : List ℕ) → AreMarks limit numbers marks.now → result ≡ is_among numbers number }
+    ensures { TellsMark marks.now number result }
 {
     marks[number]
 }
@@ -23,7 +22,7 @@ pub(crate) fn is_marked(marks: &[bool], number: usize) -> bool
 /// Says that a number has come.
 pub(crate) fn mark(marks: &mut [bool], number: usize)
     requires { number < length marks.old }
-    ensures { (limit : ℕ) (numbers : List ℕ) → AreMarks limit numbers marks.old → AreMarks limit (numbers ++ number ∷ []) marks.new }
+    ensures { AddsMark marks.old marks.new number }
 {
     marks[number] = true;
 }

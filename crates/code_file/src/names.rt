@@ -1,10 +1,8 @@
 //! Names in code files.
-ghost use Rattle.std.specs.Prelude.{◌≡◌, ◌++◌, ◌∷◌, [], false, IfOk};
-ghost use Rattle.std.specs.List.{list_any};
-ghost use Rattle.std.specs.Str.{bytes_eq};
+ghost use Rattle.std.specs.Prelude.{◌≡◌, ◌++◌, ◌∷◌, [], IfOk};
 ghost use Rattle.net_model.specs.Name.{IsName};
-ghost use Rattle.code_file.specs.Reading.{name_at};
-ghost use Rattle.code_file.specs.Gives.{Gives, left_of};
+ghost use Rattle.code_file.specs.Reading.{any_name_at, other_name_at};
+ghost use Rattle.code_file.specs.Gives.{ReadsAs, Reads};
 
 use crate::CodeRefusal;
 use crate::items::item;
@@ -16,7 +14,7 @@ use std::alloc::Global;
 // The bytes of the next name, which may be an earlier one.
 #[tactic(auto, using(crate::proofs::Checks::name_plain))]
 fn name_bytes<'a>(rest: Rest<'a>) -> Result<(&'a [u8], Rest<'a>), CodeRefusal>
-    ensures gives { Gives (λ x. (x.0.now, left_of x.1)) result (name_at (left_of rest.entry) (λ _. false)) }
+    ensures gives { ReadsAs (λ name. name.now) result any_name_at rest.entry }
     ensures valid { IfOk result (λ x. IsName x.0.now) }
 {
     let len = match rest.bytes.first() {
@@ -38,7 +36,7 @@ pub(crate) fn name<'a>(
     rest: Rest<'a>,
     earlier: &mut Names<'a>,
 ) -> Result<(Name, Rest<'a>), CodeRefusal>
-    ensures gives { Gives (λ x. (x.0, left_of x.1)) result (name_at (left_of rest.entry) (λ name. list_any (bytes_eq name) earlier.old)) }
+    ensures gives { Reads result (other_name_at earlier.old) rest.entry }
     ensures kept { IfOk result (λ x. earlier.new ≡ earlier.old ++ x.0 ∷ []) }
 {
     let (bytes, after) = name_bytes(rest)?;

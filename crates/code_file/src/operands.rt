@@ -1,8 +1,8 @@
 //! The operands of links.
-ghost use Rattle.std.specs.Prelude.{◌≡◌, ◌==◌, ◌∷◌, [], not, map};
+ghost use Rattle.std.specs.Prelude.{◌≡◌};
 ghost use Rattle.node_program.specs.Code.{leads_into};
-ghost use Rattle.code_file.specs.Reading.{number_at, element_at, is_above_last, may_read, repeated_at, operand_at, operands_at_link, each_at};
-ghost use Rattle.code_file.specs.Gives.{Gives, left_of};
+ghost use Rattle.code_file.specs.Reading.{may_read, from_at, coefficient_at, operand_at, operands_at, operands_at_link, operand_table_at};
+ghost use Rattle.code_file.specs.Gives.{Reads, ReadsAll};
 ghost use Rattle.code_file.specs.Parts.{front_seen};
 
 use crate::CodeRefusal;
@@ -44,7 +44,7 @@ fn from_at<'a>(
     earlier: &[Operand],
     rest: Rest<'a>,
 ) -> Result<(u32, Rest<'a>), CodeRefusal>
-    ensures { Gives (λ x. (x.0, left_of x.1)) result (number_at (left_of rest.entry) (λ n. (not (is_above_last (map (λ operand. operand.from) earlier.now) n), CodeRefusal.NotRising rest.entry.at) ∷ (not (may_read (front_seen front.now) link.now n), CodeRefusal.BadOperand rest.entry.at) ∷ [])) }
+    ensures { Reads result (from_at (front_seen front.now) link.now earlier.now) rest.entry }
 {
     let (from, after) = number(rest)?;
     let from = u32::from(from);
@@ -60,7 +60,7 @@ fn from_at<'a>(
 // A coefficient.
 #[tactic(auto, using(crate::proofs::Checks::element_checked))]
 fn coefficient<'a>(field: FieldKind, rest: Rest<'a>) -> Result<(u32, Rest<'a>), CodeRefusal>
-    ensures { Gives (λ x. (x.0, left_of x.1)) result (element_at field (left_of rest.entry) (λ n. (n == 0, CodeRefusal.ZeroCoefficient rest.entry.at) ∷ [])) }
+    ensures { Reads result (coefficient_at field) rest.entry }
 {
     let (times, after) = element(field, rest)?;
     if times == 0 {
@@ -77,7 +77,7 @@ fn operand<'a>(
     earlier: &[Operand],
     rest: Rest<'a>,
 ) -> Result<(Operand, Rest<'a>), CodeRefusal>
-    ensures { Gives (λ x. (x.0, left_of x.1)) result (operand_at (front_seen front.now) link.now earlier.now (left_of rest.entry)) }
+    ensures { Reads result (operand_at (front_seen front.now) link.now earlier.now) rest.entry }
 {
     let (from, rest) = from_at(front, link, earlier, rest)?;
     let (times, rest) = coefficient(front.field, rest)?;
@@ -92,7 +92,7 @@ fn counted_operands<'a>(
     count: u16,
     start: Rest<'a>,
 ) -> Result<(Vec<Operand>, Rest<'a>), CodeRefusal>
-    ensures { Gives (λ x. (x.0.items, left_of x.1)) result (repeated_at (operand_at (front_seen front.now) link.now) count [] (left_of start.entry)) }
+    ensures { ReadsAll result (operands_at (front_seen front.now) link.now count) start.entry }
 {
     let mut operands = Vec::with_capacity(alloc, usize::from(count))?;
     let mut rest = start;
@@ -112,7 +112,7 @@ fn operand_list<'a>(
     link: &Link,
     rest: Rest<'a>,
 ) -> Result<(OperandList, Rest<'a>), CodeRefusal>
-    ensures { Gives (λ x. (x.0, left_of x.1)) result (operands_at_link (front_seen front.now) link.now (left_of rest.entry)) }
+    ensures { Reads result (operands_at_link (front_seen front.now) link.now) rest.entry }
 {
     let (count, rest) = count(rest, 8192)?;
     let (operands, rest) = counted_operands(alloc, front, link, count, rest)?;
@@ -125,7 +125,7 @@ pub(crate) fn operand_table<'a>(
     front: &Front,
     start: Rest<'a>,
 ) -> Result<(Vec<OperandList>, Rest<'a>), CodeRefusal>
-    ensures { Gives (λ x. (x.0.items, left_of x.1)) result (each_at (operands_at_link (front_seen front.now)) front.now.links (left_of start.entry)) }
+    ensures { ReadsAll result (operand_table_at (front_seen front.now)) start.entry }
 {
     let links = front.links.as_slice();
     let mut table = Vec::with_capacity(alloc, links.len())?;

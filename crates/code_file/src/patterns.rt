@@ -1,11 +1,11 @@
 //! Patterns.
-ghost use Rattle.std.specs.Prelude.{◌≡◌, ◌<◌, ◌≤◌, ◌+◌, ◌*◌, ◌==◌, ◌||◌, ◌++◌, ◌∷◌, [], List, not, nat_lt, length, map, codes, IfOk, IfErr};
-ghost use Rattle.net_model.specs.declared.Pattern.{Pattern};
-ghost use Rattle.code_file.specs.Reading.{number_at, repeated_at, is_above_last, pattern_at, patterns_at};
-ghost use Rattle.code_file.specs.Gives.{Gives, left_of};
+ghost use Rattle.std.specs.Prelude.{◌≡◌, ◌≤◌, ◌+◌, ◌*◌, ◌++◌, ◌∷◌, [], length, IfOk, IsOkUnless};
+ghost use Rattle.code_file.specs.Reading.{repeated_at, failed_at, pattern_at, none_pattern, pattern_count_at, counted_patterns_at, patterns_at};
+ghost use Rattle.code_file.specs.Gives.{Reads, ReadsAll, ReadsBehind};
+ghost use Rattle.code_file.specs.declared.refusal.CodeRefusal.TheVariants.{OutOfMemory};
 
 use crate::CodeRefusal;
-use crate::items::number;
+use crate::items::{number, positive_count};
 use crate::names::name;
 use crate::rest::Rest;
 use crate::rising::is_above_last;
@@ -19,7 +19,7 @@ const NONE: &[u8] = b"none";
 // One link of a pattern.
 #[tactic(auto, using(crate::proofs::Checks::number_checked))]
 fn failed<'a>(links: usize, before: &[u32], rest: Rest<'a>) -> Result<(u32, Rest<'a>), CodeRefusal>
-    ensures { Gives (λ x. (x.0, left_of x.1)) result (number_at (left_of rest.entry) (λ n. (not (nat_lt n links), CodeRefusal.BadIndex rest.entry.at) ∷ (not (is_above_last before.now n), CodeRefusal.NotRising rest.entry.at) ∷ [])) }
+    ensures { Reads result (failed_at links before.now) rest.entry }
 {
     let (link, after) = number(rest)?;
     if usize::from(link) >= links {
@@ -38,7 +38,7 @@ fn counted_failed<'a>(
     count: u16,
     start: Rest<'a>,
 ) -> Result<(Vec<u32>, Rest<'a>), CodeRefusal>
-    ensures { Gives (λ x. (x.0.items, left_of x.1)) result (repeated_at (λ before at. number_at at (λ n. (not (nat_lt n links), CodeRefusal.BadIndex at.at) ∷ (not (is_above_last before n), CodeRefusal.NotRising at.at) ∷ [])) count [] (left_of start.entry)) }
+    ensures { ReadsAll result (repeated_at (failed_at links) count []) start.entry }
 {
     let mut all = Vec::with_capacity(alloc, usize::from(count))?;
     let mut rest = start;
@@ -50,21 +50,6 @@ fn counted_failed<'a>(
     Ok((all, rest))
 }
 
-// The number of the links of a pattern.
-#[tactic(auto, using(crate::proofs::Checks::number_checked))]
-fn failed_count<'a>(links: usize, rest: Rest<'a>) -> Result<(u16, Rest<'a>), CodeRefusal>
-    ensures { Gives (λ x. (x.0, left_of x.1)) result (number_at (left_of rest.entry) (λ n. (n == 0, CodeRefusal.BadIndex rest.entry.at) ∷ (nat_lt links n, CodeRefusal.TooMany rest.entry.at) ∷ [])) }
-{
-    let (count, after) = number(rest)?;
-    if count == 0 {
-        return Err(CodeRefusal::BadIndex { at: rest.at });
-    }
-    if usize::from(count) > links {
-        return Err(CodeRefusal::TooMany { at: rest.at });
-    }
-    Ok((count, after))
-}
-
 // One listed pattern.
 #[tactic(auto, unfolding(crate::specs::Reading::pattern_at))]
 fn pattern<'a>(
@@ -73,11 +58,11 @@ fn pattern<'a>(
     names: &mut Names<'a>,
     rest: Rest<'a>,
 ) -> Result<(Pattern, Rest<'a>), CodeRefusal>
-    ensures gives { (earlier : List Pattern) → names.old ≡ map (λ pattern. pattern.name) earlier → Gives (λ x. (x.0, left_of x.1)) result (pattern_at links earlier (left_of rest.entry)) }
+    ensures gives { ReadsBehind (pattern_at links) names.old result rest.entry }
     ensures named { IfOk result (λ x. names.new ≡ names.old ++ x.0.name ∷ []) }
 {
     let (name, rest) = name(alloc, rest, names)?;
-    let (count, rest) = failed_count(links, rest)?;
+    let (count, rest) = positive_count(rest, links)?;
     let (failed, rest) = counted_failed(alloc, links, count, rest)?;
     let links = LinkList::of(failed);
     Ok((Pattern { name, links }, rest))
@@ -85,8 +70,8 @@ fn pattern<'a>(
 
 // The pattern without links.
 fn no_links(alloc: Global) -> Result<Pattern, CodeRefusal>
-    ensures gives { IfOk result (λ pattern. pattern ≡ record { name = codes "none"; links = [] }) }
-    ensures refused { IfErr result (λ refusal. refusal ≡ CodeRefusal.OutOfMemory) }
+    ensures gives { IfOk result (λ pattern. pattern ≡ none_pattern) }
+    ensures refused { IsOkUnless result OutOfMemory }
 {
     match Name::of(alloc, NONE) {
         Ok(name) => Ok(Pattern {
@@ -104,7 +89,7 @@ fn counted_patterns<'a>(
     count: u16,
     start: Rest<'a>,
 ) -> Result<(Vec<Pattern>, Rest<'a>), CodeRefusal>
-    ensures gives { Gives (λ x. (x.0.items, left_of x.1)) result (repeated_at (pattern_at links) count (record { name = codes "none"; links = [] } ∷ []) (left_of start.entry)) }
+    ensures gives { ReadsAll result (counted_patterns_at links count) start.entry }
     ensures len { IfOk result (λ x. length x.0.items ≡ count + 1) }
 {
     let mut patterns = Vec::with_capacity(alloc, usize::from(count) + 1)?;
@@ -124,7 +109,7 @@ fn counted_patterns<'a>(
 #[tactic(auto, using(crate::proofs::Checks::number_checked))]
 fn pattern_count<'a>(sinks: usize, rest: Rest<'a>) -> Result<(u16, Rest<'a>), CodeRefusal>
     requires { sinks ≤ 4096 }
-    ensures gives { Gives (λ x. (x.0, left_of x.1)) result (number_at (left_of rest.entry) (λ n. (nat_lt 4095 n || nat_lt 65536 (sinks * (n + 1)), CodeRefusal.TooMany rest.entry.at) ∷ [])) }
+    ensures gives { Reads result (pattern_count_at sinks) rest.entry }
     ensures few { IfOk result (λ x. sinks * (x.0 + 1) ≤ 65536) }
 {
     let (count, after) = number(rest)?;
@@ -143,7 +128,7 @@ pub(crate) fn patterns<'a>(
     rest: Rest<'a>,
 ) -> Result<(PatternList, Rest<'a>), CodeRefusal>
     requires { sinks ≤ 4096 }
-    ensures gives { Gives (λ x. (x.0, left_of x.1)) result (patterns_at links sinks (left_of rest.entry)) }
+    ensures gives { Reads result (patterns_at links sinks) rest.entry }
     ensures few { IfOk result (λ x. sinks * length x.0 ≤ 65536) }
 {
     let (count, rest) = pattern_count(sinks, rest)?;

@@ -1,8 +1,9 @@
 //! The pieces of a code file: numbers, names, elements, and lists of these.
 ghost use Rattle.std.specs.Prelude.{◌≡◌, ◌<◌, ◌++◌, drop, map, nat_lt, IsTrue, OnOk};
-ghost use Rattle.std.specs.List.{concat, list_all};
+ghost use Rattle.std.specs.List.{list_all};
 ghost use Rattle.gf_tables.specs.Product.{size_of};
 ghost use Rattle.code_file.specs.Items.{number_item, name_item, element_item};
+ghost use Rattle.code_file.specs.Written.{Adds};
 
 use byteorder::{BigEndian, ByteOrder};
 use gf_tables::FieldKind;
@@ -20,7 +21,7 @@ pub(crate) fn put_number(out: &mut Vec<u8>, number: usize) -> Result<(), AllocEr
 
 /// Adds numbers.
 pub(crate) fn put_numbers(out: &mut Vec<u8>, numbers: &[u32]) -> Result<(), AllocError>
-    ensures { OnOk result (out.new.items ≡ out.old.items ++ concat (map number_item numbers.now)) }
+    ensures { Adds result out.old out.new (map number_item numbers.now) }
 {
     for number in numbers {
         put_number(out, *number as usize)?;
@@ -39,7 +40,7 @@ pub(crate) fn put_name(out: &mut Vec<u8>, name: &Name) -> Result<(), AllocError>
 
 /// Adds names.
 pub(crate) fn put_names(out: &mut Vec<u8>, names: &[Name]) -> Result<(), AllocError>
-    ensures { OnOk result (out.new.items ≡ out.old.items ++ concat (map name_item names.now)) }
+    ensures { Adds result out.old out.new (map name_item names.now) }
 {
     for name in names {
         put_name(out, name)?;
@@ -69,7 +70,7 @@ pub(crate) fn put_elements(
     elements: &[u32],
 ) -> Result<(), AllocError>
     requires { IsTrue (list_all (λ element. nat_lt element (size_of field)) elements.now) }
-    ensures { OnOk result (out.new.items ≡ out.old.items ++ concat (map (element_item field) elements.now)) }
+    ensures { Adds result out.old out.new (map (element_item field) elements.now) }
 {
     for element in elements {
         put_element(out, field, *element)?;

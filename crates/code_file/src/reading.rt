@@ -1,11 +1,13 @@
 //! All of a code file.
-ghost use Rattle.std.specs.Prelude.{◌≡◌, ◌≢◌, ◌≤◌, ◌^◌, length, Err, IfOk, IfErr};
+ghost use Rattle.std.specs.Prelude.{◌≡◌, ◌≤◌, length, IfOk, IfErr, IsOkUnless};
 ghost use Rattle.node_program.specs.declared.code.Code.{Code as SpecCode};
 ghost use Rattle.code_file.specs.Items.{IsFileOf};
+ghost use Rattle.code_file.specs.Limits.{code_limit};
 ghost use Rattle.code_file.specs.Reading.{contents_of};
-ghost use Rattle.code_file.specs.Gives.{Gives};
+ghost use Rattle.code_file.specs.Gives.{Fails, Gives};
 ghost use Rattle.code_file.specs.Parts.{contents_seen};
 ghost use Rattle.code_file.specs.Spelling.{contents_in, AreContents};
+ghost use Rattle.code_file.specs.declared.refusal.CodeRefusal.TheVariants.{OutOfMemory};
 
 use crate::CodeRefusal;
 use crate::decoders::decoder_table;
@@ -17,16 +19,22 @@ use net_model::Net;
 use node_program::{Code, DecoderTable, OperandTable, choice_of};
 use std::alloc::Global;
 
+/// The greatest length of a code file, in bytes.
+pub const CODE_LIMIT: usize = 268_435_456;
+
 /// What stands at the front of a code file.
 pub(crate) const MARK: &[u8] = b"LIFC";
+
+/// The version behind it.
+pub(crate) const VERSION: u8 = 1;
 
 // All that the bytes say.
 #[tactic(auto, unfolding(crate::specs::Reading::contents_of))]
 fn read_parts(alloc: Global, bytes: &[u8]) -> Result<Parts, CodeRefusal>
-    requires { length bytes.now ≤ 2 ^ 28 }
+    requires { length bytes.now ≤ code_limit }
     ensures { Gives contents_seen result (contents_of bytes.now) }
 {
-    let (front, rest) = front(alloc, MARK, 1, Rest { at: 0, bytes })?;
+    let (front, rest) = front(alloc, MARK, VERSION, Rest { at: 0, bytes })?;
     let (operands, rest) = operand_table(alloc, &front, rest)?;
     let (decoders, rest) = decoder_table(alloc, &front, rest)?;
     if !rest.bytes.is_empty() {
@@ -62,13 +70,13 @@ fn code_of(parts: Parts) -> Code
     Code::of(net, rate, field, operands, decoders)
 }
 
-/// The code whose file the bytes are. A refusal is that of the first item that isn't good, and comes only where the
-/// bytes are no code's file.
+/// The code whose file the bytes are. A refusal is that of the first item that isn't good, and
+/// comes only where the bytes are no code's file.
 pub fn read_code(alloc: Global, bytes: &[u8]) -> Result<Code, CodeRefusal>
-    requires { length bytes.now ≤ 2 ^ 28 }
+    requires { length bytes.now ≤ code_limit }
     ensures ok { IfOk result (IsFileOf bytes.now) }
-    ensures refused { IfErr result (λ why. why ≢ CodeRefusal.OutOfMemory → contents_of bytes.now ≡ Err why) }
-    ensures none { (code : SpecCode) → IsFileOf bytes.now code → IfErr result (λ why. why ≡ CodeRefusal.OutOfMemory) }
+    ensures refused { IfErr result (λ why. Fails why (contents_of bytes.now)) }
+    ensures none { (code : SpecCode) → IsFileOf bytes.now code → IsOkUnless result OutOfMemory }
 {
     let parts = read_parts(alloc, bytes)?;
     Ok(code_of(parts))

@@ -2,9 +2,9 @@
 use std::alloc::{AllocError, AllocFailed};
 use thiserror::Error;
 
-/// Why bytes aren't read as a code. The refusal is that of the first item that isn't good, and of its refusals the
-/// first in the order below. A place is counted from 0; it is that of the item's first byte, of a name that of the
-/// byte of its length.
+/// Why bytes aren't read as a code. The refusal is that of the first item that isn't good, and of
+/// its refusals the first in the order below. A place is counted from 0; it is that of the item's
+/// first byte, of a name that of the byte of its length.
 #[derive(Clone, Copy, Debug, PartialEq, Eq, Error)]
 pub enum CodeRefusal {
     /// The mark isn't `LIFC`.
@@ -49,6 +49,56 @@ pub enum CodeRefusal {
     /// There was no memory.
     #[error("there is no memory")]
     OutOfMemory,
+}
+
+impl CodeRefusal {
+    ghost use Rattle.std.specs.Prelude.{◌≡◌, ◌≤◌, length};
+    ghost use Rattle.code_file.specs.RefusalNames.{refusal_name, refusal_number};
+
+    /// Its name.
+    pub fn name(self) -> &'static str
+        ensures name { result.now ≡ refusal_name self }
+        ensures short { length result.now ≤ 16 }
+    {
+        match self {
+            CodeRefusal::BadMagic => "BadMagic",
+            CodeRefusal::BadVersion => "BadVersion",
+            CodeRefusal::Truncated { .. } => "Truncated",
+            CodeRefusal::BadField => "BadField",
+            CodeRefusal::BadRate => "BadRate",
+            CodeRefusal::BadName { .. } => "BadName",
+            CodeRefusal::BadIndex { .. } => "BadIndex",
+            CodeRefusal::OutOfOrder { .. } => "OutOfOrder",
+            CodeRefusal::NotRising { .. } => "NotRising",
+            CodeRefusal::ZeroCoefficient { .. } => "ZeroCoefficient",
+            CodeRefusal::BadOperand { .. } => "BadOperand",
+            CodeRefusal::TooMany { .. } => "TooMany",
+            CodeRefusal::TrailingBytes { .. } => "TrailingBytes",
+            CodeRefusal::OutOfMemory => "OutOfMemory",
+        }
+    }
+
+    /// The place that it names, or the number of the link, if it has one.
+    pub fn number(self) -> Option<u64>
+        ensures { result ≡ refusal_number self }
+    {
+        match self {
+            CodeRefusal::BadMagic => None,
+            CodeRefusal::BadVersion => None,
+            CodeRefusal::Truncated { at } => Some(at),
+            CodeRefusal::BadField => None,
+            CodeRefusal::BadRate => None,
+            CodeRefusal::BadName { at } => Some(at),
+            CodeRefusal::BadIndex { at } => Some(at),
+            CodeRefusal::OutOfOrder { link } => Some(u64::from(link)),
+            CodeRefusal::NotRising { at } => Some(at),
+            CodeRefusal::ZeroCoefficient { at } => Some(at),
+            CodeRefusal::BadOperand { at } => Some(at),
+            CodeRefusal::TooMany { at } => Some(at),
+            CodeRefusal::TrailingBytes { at } => Some(at),
+            CodeRefusal::OutOfMemory => None,
+        }
+    }
 }
 
 impl From<AllocError> for CodeRefusal {

@@ -1,6 +1,6 @@
 //! Whether numbers rise, by the last one.
-ghost use Rattle.std.specs.Prelude.{◌≡◌, map};
-ghost use Rattle.code_file.specs.Reading.{is_above_last};
+ghost use Rattle.std.specs.Prelude.{◌≡◌};
+ghost use Rattle.code_file.specs.Reading.{is_above_last, reads_of};
 
 use node_program::Operand;
 
@@ -16,7 +16,7 @@ pub(crate) fn is_above_last(earlier: &[u32], number: u32) -> bool
 
 /// Whether a number is above what the last operand reads.
 pub(crate) fn is_above_last_operand(earlier: &[Operand], number: u32) -> bool
-    ensures { result ≡ is_above_last (map (λ operand. operand.from) earlier.now) number }
+    ensures { result ≡ is_above_last (reads_of earlier.now) number }
 {
     match earlier.last() {
         Some(last) => last.from < number,

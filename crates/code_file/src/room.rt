@@ -1,10 +1,9 @@
 //! How much room the file of a code takes.
-ghost use Rattle.std.specs.Prelude.{◌≡◌, ℕ, List, map, length};
+ghost use Rattle.std.specs.Prelude.{◌≡◌, map};
 ghost use Rattle.std.specs.List.{flat_map};
 ghost use Rattle.gf_tables.specs.Product.{bytes_of_element};
-ghost use Rattle.gf_tables.specs.declared.kind.FieldKind.{FieldKind as Kind};
-ghost use Rattle.code_file.specs.Items.{name_item, link_items, pattern_items, operand_list_items, operand_table_items, decoder_items, decoder_table_items, front_items, items_of};
-ghost use Rattle.code_file.specs.Room.{saturate, size_of_items};
+ghost use Rattle.code_file.specs.Items.{name_item, link_items, pattern_items, operand_list_items, decoder_items, operand_table_items, decoder_table_items, items_of};
+ghost use Rattle.code_file.specs.Room.{room_of, IsFrontRoom};
 
 use crate::pieces::listed;
 use gf_tables::FieldKind;
@@ -23,7 +22,7 @@ fn element_room(field: FieldKind) -> usize
 
 // How much room a pattern takes.
 fn pattern_room(pattern: &Pattern) -> usize
-    ensures { result ≡ saturate (size_of_items (pattern_items pattern.now)) }
+    ensures { result ≡ room_of (pattern_items pattern.now) }
 {
     let numbers = pattern.links.len().saturating_mul(2);
     numbers.saturating_add(pattern.name.bytes().len() + 3)
@@ -31,7 +30,7 @@ fn pattern_room(pattern: &Pattern) -> usize
 
 // How much room the operands of a link take, with their number.
 fn operand_room(field: FieldKind, operands: &OperandList) -> usize
-    ensures { result ≡ saturate (size_of_items (operand_list_items field operands.now)) }
+    ensures { result ≡ room_of (operand_list_items field operands.now) }
 {
     let all = operands.len().saturating_mul(2 + element_room(field));
     all.saturating_add(2)
@@ -39,7 +38,7 @@ fn operand_room(field: FieldKind, operands: &OperandList) -> usize
 
 // How much room a decoder takes.
 fn decoder_room(field: FieldKind, decoder: &Decoder) -> usize
-    ensures { result ≡ saturate (size_of_items (decoder_items field decoder.now)) }
+    ensures { result ≡ room_of (decoder_items field decoder.now) }
 {
     let links = decoder.links.len().saturating_mul(2);
     let entries = decoder.entries.len().saturating_mul(element_room(field));
@@ -48,7 +47,7 @@ fn decoder_room(field: FieldKind, decoder: &Decoder) -> usize
 
 // How much room names take.
 fn names_room(names: &[Name]) -> usize
-    ensures { result ≡ saturate (size_of_items (map name_item names.now)) }
+    ensures { result ≡ room_of (map name_item names.now) }
 {
     let mut room: usize = 0;
     for name in names {
@@ -59,7 +58,7 @@ fn names_room(names: &[Name]) -> usize
 
 // How much room links take.
 fn links_room(links: &[Link]) -> usize
-    ensures { result ≡ saturate (size_of_items (flat_map link_items links.now)) }
+    ensures { result ≡ room_of (flat_map link_items links.now) }
 {
     let mut room: usize = 0;
     for link in links {
@@ -70,7 +69,7 @@ fn links_room(links: &[Link]) -> usize
 
 // How much room patterns take.
 fn patterns_room(patterns: &[Pattern]) -> usize
-    ensures { result ≡ saturate (size_of_items (flat_map pattern_items patterns.now)) }
+    ensures { result ≡ room_of (flat_map pattern_items patterns.now) }
 {
     let mut room: usize = 0;
     for pattern in patterns {
@@ -81,7 +80,7 @@ fn patterns_room(patterns: &[Pattern]) -> usize
 
 // How much room the operands of all links take.
 fn operands_room(field: FieldKind, table: &[OperandList]) -> usize
-    ensures { result ≡ saturate (size_of_items (operand_table_items field table.now)) }
+    ensures { result ≡ room_of (operand_table_items field table.now) }
 {
     let mut room: usize = 0;
     for operands in table {
@@ -92,7 +91,7 @@ fn operands_room(field: FieldKind, table: &[OperandList]) -> usize
 
 // How much room decoders take.
 fn decoders_room(field: FieldKind, decoders: &[Decoder]) -> usize
-    ensures { result ≡ saturate (size_of_items (decoder_table_items field decoders.now)) }
+    ensures { result ≡ room_of (decoder_table_items field decoders.now) }
 {
     let mut room: usize = 0;
     for decoder in decoders {
@@ -103,7 +102,7 @@ fn decoders_room(field: FieldKind, decoders: &[Decoder]) -> usize
 
 // How much room all up to the operands takes, behind a mark of four bytes.
 fn front_room(net: &Net) -> usize
-    ensures { (mark : List ℕ) (version : ℕ) (rate : ℕ) (field : Kind) → length mark ≡ 4 → result ≡ saturate (size_of_items (front_items mark version net.now rate field)) }
+    ensures { IsFrontRoom net.now result }
 {
     let nodes = names_room(net.nodes.as_slice());
     let links = links_room(net.links.as_slice());
@@ -116,10 +115,11 @@ fn front_room(net: &Net) -> usize
         .saturating_add(17)
 }
 
-/// How much room the file of a code takes, or the greatest number of the machine where that is less.
+/// How much room the file of a code takes, or the greatest number of the machine where that is
+/// less.
 #[tactic(auto, unfolding(crate::specs::Items::items_of))]
 pub(crate) fn code_room(code: &Code) -> usize
-    ensures { result ≡ saturate (size_of_items (items_of code.now)) }
+    ensures { result ≡ room_of (items_of code.now) }
 {
     let front = front_room(&code.net);
     let operands = operands_room(code.field, code.operands.as_slice());

@@ -1,14 +1,14 @@
 //! Writing a code file.
-ghost use Rattle.std.specs.Prelude.{◌≡◌, ◌<◌, ◌≤◌, ◌++◌, ◌∷◌, [], drop, IsTrue, IfOk, OnOk};
-ghost use Rattle.std.specs.List.{concat, flat_map, list_all};
+ghost use Rattle.std.specs.Prelude.{◌≡◌, ◌<◌, IsTrue, IfOk};
+ghost use Rattle.std.specs.List.{flat_map, list_all};
 ghost use Rattle.gf_tables.specs.Product.{mark_of, size_of};
-ghost use Rattle.code_file.specs.Items.{link_items, pattern_items, operand_items, operand_list_items, operand_table_items, decoder_items, decoder_table_items, front_items, IsFileOf};
-ghost use Rattle.code_file.specs.Written.{are_elements, has_elements};
+ghost use Rattle.code_file.specs.Items.{link_items, pattern_items, operand_items, operands_items, operand_list_items, decoder_items, head_items, front_items, operand_table_items, decoder_table_items, IsFileOf};
+ghost use Rattle.code_file.specs.Written.{Adds, are_elements, has_elements};
 
 use crate::pieces::{
     listed, put_element, put_elements, put_name, put_names, put_number, put_numbers,
 };
-use crate::reading::MARK;
+use crate::reading::{MARK, VERSION};
 use crate::room::code_room;
 use gf_tables::FieldKind;
 use net_model::{Link, Net, Pattern};
@@ -17,7 +17,7 @@ use std::alloc::{AllocError, Global};
 
 // Adds a link.
 fn put_link(out: &mut Vec<u8>, link: &Link) -> Result<(), AllocError>
-    ensures { OnOk result (out.new.items ≡ out.old.items ++ concat (link_items link.now)) }
+    ensures { Adds result out.old out.new (link_items link.now) }
 {
     put_name(out, &link.name)?;
     put_number(out, link.tail as usize)?;
@@ -26,7 +26,7 @@ fn put_link(out: &mut Vec<u8>, link: &Link) -> Result<(), AllocError>
 
 // Adds links.
 fn put_links(out: &mut Vec<u8>, links: &[Link]) -> Result<(), AllocError>
-    ensures { OnOk result (out.new.items ≡ out.old.items ++ concat (flat_map link_items links.now)) }
+    ensures { Adds result out.old out.new (flat_map link_items links.now) }
 {
     for link in links {
         put_link(out, link)?;
@@ -36,7 +36,7 @@ fn put_links(out: &mut Vec<u8>, links: &[Link]) -> Result<(), AllocError>
 
 // Adds a pattern.
 fn put_pattern(out: &mut Vec<u8>, pattern: &Pattern) -> Result<(), AllocError>
-    ensures { OnOk result (out.new.items ≡ out.old.items ++ concat (pattern_items pattern.now)) }
+    ensures { Adds result out.old out.new (pattern_items pattern.now) }
 {
     put_name(out, &pattern.name)?;
     put_number(out, pattern.links.len())?;
@@ -45,7 +45,7 @@ fn put_pattern(out: &mut Vec<u8>, pattern: &Pattern) -> Result<(), AllocError>
 
 // Adds patterns.
 fn put_patterns(out: &mut Vec<u8>, patterns: &[Pattern]) -> Result<(), AllocError>
-    ensures { OnOk result (out.new.items ≡ out.old.items ++ concat (flat_map pattern_items patterns.now)) }
+    ensures { Adds result out.old out.new (flat_map pattern_items patterns.now) }
 {
     for pattern in patterns {
         put_pattern(out, pattern)?;
@@ -56,7 +56,7 @@ fn put_patterns(out: &mut Vec<u8>, patterns: &[Pattern]) -> Result<(), AllocErro
 // Adds an operand.
 fn put_operand(out: &mut Vec<u8>, field: FieldKind, operand: Operand) -> Result<(), AllocError>
     requires { operand.times < size_of field }
-    ensures { OnOk result (out.new.items ≡ out.old.items ++ concat (operand_items field operand)) }
+    ensures { Adds result out.old out.new (operand_items field operand) }
 {
     put_number(out, operand.from as usize)?;
     put_element(out, field, operand.times)
@@ -65,7 +65,7 @@ fn put_operand(out: &mut Vec<u8>, field: FieldKind, operand: Operand) -> Result<
 // Adds the operands of a link, without their number.
 fn put_operands(out: &mut Vec<u8>, field: FieldKind, operands: &[Operand]) -> Result<(), AllocError>
     requires { IsTrue (are_elements field operands.now) }
-    ensures { OnOk result (out.new.items ≡ out.old.items ++ concat (flat_map (operand_items field) operands.now)) }
+    ensures { Adds result out.old out.new (operands_items field operands.now) }
 {
     for operand in operands {
         put_operand(out, field, *operand)?;
@@ -80,7 +80,7 @@ fn put_operand_list(
     operands: &OperandList,
 ) -> Result<(), AllocError>
     requires { IsTrue (are_elements field operands.now) }
-    ensures { OnOk result (out.new.items ≡ out.old.items ++ concat (operand_list_items field operands.now)) }
+    ensures { Adds result out.old out.new (operand_list_items field operands.now) }
 {
     put_number(out, operands.len())?;
     put_operands(out, field, operands.as_slice())
@@ -93,7 +93,7 @@ fn put_operand_table(
     table: &[OperandList],
 ) -> Result<(), AllocError>
     requires { IsTrue (list_all (are_elements field) table.now) }
-    ensures { OnOk result (out.new.items ≡ out.old.items ++ concat (operand_table_items field table.now)) }
+    ensures { Adds result out.old out.new (operand_table_items field table.now) }
 {
     for operands in table {
         put_operand_list(out, field, operands)?;
@@ -104,7 +104,7 @@ fn put_operand_table(
 // Adds a decoder.
 fn put_decoder(out: &mut Vec<u8>, field: FieldKind, decoder: &Decoder) -> Result<(), AllocError>
     requires { IsTrue (has_elements field decoder.now) }
-    ensures { OnOk result (out.new.items ≡ out.old.items ++ concat (decoder_items field decoder.now)) }
+    ensures { Adds result out.old out.new (decoder_items field decoder.now) }
 {
     put_numbers(out, decoder.links.as_slice())?;
     put_elements(out, field, decoder.entries.as_slice())
@@ -113,7 +113,7 @@ fn put_decoder(out: &mut Vec<u8>, field: FieldKind, decoder: &Decoder) -> Result
 // Adds the decoders.
 fn put_decoders(out: &mut Vec<u8>, field: FieldKind, decoders: &[Decoder]) -> Result<(), AllocError>
     requires { IsTrue (list_all (has_elements field) decoders.now) }
-    ensures { OnOk result (out.new.items ≡ out.old.items ++ concat (decoder_table_items field decoders.now)) }
+    ensures { Adds result out.old out.new (decoder_table_items field decoders.now) }
 {
     for decoder in decoders {
         put_decoder(out, field, decoder)?;
@@ -140,7 +140,7 @@ fn put_head(
     rate: u32,
 ) -> Result<(), AllocError>
     requires { rate < 256 }
-    ensures { OnOk result (out.new.items ≡ out.old.items ++ (mark.now ++ (version ∷ mark_of field ∷ rate ∷ []))) }
+    ensures { Adds result out.old out.new (head_items mark.now version field rate) }
 {
     out.extend_from_slice(mark)?;
     Ok(out.extend_from_slice(&[version, mark_byte(field), rate as u8])?)
@@ -157,7 +157,7 @@ fn put_front(
     field: FieldKind,
 ) -> Result<(), AllocError>
     requires { rate < 256 }
-    ensures { OnOk result (out.new.items ≡ out.old.items ++ concat (front_items mark.now version net.now rate field)) }
+    ensures { Adds result out.old out.new (front_items mark.now version net.now rate field) }
 {
     let listed = listed(net);
     put_head(out, mark, version, field, rate)?;
@@ -178,7 +178,7 @@ pub fn write_code(alloc: Global, code: &Code) -> Result<Vec<u8>, AllocError>
     ensures { IfOk result (λ bytes. IsFileOf bytes.items code.now) }
 {
     let mut out = Vec::with_capacity(alloc, code_room(code))?;
-    put_front(&mut out, MARK, 1, &code.net, code.rate, code.field)?;
+    put_front(&mut out, MARK, VERSION, &code.net, code.rate, code.field)?;
     put_operand_table(&mut out, code.field, code.operands.as_slice())?;
     put_decoders(&mut out, code.field, code.decoders.as_slice())?;
     Ok(out)

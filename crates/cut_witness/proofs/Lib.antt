@@ -1,4 +1,4 @@
 pub mod CertificateLaws
 pub mod CrossingSteps
 pub mod LeastSteps
-pub mod RunSteps
+pub mod BatchSteps

@@ -1,11 +1,12 @@
 -- Certificates: for each demand a flow and a cut of equal size, which is left by the least side.
-use Rattle.std.specs.Prelude.{◌≡◌, ◌<◌, ◌≤◌, ◌+◌, ℕ, List, IsTrue, Some, length, map, slice_get, slice_index}
+use Rattle.std.specs.Prelude.{◌≡◌, ◌<◌, ◌≤◌, ◌+◌, ℕ, List, IsTrue, Some, length, slice_get}
 use Rattle.net_model.specs.Demands.{demand_count}
 use Rattle.net_model.specs.Flows.{IsFlow, IsLeastSide, crossing, flow_network}
 use Rattle.net_model.specs.Lists.{is_rising}
 use Rattle.net_model.specs.declared.Demand.{Demand}
 use Rattle.net_model.specs.declared.net.Net.{Net}
 use Rattle.failure_patterns.specs.Demands.{demand_of}
+use Rattle.unit_flow.specs.Greatest.{first_links}
 use Rattle.cut_witness.specs.declared.cert.Cert.{Cert}
 
 -- the demand is one of the network's
@@ -13,7 +14,8 @@ pub record IsDemand (net : Net) (demand : Demand) : Type 0 where
   pub sink : demand.sink < length net.sinks
   pub pattern : demand.pattern < length net.patterns
 
--- paths that are a flow of the demand, its least side, and the links that leave it, as many as the paths
+-- paths that are a flow of the demand, its least side, and the links that leave it, as many as the
+-- paths
 pub record IsCertificate (net : Net) (cert : Cert) : Type 0 where
   pub demand : IsDemand net cert.demand
   pub flow : IsFlow (flow_network net cert.demand) cert.paths
@@ -21,11 +23,12 @@ pub record IsCertificate (net : Net) (cert : Cert) : Type 0 where
   pub crosses : cert.cut ≡ crossing (flow_network net cert.demand) cert.side
   pub paths_value : length cert.paths ≡ cert.value
   pub cut_value : length cert.cut ≡ cert.value
-  pub rising : IsTrue (is_rising (map (λ path. slice_index path 0) cert.paths))
+  pub rising : IsTrue (is_rising (first_links cert.paths))
 
 -- each is that of a demand: the first of the demand of this number, and so on in order
 pub record AreCertificatesFrom (net : Net) (first : ℕ) (certs : List Cert) : Type 0 where
-  pub at : (place : ℕ) (cert : Cert) → slice_get certs place ≡ Some cert → IsCertificate net cert × (cert.demand ≡ demand_of net (first + place))
+  pub at : (place : ℕ) (cert : Cert) → slice_get certs place ≡ Some cert
+      → IsCertificate net cert × (cert.demand ≡ demand_of net (first + place))
 
 -- one for each demand, in order
 pub record AreCertificates (net : Net) (certs : List Cert) : Type 0 where
@@ -34,5 +37,6 @@ pub record AreCertificates (net : Net) (certs : List Cert) : Type 0 where
 
 -- some certificate has that value, and none has a smaller one
 pub record IsLeastValue (certs : List Cert) (value : ℕ) : Type 0 where
-  pub attained : (number : ℕ) × (cert : Cert) × (slice_get certs number ≡ Some cert) × (cert.value ≡ value)
+  pub attained : (number : ℕ) × (cert : Cert) × (slice_get certs number ≡ Some cert)
+      × (cert.value ≡ value)
   pub least : (number : ℕ) (cert : Cert) → slice_get certs number ≡ Some cert → value ≤ cert.value

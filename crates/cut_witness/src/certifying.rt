@@ -1,14 +1,12 @@
 //! Certificates of a network's demands.
-ghost use Rattle.std.specs.Prelude.{◌≡◌, ◌≤◌, ◌<◌, ℕ, List, IfOk, length};
-ghost use Rattle.counted_steps.specs.Steps.{RoseByAtMost};
+ghost use Rattle.std.specs.Prelude.{◌≡◌, ◌≤◌, ◌<◌, IfOk, length};
 ghost use Rattle.failure_patterns.specs.UsedField.{pair_demands};
 ghost use Rattle.cut_witness.specs.Certificate.{AreCertificates, IsCertificate, IsDemand, IsLeastValue};
 ghost use Rattle.net_model.specs.Demands.{demand_count};
-ghost use Rattle.net_model.specs.Flows.{IsCut, flow_network};
-ghost use Rattle.unit_flow.specs.Visits.{visit_bound};
+ghost use Rattle.unit_flow.specs.Visits.{AreFewVisits};
 
 use crate::Cert;
-use crate::runs::{certify_along, certify_runs};
+use crate::batches::{certify_along, certify_batches};
 use counted_steps::Steps;
 use failure_patterns::demands;
 use lif_outside::Gate;
@@ -29,14 +27,14 @@ pub fn certify<L: Ledger>(
     requires { IsDemand net.now demand }
     ensures certificate { IfOk result (IsCertificate net.now) }
     ensures demand { IfOk result (λ cert. cert.demand ≡ demand) }
-    ensures ticks { (cut : List ℕ) → IsCut (flow_network net.now demand) cut → RoseByAtMost (visit_bound (length net.now.links) (length cut)) steps.old steps.new }
+    ensures ticks { AreFewVisits net.now demand steps.old steps.new }
 {
     let wiring = wiring_of(alloc, net)?;
     certify_along(alloc, net, &wiring, demand, steps)
 }
 
-/// The certificates of all demands of a network, in their order. The demands are cut into as many runs as there are
-/// workers, or demands where those are fewer. Each run enters the gate with its number before it begins; the runs
+/// The certificates of all demands of a network, in their order. The demands are cut into as many batches as there are
+/// workers, or demands where those are fewer. Each batch enters the gate with its number before it begins; the batches
 /// are done one after another.
 pub fn certify_all<G: Gate + Sync, R: Threads + Sync>(
     rt: &R,
@@ -50,8 +48,8 @@ pub fn certify_all<G: Gate + Sync, R: Threads + Sync>(
     ensures { IfOk result (λ certs. AreCertificates net.now certs.items) }
 {
     let wiring = wiring_of(alloc, net)?;
-    let runs = demands(net).min(workers as u64) as u32;
-    certify_runs(alloc, net, &wiring, runs, gate)
+    let batches = demands(net).min(workers as u64) as u32;
+    certify_batches(alloc, net, &wiring, batches, gate)
 }
 
 /// The least value of certificates: where they are those of all demands, the rate of their network.

@@ -3,7 +3,6 @@ ghost use Rattle.std.specs.Prelude.{◌≡◌, ◌<◌, IfOk, length};
 ghost use Rattle.net_model.specs.Flows.{crossing, flow_network, leaves};
 
 use item_list::ItemList;
-use link_chains::{head, tail};
 use net_model::{Demand, LinkList, Net, Side};
 use std::alloc::{AllocError, Global};
 
@@ -29,7 +28,7 @@ fn leaves(net: &Net, demand: Demand, side: &Side, link: u32) -> bool
     requires link { link < length net.now.links }
     ensures { result ≡ leaves (flow_network net.now demand) side.now link }
 {
-    *side.at(tail(net, link) as usize)
-        && !*side.at(head(net, link) as usize)
+    *side.at(net.tail(link) as usize)
+        && !*side.at(net.head(link) as usize)
         && !net.is_failed(demand.pattern, link)
 }

@@ -1,10 +1,10 @@
 //! Certificates of the least cuts of a network's demands: a flow and a cut of equal size (Ford and Fulkerson).
 #![tactic(auto)]
 
+mod batches;
 mod cert;
 mod certifying;
 mod crossing;
-mod runs;
 mod sharing;
 
 pub use cert::Cert;

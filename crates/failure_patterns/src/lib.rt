@@ -3,7 +3,7 @@
 
 ghost use Rattle.std.specs.Prelude.{◌≡◌, ◌↔◌, ◌/◌, ◌%◌, ◌<◌, ◌^◌, IsNone, length, slice_index};
 ghost use Rattle.net_model.specs.Demands.{demand_count, pattern_of_demand, sink_of_demand};
-ghost use Rattle.failure_patterns.specs.Demands.{demand_of};
+ghost use Rattle.failure_patterns.specs.Demands.{demand_of, number_of};
 ghost use Rattle.failure_patterns.specs.UsedField.{most_demands, used_field};
 
 use net_model::{Demand, FieldChoice, Net};
@@ -11,10 +11,11 @@ use net_model::{Demand, FieldChoice, Net};
 #[cfg(test)]
 mod tests;
 
-// The most demands that the fields of 256 and of 65,536 elements serve.
-const OCTET_DEMANDS: u64 = 256;
+/// The most demands that the field of 256 elements serves.
+pub const OCTET_DEMANDS: u64 = 256;
 
-const PAIR_DEMANDS: u64 = 65536;
+/// The most demands that the field of 65,536 elements serves.
+pub const PAIR_DEMANDS: u64 = 65536;
 
 /// How many demands there are: each sink with each pattern.
 #[tactic(auto, using(crate::proofs::DemandLaws::demands_fit))]
@@ -35,6 +36,18 @@ pub fn demand_at(net: &Net, i: u64) -> Demand
     ensures pattern_in_range { result.pattern < length net.now.patterns }
 {
     demand_among(net.patterns.len() as u64, i)
+}
+
+/// The number of a demand, of which it is the demand.
+#[tactic(auto, using(crate::proofs::DemandLaws::number_within, crate::proofs::DemandLaws::demand_of_number))]
+pub fn number_of(net: &Net, demand: Demand) -> u64
+    requires sink { demand.sink < length net.now.sinks }
+    requires pattern { demand.pattern < length net.now.patterns }
+    ensures value { result ≡ number_of net.now demand }
+    ensures within { result < demand_count net.now }
+    ensures back { demand_of net.now result ≡ demand }
+{
+    demand.sink as u64 * net.patterns.len() as u64 + demand.pattern as u64
 }
 
 // The demand of a number among so many patterns.

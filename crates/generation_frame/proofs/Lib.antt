@@ -1,2 +1,4 @@
 pub mod BlockLaws
 pub mod PieceLaws
+pub mod FrameLaws
+pub mod JoinLaws

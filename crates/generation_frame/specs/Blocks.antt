@@ -3,9 +3,17 @@ use Rattle.std.specs.Prelude.{ℕ, ◌+◌, ◌-◌, ◌*◌, ◌/◌, min, nat_
 use Rattle.std.specs.List.{range_with_len}
 use Rattle.std.specs.Int.{to_be_bytes, from_be_bytes, w32}
 
+-- the bytes of a row
+abbrev pub row_bytes : ℕ
+row_bytes = 1024
+
+-- the most rows of a block
+abbrev pub most_rows : ℕ
+most_rows = 32
+
 -- how many bytes of a file a block has room for
 abbrev pub capacity : ℕ → ℕ
-capacity rate = rate * 1024 - 4
+capacity rate = rate * row_bytes - 4
 
 -- the block of these bytes
 abbrev pub block_of : ℕ → List ℕ → List ℕ
@@ -35,6 +43,9 @@ whole_pieces_of file rate = pieces_before file rate (length file / capacity rate
 abbrev pub blocks_of : List ℕ → ℕ → List (List ℕ)
 blocks_of file rate = map (λ generation. block_of rate (piece_of file rate generation)) (range_with_len 0 (block_count file rate))
 
--- the bytes that a block counts, as far as it has them
+-- how many bytes of a file a block counts, and those bytes, as far as it has them
+abbrev pub count_of : List ℕ → ℕ
+count_of block = from_be_bytes w32 (take 4 block)
+
 abbrev pub counted_bytes : List ℕ → List ℕ
-counted_bytes block = take (min (from_be_bytes w32 (take 4 block)) (length block - 4)) (drop 4 block)
+counted_bytes block = take (min (count_of block) (length block - 4)) (drop 4 block)

@@ -1,10 +1,16 @@
-//! Blocks: how a file is cut into generations.
+//! Blocks and frames: how a file is cut into generations, and a row into pieces that travel.
 #![tactic(auto)]
 
 ghost use Rattle.std.specs.Prelude.{◌≡◌, ◌<◌, ◌≤◌, ◌*◌, ◌+◌, ◌/◌, ◌%◌, length};
-ghost use Rattle.generation_frame.specs.Blocks.{capacity, block_of, counted_bytes};
+ghost use Rattle.generation_frame.specs.Blocks.{block_of, capacity, counted_bytes, most_rows, row_bytes};
+
+mod frame;
+mod joiner;
 
 use byteorder::{BigEndian, ByteOrder};
+use frame::number_in;
+pub use frame::{FRAME, FrameRefusal, PIECE, Packet, frame_of, read_frame};
+pub use joiner::{Joined, Joiner};
 
 /// The bytes of a row.
 pub const ROW: usize = 1024;
@@ -15,20 +21,20 @@ const COUNT: usize = 4;
 /// How many bytes of a file a block of `rate` rows has room for.
 pub fn cap(rate: u32) -> u32
     requires some_rate { 1 ≤ rate }
-    requires low_rate { rate ≤ 32 }
+    requires low_rate { rate ≤ most_rows }
     ensures { result ≡ capacity rate }
 {
-    rate * 1024 - 4
+    rate * ROW as u32 - COUNT as u32
 }
 
 /// Writes the block of a piece of a file: the count of its bytes, the bytes, and zeros. The block has 1 to 32
 /// rows of 1024 bytes, and room for the piece.
 pub fn cut(piece: &[u8], block: &mut [u8])
-    requires whole_rows { length block.old % 1024 ≡ 0 }
-    requires some_row { 1024 ≤ length block.old }
-    requires few_rows { length block.old ≤ 32768 }
+    requires whole_rows { length block.old % row_bytes ≡ 0 }
+    requires some_row { row_bytes ≤ length block.old }
+    requires few_rows { length block.old ≤ most_rows * row_bytes }
     requires room { length piece.now + 4 ≤ length block.old }
-    ensures { block.new ≡ block_of (length block.old / 1024) piece.now }
+    ensures { block.new ≡ block_of (length block.old / row_bytes) piece.now }
 {
     let (count, rest) = block.split_at_mut(COUNT);
     BigEndian::write_u32(count, piece.len() as u32);
@@ -42,7 +48,7 @@ pub fn counted(block: &[u8]) -> &[u8]
     requires { 4 ≤ length block.now }
     ensures { result.now ≡ counted_bytes block.now }
 {
-    let count = u32::from_be_bytes([block[0], block[1], block[2], block[3]]) as usize;
+    let count = number_in(block) as usize;
     let rest = &block[COUNT..];
     &rest[..count.min(rest.len())]
 }

@@ -8,7 +8,7 @@ use Rattle.cut_witness.specs.declared.cert.Cert.{Cert}
 use Rattle.gf_tables.specs.Product.{size_of}
 use Rattle.gf_tables.specs.declared.kind.FieldKind.{FieldKind}
 use Rattle.net_model.specs.Demands.{demand_count}
-use Rattle.net_model.specs.Renumbering.{HasEachOnce, renumbered_links}
+use Rattle.net_model.specs.Renumbering.{HasEachOnce, IsRenumbered, renumbered_links}
 use Rattle.net_model.proofs.RenumberingLaws.{length-renumbered_links}
 use Rattle.net_model.specs.Walks.{IsAcyclic}
 use Rattle.net_model.specs.declared.net.Net.{Net}
@@ -18,8 +18,8 @@ use Rattle.node_program.specs.declared.Decoder.{Decoder}
 use Rattle.node_program.specs.declared.Operand.{Operand}
 use Rattle.node_program.specs.declared.code.Code.{Code}
 use Rattle.topo_order.specs.Order.{order_of}
-use Rattle.lif_compiler.specs.Compiled.{Feeds, IsCompiled, IsOfPaths, IsRenumbered}
-use Rattle.lif_compiler.specs.Hops.{AreHops}
+use Rattle.lif_compiler.specs.Compiled.{Feeds, IsCompiled, IsOfPaths}
+use Rattle.lif_compiler.specs.Hops.{AreHops, Routes}
 use Rattle.lif_compiler.proofs.InOrderLaws.{HasEachOnce-order_of, are_in_order-renumbered}
 use Rattle.lif_compiler.proofs.OriginLaws.{AreRoutes-renumbered, Feeds-of_hop}
 use Rattle.lif_compiler.proofs.RouteLaws.{routes-count}
@@ -59,7 +59,7 @@ module _ (net new : Net) (certs : List Cert) (order : List ℕ) (rate : ℕ) (ki
   new_count = ap length renumbered.links ∙ length-renumbered_links net.links once
 
   -- its links can be visited
-  pub can_visit_all : (routes : List (List (List ℕ))) (hops : List (List Hop)) → routes ≡ routes_of_certs order rate certs → length hops ≡ length net.links
+  pub can_visit_all : (routes : Routes) (hops : List (List Hop)) → routes ≡ routes_of_certs order rate certs → length hops ≡ length net.links
       → ((link : ℕ) (at : List Hop) → slice_get hops link ≡ Some at → AreHops routes link at) → AreVisitable new rate routes hops
   can_visit_all routes hops are_routes count over = record {
     routes_fit = subst (AreRoutes new rate) (sym are_routes) (AreRoutes-renumbered net new certs order rate (choice_of kind) are once renumbered enough);
@@ -68,7 +68,7 @@ module _ (net new : Net) (certs : List Cert) (order : List ℕ) (rate : ℕ) (ki
   }
 
   -- a code that is made so is one of the network
-  pub compiled : (size : ℕ) → size ≡ size_of kind → demand_count net ≤ size → (routes : List (List (List ℕ))) → routes ≡ routes_of_certs order rate certs → (operands : List (List Operand)) (decoders : List Decoder)
+  pub compiled : (size : ℕ) → size ≡ size_of kind → demand_count net ≤ size → (routes : Routes) → routes ≡ routes_of_certs order rate certs → (operands : List (List Operand)) (decoders : List Decoder)
       → IsFilled new kind rate routes operands decoders → (code : Code) → code.net ≡ new → code.rate ≡ rate → code.field ≡ kind → code.operands ≡ operands → code.decoders ≡ decoders → IsCompiled net kind code certs
   compiled size same served routes are_routes operands decoders filled code of_net of_rate of_field of_operands of_decoders = record {
     acyclic = acyclic;

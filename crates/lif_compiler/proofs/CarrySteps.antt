@@ -6,11 +6,10 @@ use Rattle.std.proofs.lemmas.List.{get_or-set_other, get_or-set_same, length-set
 use Rattle.field_vectors.specs.Grid.{Grid}
 use Rattle.gf_tables.specs.declared.kind.FieldKind.{FieldKind}
 use Rattle.net_model.specs.Failed.{is_failed_in}
-use Rattle.net_model.specs.declared.Pattern.{Pattern}
 use Rattle.net_model.specs.declared.net.Net.{Net}
 use Rattle.node_program.specs.Value.{leaves_source}
 use Rattle.node_program.specs.declared.Operand.{Operand}
-use Rattle.lif_compiler.specs.Steps.{AreCarried, IsCarriedUnless}
+use Rattle.lif_compiler.specs.Steps.{AreCarried, AreCarriedTo, IsCarriedUnless}
 use Rattle.lif_compiler.specs.Tables.{grid_at}
 
 -- the matrices from a place on are as they were
@@ -42,10 +41,10 @@ module _ {A : Type 0} (field : FieldKind) (number : A → ℕ) (operands : List 
       (subst (λ (leaves : Bool). IsCarriedUnless failed field number leaves operands link old' new) l (subst (λ (old : Grid A). IsCarriedUnless failed field number leaves operands link old new) o is))
 
   -- one more matrix is made
-  pub carried_more : (patterns : List Pattern) (leaves : Bool) (count : ℕ) (old new : List (Grid A)) (m : Grid A) → count < length old → AreCarried field number patterns leaves operands link count old new
-      → IsCarriedUnless (is_failed_in patterns count link) field number leaves operands link (grid_at new count) m
-      → AreCarried field number patterns leaves operands link (count + 1) old (slice_set new count m)
-  carried_more patterns leaves count old new m within so_far made =
+  pub carried_more : (net : Net) (count : ℕ) (old new : List (Grid A)) (m : Grid A) → count < length old → AreCarriedTo field number net link operands count old new
+      → IsCarriedUnless (is_failed_in net.patterns count link) field number (leaves_source net link) operands link (grid_at new count) m
+      → AreCarriedTo field number net link operands (count + 1) old (slice_set new count m)
+  carried_more net count old new m within so_far made =
       let none : Grid A = record { columns = 0; rows = [] } in
       let at : grid_at (slice_set new count m) count ≡ m = get_or-set_same new count m none (omega (arith, so_far.each_pattern)) in
       let elsewhere : (pattern : ℕ) → pattern ≢ count → grid_at (slice_set new count m) pattern ≡ grid_at new pattern = λ pattern apart. get_or-set_other new count pattern m none apart in
@@ -53,21 +52,19 @@ module _ {A : Type 0} (field : FieldKind) (number : A → ℕ) (operands : List 
         each_pattern = length-set new count m ∙ so_far.each_pattern;
         made = λ pattern below inside. elim (cases_eq pattern count) [
           | inl same ↦
-              (let Made : ℕ → Type 0 = λ pattern. IsCarriedUnless (is_failed_in patterns pattern link) field number leaves operands link (grid_at old pattern) (grid_at (slice_set new count m) pattern) in
-              let Here : Grid A → Grid A → Type 0 = IsCarriedUnless (is_failed_in patterns count link) field number leaves operands link in
+              (let Made : ℕ → Type 0 = λ pattern. IsCarriedUnless (is_failed_in net.patterns pattern link) field number (leaves_source net link) operands link (grid_at old pattern) (grid_at (slice_set new count m) pattern) in
+              let Here : Grid A → Grid A → Type 0 = IsCarriedUnless (is_failed_in net.patterns count link) field number (leaves_source net link) operands link in
               subst Made (sym same) (subst (λ before. Here before (grid_at (slice_set new count m) count)) (so_far.others count (omega arith)) (subst (Here (grid_at new count)) (sym at) made)))
           | inr apart ↦
-              (let Here : Grid A → Type 0 = IsCarriedUnless (is_failed_in patterns pattern link) field number leaves operands link (grid_at old pattern) in
+              (let Here : Grid A → Type 0 = IsCarriedUnless (is_failed_in net.patterns pattern link) field number (leaves_source net link) operands link (grid_at old pattern) in
               subst Here (sym (elsewhere pattern apart)) (so_far.made pattern (omega arith) inside))
         ];
         others = λ pattern from. elsewhere pattern (λ same. absurd (omega arith)) ∙ so_far.others pattern (omega arith);
       }
 
 -- the same, by equal links, operands and matrices
-pub carried_at : {A : Type 0} (field : FieldKind) (number : A → ℕ) (net : Net) (link link' : ℕ) (operands operands' : List Operand) (old old' new : List (Grid A)) → link ≡ link' → operands ≡ operands' → old ≡ old'
-    → AreCarried field number net.patterns (leaves_source net link) operands link (length old) old new
-    → AreCarried field number net.patterns (leaves_source net link') operands' link' (length old') old' new
-carried_at field number net link link' operands operands' old old' new l o v is =
-    subst (λ link. AreCarried field number net.patterns (leaves_source net link) operands' link (length old') old' new) l
-    (subst (λ operands. AreCarried field number net.patterns (leaves_source net link) operands link (length old') old' new) o
-    (subst (λ old. AreCarried field number net.patterns (leaves_source net link) operands link (length old) old new) v is))
+pub carried_at : {A : Type 0} {field : FieldKind} {number : A → ℕ} {net : Net} {link link' : ℕ} {operands operands' : List Operand} {old old' new : List (Grid A)} → link ≡ link' → operands ≡ operands' → old ≡ old'
+    → AreCarried field number net link operands old new → AreCarried field number net link' operands' old' new
+carried_at {A} {field} {number} {net} {link} {link'} {operands} {operands'} {old} {old'} {new} l o v is =
+    subst (λ link. AreCarried field number net link operands' old' new) l
+    (subst (λ operands. AreCarried field number net link operands old' new) o (subst (λ old. AreCarried field number net link operands old new) v is))

@@ -1,5 +1,5 @@
 -- Steps of the choice of a link's operands.
-use Rattle.std.specs.Prelude.{◌≡◌, ◌≢◌, ◌<◌, ◌≤◌, ℕ, Bool, true, false, List, All, Some, length, map, slice_get, slice_index, if◌then◌else◌}
+use Rattle.std.specs.Prelude.{◌≡◌, ◌≢◌, ◌<◌, ◌≤◌, ℕ, Bool, true, false, List, All, length, map, slice_index, if◌then◌else◌}
 use Rattle.std.proofs.Common.{sym, ap, ◌∙◌, arith, get_or, inl, inr, subst}
 use Rattle.std.proofs.lemmas.Bool.{cases_lt}
 use Rattle.std.proofs.lemmas.List.{get_or-map, get_or_default, length-map}
@@ -10,17 +10,23 @@ use Rattle.field_vectors.specs.Elements.{dot_of}
 use Rattle.field_vectors.specs.Grid.{Grid, IsMatrix, entry_of, row_of}
 use Rattle.field_vectors.proofs.GridLaws.{row_of-elements}
 use Rattle.field_vectors.proofs.NumberLaws.{get_or-numbers, number-dot_of, numbers-AreElements}
+use Rattle.std.specs.declared.cmp.PartialEq.{Ghosts as EqualityWords}
+use Rattle.gf_tables.specs.declared.field.Field.{Ghosts as FieldWords}
 use Rattle.gf_tables.specs.Field.{IsField, IsNumbering}
 use Rattle.gf_tables.specs.Kind.{IsOfKind}
 use Rattle.gf_tables.specs.declared.kind.FieldKind.{FieldKind}
 use Rattle.linear_algebra.specs.Elements.{numbers}
 use Rattle.linear_algebra.specs.Rows.{dot}
 use Rattle.net_model.specs.Lists.{is_among}
-use Rattle.node_program.specs.Carried.{numbers_at, source_vector}
+use Rattle.net_model.specs.declared.net.Net.{Net}
+use Rattle.node_program.specs.Value.{leaves_source}
 use Rattle.node_program.specs.declared.Operand.{Operand}
 use Rattle.lif_compiler.specs.Operands.{ArePlaces, AreSources, befores, operands_of}
 use Rattle.lif_compiler.proofs.RisingLaws.{is_among-from_Contains, place-from_is_among, rising-place}
-use Rattle.lif_compiler.specs.Tables.{AreChosenBy, IsTable, grid_at, vectors_for}
+use Rattle.lif_compiler.specs.Compiled.{marked_kind}
+use Rattle.lif_compiler.specs.PartialCodes.{AreChosenBy, HaveProducts, IsTable, product_of}
+use Rattle.lif_compiler.specs.declared.partial_code.PartialCode.{PartialCode}
+use Rattle.lif_compiler.proofs.BasesLaws.{LawsOf}
 use Rattle.lif_compiler.specs.declared.hops.Hop.{Hop}
 
 -- what holds of all numbers holds of the sources among them
@@ -58,49 +64,49 @@ module _ {A : Type 0} {P : A → Type 0} {nought one : A} {add mul : A → A →
   number-nonzero x p nonzero is =
       nonzero (sym (N.of_number_number x p) ∙ ap of_number (is ∙ sym N.number_zero) ∙ N.of_number_number nought F.zero_element)
 
-  module _ (leaves : Bool) (rate : ℕ) (sources : List ℕ) (hops : List Hop) (vectors inverses : List (Grid A)) (table : Grid A) (made : IsTable kind number leaves rate sources hops vectors inverses table) where
-    -- in each row the product of what comes before the link isn't zero
-    pub nonzero_at : (places : List ℕ) → ArePlaces (befores hops) sources places
-        → ((k : ℕ) (hop : Hop) → slice_get hops k ≡ Some hop → dot kind (source_vector leaves rate (numbers_at number (vectors_for vectors hop.demand)) hop.before) (numbers_at number (grid_at inverses hop.demand) hop.path) ≢ 0)
-        → HasNonzeroAt nought table places
-    nonzero_at places are own =
-        let before : Hop → ℕ = λ hop. hop.before in
-        let size : length (befores hops) ≡ length hops = length-map hops before in
-        record {
-          each_row = are.each ∙ size ∙ sym made.height;
-          within = λ row below. omega (arith, are.within row (omega (arith, size, made.height)), made.columns);
-          nonzero = λ row below.
-              let none : Hop = record { demand = 0; path = 0; before = 0 } in
-              let inside : row < length hops = omega (arith, made.height) in
-              let among : row < length (befores hops) = omega (arith, size) in
-              let hop = get_or hops row none in
-              let here = slice_get-get_or hops row none inside in
-              let place = slice_index places row in
-              let source : slice_index sources place ≡ hop.before = are.there row among ∙ get_or-map before hops row none 0 inside in
-              let f : ℕ → ℕ = λ from. dot kind (source_vector leaves rate (numbers_at number (vectors_for vectors hop.demand)) from) (numbers_at number (grid_at inverses hop.demand) hop.path) in
-              let entry : number (entry_of nought table row place) ≡ f hop.before =
-              sym (get_or-numbers F N kind K (row_of table row) place) ∙ ap (λ xs. slice_index xs place) (made.row row hop here) ∙ get_or-map f sources place 0 0 (are.within row among) ∙ ap f source in
-              nonzero-from_number (entry_of nought table row place) (λ is. own row hop here (sym entry ∙ is));
-        }
+module _ {X : Type 0} {F : FieldWords X} {E : EqualityWords X} (L : LawsOf F) {net : Net} {link : ℕ} {sources : List ℕ} {hops : List Hop} {code : PartialCode X F E} (table : Grid X)
+    (made : IsTable (marked_kind F.MARK) net link sources hops code table) where
+  -- in each row the product of what comes before the link isn't zero
+  pub nonzero_at : (places : List ℕ) → ArePlaces (befores hops) sources places
+      → HaveProducts net link hops code → HasNonzeroAt F.zero table places
+  nonzero_at places are own =
+      let before : Hop → ℕ = λ hop. hop.before in
+      let size : length (befores hops) ≡ length hops = length-map hops before in
+      record {
+        each_row = are.each ∙ size ∙ sym made.height;
+        within = λ row below. omega (arith, are.within row (omega (arith, size, made.height)), made.columns);
+        nonzero = λ row below.
+            let none : Hop = record { demand = 0; path = 0; before = 0 } in
+            let inside : row < length hops = omega (arith, made.height) in
+            let among : row < length (befores hops) = omega (arith, size) in
+            let hop = get_or hops row none in
+            let here = slice_get-get_or hops row none inside in
+            let place = slice_index places row in
+            let source : slice_index sources place ≡ hop.before = are.there row among ∙ get_or-map before hops row none 0 inside in
+            let f : ℕ → ℕ = product_of (marked_kind F.MARK) (leaves_source net link) code hop in
+            let entry : F.number (entry_of F.zero table row place) ≡ f hop.before =
+            sym (get_or-numbers L.field L.numbering (marked_kind F.MARK) L.of_kind (row_of table row) place) ∙ ap (λ xs. slice_index xs place) (made.row row hop here) ∙ get_or-map f sources place 0 0 (are.within row among) ∙ ap f source in
+            nonzero-from_number L.field L.numbering (marked_kind F.MARK) L.of_kind (entry_of F.zero table row place) (λ is. own row hop here (sym entry ∙ is));
+      }
 
-    -- the coefficients that were chosen
-    pub chosen_by : (choice : List A) (operands : List Operand) → IsMatrix P table → AreSources (befores hops) sources → IsChoice P nought add mul table choice → operands ≡ operands_of sources (map number choice)
-        → AreChosenBy kind number leaves rate hops vectors inverses operands
-    chosen_by choice operands kept are chosen is = record {
-      sources = sources;
-      are_sources = are;
-      times = numbers number choice;
-      each_source = length-map choice number ∙ chosen.each_column ∙ made.columns;
-      elements = numbers-AreElements F N kind K choice chosen.elements;
-      operands_are = is;
-      nonzero = λ k hop here zero.
-          let row = row_of table k in
-          let below : k < length table.rows = omega (arith, slice_get_within hops k hop here, made.height) in
-          let elements = row_of-elements table k kept below in
-          let value = dot_of nought add mul choice row in
-          number-nonzero value (dot_of-element F choice row chosen.elements elements) (chosen.nonzero k below)
-          (number-dot_of F N kind K choice row chosen.elements elements ∙ ap (dot kind (numbers number choice)) (made.row k hop here) ∙ zero);
-    }
+  -- the coefficients that were chosen
+  pub chosen_by : (choice : List X) (operands : List Operand) → IsMatrix F.is_element table → AreSources (befores hops) sources → IsChoice F.is_element F.zero F.add F.mul table choice
+      → operands ≡ operands_of sources (map F.number choice) → AreChosenBy net link hops code operands
+  chosen_by choice operands kept are chosen is = record {
+    sources = sources;
+    are_sources = are;
+    times = numbers F.number choice;
+    each_source = length-map choice F.number ∙ chosen.each_column ∙ made.columns;
+    elements = numbers-AreElements L.field L.numbering (marked_kind F.MARK) L.of_kind choice chosen.elements;
+    operands_are = is;
+    nonzero = λ k hop here zero.
+        let row = row_of table k in
+        let below : k < length table.rows = omega (arith, slice_get_within hops k hop here, made.height) in
+        let elements = row_of-elements table k kept below in
+        let value = dot_of F.zero F.add F.mul choice row in
+        number-nonzero L.field L.numbering (marked_kind F.MARK) L.of_kind value (dot_of-element L.field choice row chosen.elements elements) (chosen.nonzero k below)
+        (number-dot_of L.field L.numbering (marked_kind F.MARK) L.of_kind choice row chosen.elements elements ∙ ap (dot (marked_kind F.MARK) (numbers F.number choice)) (made.row k hop here) ∙ zero);
+  }
 
 -- the lesser of two bounds, or the greater, is at most a bound on both
 pub few_either : (test : Bool) (x y bound : ℕ) → x ≤ bound → y ≤ bound → (if test then x else y) ≤ bound

@@ -16,7 +16,7 @@ use Rattle.net_model.specs.declared.Link.{Link}
 use Rattle.net_model.specs.declared.net.Net.{Net}
 use Rattle.node_program.specs.Code.{are_in_order, is_source_of, leads_into}
 use Rattle.node_program.specs.Value.{leaves_source}
-use Rattle.lif_compiler.specs.Hops.{IsHop, route_of}
+use Rattle.lif_compiler.specs.Hops.{IsHop, Routes, route_of}
 use Rattle.lif_compiler.proofs.InOrderLaws.{are_in_order-at, is_rising-walk}
 use Rattle.lif_compiler.proofs.RisingLaws.{rising-at_most}
 use Rattle.lif_compiler.specs.Visits.{AreRoutes, paths_of}
@@ -53,7 +53,7 @@ leads-head links node link within head = elim (slice_get_cases links link).1 [
 tail-there : (links : List Link) (link : ℕ) (at : Link) → slice_get links link ≡ Some at → tail_of links link ≡ at.tail
 tail-there links link at there = ap (λ (l : Option Link). option_map_or (λ (l : Link). l.tail) l 0) there
 
-module _ (net : Net) (rate : ℕ) (routes : List (List (List ℕ))) (order : IsTrue (are_in_order [] net.links)) (are : AreRoutes net rate routes) where
+module _ (net : Net) (rate : ℕ) (routes : Routes) (order : IsTrue (are_in_order [] net.links)) (are : AreRoutes net rate routes) where
   -- a path of a demand is one of its network
   pub path-route : (demand path : ℕ) → demand < demand_count net → path < rate → IsPath (flow_network net (demand_of net demand)) (route_of routes demand path)
   path-route demand path within below =

@@ -3,9 +3,11 @@ pub mod RefusedLaws
 pub mod RatingLaws
 pub mod InOrderLaws
 pub mod FrontierLaws
+pub mod BasesLaws
 pub mod DraftLaws
 pub mod HopLaws
 pub mod VisitLaws
+pub mod VisitedLaws
 pub mod DecoderLaws
 pub mod ReadOffLaws
 pub mod FinalLaws
@@ -23,6 +25,7 @@ pub mod ChoosingSteps
 pub mod ReadySteps
 pub mod AfterSteps
 pub mod StandSteps
+pub mod VisitSteps
 pub mod StartSteps
 pub mod AllSteps
 pub mod BuildSteps

@@ -12,7 +12,7 @@ use Rattle.failure_patterns.proofs.DemandLaws.{pattern_place_within}
 use Rattle.failure_patterns.specs.Demands.{demand_of}
 use Rattle.net_model.specs.Demands.{demand_count}
 use Rattle.net_model.specs.Flows.{IsFlow, flow_network}
-use Rattle.net_model.specs.Renumbering.{HasEachOnce, new_number, old_number, renumbered_network, renumbered_pattern}
+use Rattle.net_model.specs.Renumbering.{HasEachOnce, IsRenumbered, new_number, old_number, renumbered_network, renumbered_pattern}
 use Rattle.net_model.proofs.RenumberingLaws.{flow_network-renumbered, old-new}
 use Rattle.net_model.specs.declared.Demand.{Demand}
 use Rattle.net_model.specs.declared.net.FieldChoice.{FieldChoice}
@@ -20,9 +20,9 @@ use Rattle.net_model.specs.declared.net.Net.{Net}
 use Rattle.node_program.specs.Code.{are_in_order}
 use Rattle.node_program.specs.Value.{leaves_source}
 use Rattle.node_program.specs.declared.Operand.{Operand}
-use Rattle.lif_compiler.specs.Compiled.{Feeds, IsPrintedPath, IsRenumbered}
+use Rattle.lif_compiler.specs.Compiled.{Feeds, IsPrintedPath}
 use Rattle.lif_compiler.proofs.HopLaws.{hop-before_first, hop-before_inner, hop-demand, hop-leaves, hop-path}
-use Rattle.lif_compiler.specs.Hops.{IsHop, route_of}
+use Rattle.lif_compiler.specs.Hops.{IsHop, Routes, route_of}
 use Rattle.lif_compiler.proofs.RouteLaws.{IsFlow-below, IsFlow-routes, cert_of, length-routes, routes-count, routes_there}
 use Rattle.lif_compiler.specs.Routes.{renumbered_paths, routes_of_certs}
 use Rattle.lif_compiler.specs.Visits.{AreRoutes, IsOfHop, paths_of}
@@ -31,7 +31,7 @@ use Rattle.lif_compiler.specs.declared.hops.Hop.{Hop}
 module _ (net new : Net) (certs : List Cert) (order : List ℕ) (rate : ℕ) (choice : FieldChoice)
     (are : AreCertificates net certs) (once : HasEachOnce (length net.links) order) (renumbered : IsRenumbered order choice net new)
     (enough : All (λ cert. rate ≤ length cert.paths) certs) where
-  abbrev routes : List (List (List ℕ))
+  abbrev routes : Routes
   routes = routes_of_certs order rate certs
 
   -- there are as many patterns with new numbers

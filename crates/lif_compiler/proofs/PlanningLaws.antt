@@ -12,8 +12,8 @@ use Rattle.std.proofs.lemmas.List.Elements.{All-append, All-cons, All-filter, Al
 use Rattle.std.proofs.lemmas.List.Folds.{Any-from_list_any, list_any-append}
 use Rattle.std.proofs.lemmas.Option.{get_or_from_slice_get, same_Some, slice_get-get_or, slice_get-map, slice_get_past, slice_get_within, unwrap_or-slice_get}
 use Rattle.net_model.specs.Lists.{are_distinct, is_rising}
-use Rattle.lif_compiler.specs.Hops.{AreHops, IsHop, route_of}
-use Rattle.lif_compiler.specs.Planning.{Gains, before_place, hop_of_place, hops_of_demand, hops_of_demands, hops_of_path, hops_over, list_of}
+use Rattle.lif_compiler.specs.Hops.{AreHops, IsHop, Routes, before_place, route_of}
+use Rattle.lif_compiler.specs.Planning.{Gains, hop_of_place, hops_of_demand, hops_of_demands, hops_of_path, hops_over, list_of}
 use Rattle.lif_compiler.specs.declared.hops.Hop.{Hop}
 
 -- a range and one number more
@@ -124,12 +124,12 @@ list_any-hops_over test link (hop ∷ hops) found =
     ]
 
 -- there is such a demand, and it has such a path
-record IsRoute (routes : List (List (List ℕ))) (demand path : ℕ) : Type 0 where
+record IsRoute (routes : Routes) (demand path : ℕ) : Type 0 where
   demand_within : demand < length routes
   path_within : path < length (unwrap_or (slice_get routes demand) [])
 
 -- where a route has a place, there is such a demand with such a path
-IsRoute-from_place : (routes : List (List (List ℕ))) (demand path place : ℕ) → place < length (route_of routes demand path) → IsRoute routes demand path
+IsRoute-from_place : (routes : Routes) (demand path place : ℕ) → place < length (route_of routes demand path) → IsRoute routes demand path
 IsRoute-from_place routes demand path place within = elim (cases_lt demand (length routes)) [
   | inl among ↦ elim (cases_lt path (length (unwrap_or (slice_get routes demand) []))) [
     | inl inside ↦ record { demand_within = among; path_within = inside }
@@ -140,7 +140,7 @@ IsRoute-from_place routes demand path place within = elim (cases_lt demand (leng
 ]
 
 -- each hop that is listed at a link is one over it
-each_hop : (routes : List (List (List ℕ))) → All (λ hop. IsHop routes hop.0 hop.1) (hops_of_demands routes (length routes))
+each_hop : (routes : Routes) → All (λ hop. IsHop routes hop.0 hop.1) (hops_of_demands routes (length routes))
 each_hop routes =
     All-flat_map_range (λ hop. IsHop routes hop.0 hop.1) (λ demand. hops_of_demand demand (unwrap_or (slice_get routes demand) [])) 0 (length routes) (λ demand _ _.
     let paths = unwrap_or (slice_get routes demand) [] in
@@ -151,7 +151,7 @@ each_hop routes =
     (All-nil (λ (hop : ℕ × Hop). IsHop routes hop.0 hop.1)))))
 
 -- a link on a route is listed
-listed_hop : (routes : List (List (List ℕ))) (link demand path place : ℕ) → place < length (route_of routes demand path) → slice_index (route_of routes demand path) place ≡ link
+listed_hop : (routes : Routes) (link demand path place : ℕ) → place < length (route_of routes demand path) → slice_index (route_of routes demand path) place ≡ link
     → list_any (λ hop. (hop.0 == link) && ((hop.1.demand == demand) && (hop.1.path == path))) (hops_of_demands routes (length routes)) ≡ true
 listed_hop routes link demand path place within here =
     let test : ℕ × Hop → Bool = λ hop. (hop.0 == link) && ((hop.1.demand == demand) && (hop.1.path == path)) in
@@ -271,7 +271,7 @@ demand_once link demand paths distinct =
     (All-map (λ one. one ≡ demand) (λ (hop : Hop). hop.demand) (hops_over link hops) (All-hops_over (λ _ hop. hop.demand ≡ demand) link hops same))
 
 -- what is listed at a link, of all demands, are the hops over it
-AreHops-hops_over : (routes : List (List (List ℕ))) (link : ℕ) → All (λ paths. IsTrue (are_distinct nat_eq (concat paths))) routes → AreHops routes link (hops_over link (hops_of_demands routes (length routes)))
+AreHops-hops_over : (routes : Routes) (link : ℕ) → All (λ paths. IsTrue (are_distinct nat_eq (concat paths))) routes → AreHops routes link (hops_over link (hops_of_demands routes (length routes)))
 unfolding demands_over
 AreHops-hops_over routes link distinct =
     let hops = hops_of_demands routes (length routes) in
@@ -308,7 +308,7 @@ list_of-listed lists link at there = of_option (slice_get lists link) (sym (slic
     of_option (Some list) same = same_Some list.items at same
 
 -- where the hops of all demands were added to empty lists, each list is that of the hops over its link
-pub AreHops-added : (routes : List (List (List ℕ))) (old new : List (Vec Hop Global)) → All (λ paths. IsTrue (are_distinct nat_eq (concat paths))) routes → ((link : ℕ) → list_of old link ≡ []) → Gains (hops_of_demands routes (length routes)) old new
+pub AreHops-added : (routes : Routes) (old new : List (Vec Hop Global)) → All (λ paths. IsTrue (are_distinct nat_eq (concat paths))) routes → ((link : ℕ) → list_of old link ≡ []) → Gains (hops_of_demands routes (length routes)) old new
     → (link : ℕ) (at : List Hop) → slice_get (map (λ list. list.items) new) link ≡ Some at → AreHops routes link at
 AreHops-added routes old new distinct empty added link at there =
     let all = hops_of_demands routes (length routes) in

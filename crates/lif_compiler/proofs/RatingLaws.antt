@@ -1,5 +1,5 @@
 -- The demands that show the rate of a network, told by its certificates.
-use Rattle.std.specs.Prelude.{◌≡◌, ◌≢◌, ◌<◌, ◌*◌, ℕ, List, Some, length, slice_get}
+use Rattle.std.specs.Prelude.{◌≡◌, ◌<◌, ◌*◌, ℕ, List, Some, length, slice_get}
 use Rattle.std.proofs.Common.{◌∙◌, refl, subst, inl, inr, arith}
 use Rattle.std.proofs.lemmas.Option.{slice_get_cases, slice_get_within}
 use Rattle.net_model.specs.Flows.{IsLeastCut, IsLeastSide, flow_network}

@@ -7,10 +7,14 @@ use Rattle.std.proofs.lemmas.List.Elements.{All-set}
 use Rattle.std.proofs.lemmas.Option.{get_or_from_slice_get, slice_get_within}
 use Rattle.field_vectors.specs.Elements.{dot_of}
 use Rattle.field_vectors.specs.Grid.{Grid, row_of, with_row}
+use Rattle.std.specs.declared.cmp.PartialEq.{Ghosts as EqualityWords}
+use Rattle.gf_tables.specs.declared.field.Field.{Ghosts as FieldWords}
 use Rattle.net_model.specs.Lists.{is_rising}
+use Rattle.sink_basis.specs.declared.basis.Basis.{Basis}
+use Rattle.lif_compiler.specs.Bases.{HasWidth, inverses_in}
 use Rattle.lif_compiler.proofs.RisingLaws.{rising-below}
-use Rattle.lif_compiler.specs.Steps.{AreRenewed, IsApart}
-use Rattle.lif_compiler.specs.Tables.{grid_at, vectors_for}
+use Rattle.lif_compiler.specs.Steps.{AreRenewed, AreRenewedTo, IsApart}
+use Rattle.lif_compiler.specs.Tables.{vectors_for}
 use Rattle.lif_compiler.specs.declared.hops.Hop.{Hop}
 
 -- no earlier hop is of the demand of a hop
@@ -23,12 +27,12 @@ apart_before hops k hop once here j other before there same =
     let below = rising-below (map demand hops) j k once before (omega (arith, length-map hops demand)) in
     absurd (omega (arith, below, at j other there, at k hop here))
 
-module _ {B : Type 0} (hops : List Hop) (k : ℕ) (hop : Hop) (once : IsTrue (is_rising (map (λ hop. hop.demand) hops))) (here : slice_get hops k ≡ Some hop) (old now : List B) (basis new : B)
+module _ {W : Type 0} {F : FieldWords W} {E : EqualityWords W} (hops : List Hop) (k : ℕ) (hop : Hop) (once : IsTrue (is_rising (map (λ hop. hop.demand) hops))) (here : slice_get hops k ≡ Some hop) (old now : List (Basis W F E)) (basis new : Basis W F E)
     (within : hop.demand < length now) (is : basis ≡ slice_index_or now hop.demand basis) where
-  abbrev changed : List B
+  abbrev changed : List (Basis W F E)
   changed = slice_set now hop.demand new
 
-  module _ {X : Type 0} (f : B → X) (none : X) where
+  module _ {X : Type 0} (f : Basis W F E → X) (none : X) where
     -- what is read at the demand, and at any other
     at_demand : get_or (map f changed) hop.demand none ≡ f new
     at_demand = ap (λ xs. get_or xs hop.demand none) (map-set f now hop.demand new) ∙ get_or-set_same (map f now) hop.demand (f new) none (omega (arith, length-map now f))
@@ -60,44 +64,45 @@ module _ {B : Type 0} (hops : List Hop) (k : ℕ) (hop : Hop) (once : IsTrue (is
       ]
 
   -- one more basis is renewed
-  pub renewed_more : {A : Type 0} (links : B → List (Option ℕ)) (vectors_of : B → Grid A) (link : ℕ) (vectors : List (Grid A)) (v : List A)
-      → AreRenewed link vectors hops k (map links old) (map links now) (map vectors_of old) (map vectors_of now)
-      → links new ≡ slice_set (links basis) hop.path (Some link) → vectors_of new ≡ with_row (vectors_of basis) hop.path v → v ≡ row_of (vectors_for vectors hop.demand) link
-      → AreRenewed link vectors hops (k + 1) (map links old) (map links changed) (map vectors_of old) (map vectors_of changed)
-  renewed_more {A} links vectors_of link vectors v so_far frontier made v_is =
-      let none : Grid A = record { columns = 0; rows = [] } in
-      let size : length changed ≡ length now = length-set now hop.demand new in
+  pub renewed_more : (link : ℕ) (vectors : List (Grid W)) (v : List W) → AreRenewedTo link vectors hops k old now
+      → new.frontier ≡ slice_set basis.frontier hop.path (Some link) → new.vectors ≡ with_row basis.vectors hop.path v → v ≡ row_of (vectors_for vectors hop.demand) link
+      → AreRenewedTo link vectors hops (k + 1) old changed
+  renewed_more link vectors v so_far frontier made v_is =
+      let none : Grid W = record { columns = 0; rows = [] } in
+      let links : Basis W F E → List (Option ℕ) = λ one. one.frontier in
+      let grid : Basis W F E → Grid W = λ one. one.vectors in
       record {
-        same_links = length-map changed links ∙ size ∙ sym (length-map now links) ∙ so_far.same_links;
-        same_count = length-map changed vectors_of ∙ size ∙ sym (length-map now vectors_of) ∙ so_far.same_count;
+        same_count = length-set now hop.demand new ∙ so_far.same_count;
         links_at = more_at links [] so_far.links_other (λ hop found. slice_set found hop.path (Some link)) frontier so_far.links_at;
-        vectors_at = more_at vectors_of none so_far.vectors_other (λ hop found. with_row found hop.path (row_of (vectors_for vectors hop.demand) link)) (made ∙ ap (with_row (vectors_of basis) hop.path) v_is) so_far.vectors_at;
+        vectors_at = more_at grid none so_far.vectors_other (λ hop found. with_row found hop.path (row_of (vectors_for vectors hop.demand) link)) (made ∙ ap (with_row basis.vectors hop.path) v_is) so_far.vectors_at;
         links_other = more_other links [] so_far.links_other;
-        vectors_other = more_other vectors_of none so_far.vectors_other;
+        vectors_other = more_other grid none so_far.vectors_other;
       }
 
+  -- the inverse vectors at a demand that no hop is of stay
+  pub inverses_more : ((demand : ℕ) → IsApart hops k demand → inverses_in now demand ≡ inverses_in old demand)
+      → (demand : ℕ) → IsApart hops (k + 1) demand → inverses_in changed demand ≡ inverses_in old demand
+  inverses_more so_far = more_other (λ (one : Basis W F E). one.inverses) (record { columns = 0; rows = [] }) so_far
+
   -- the frontiers stay as long as they are
-  pub widths_more : (links : B → List (Option ℕ)) (rate link : ℕ) → All (λ basis. length (links basis) ≡ rate) now → links new ≡ slice_set (links basis) hop.path (Some link) → All (λ basis. length (links basis) ≡ rate) changed
-  widths_more links rate link widths frontier = All-set (λ basis. length (links basis) ≡ rate) now hop.demand new
-      (ap length frontier ∙ length-set (links basis) hop.path (Some link) ∙ subst (λ basis. length (links basis) ≡ rate) (sym is) (widths hop.demand basis within)) widths
+  pub widths_more : (rate link : ℕ) → All (HasWidth rate) now → new.frontier ≡ slice_set basis.frontier hop.path (Some link) → All (HasWidth rate) changed
+  widths_more rate link widths frontier = All-set (HasWidth rate) now hop.demand new
+      (ap length frontier ∙ length-set basis.frontier hop.path (Some link) ∙ subst (HasWidth rate) (sym is) (widths hop.demand basis within)) widths
 
 -- a product that isn't zero
 pub renewed_nonzero : {A : Type 0} (zero : A) (add mul : A → A → A) (x y : List A) (m n : Grid A) (path : ℕ) → dot_of zero add mul y (row_of n path) ≢ zero → x ≡ y → m ≡ n → dot_of zero add mul x (row_of m path) ≢ zero
 renewed_nonzero zero add mul x y m n path nonzero same matrix is = nonzero (ap (λ y. dot_of zero add mul y (row_of n path)) (sym same) ∙ ap (λ n. dot_of zero add mul x (row_of n path)) (sym matrix) ∙ is)
 
--- the same, by equal links, vectors and bases
-pub renewed_at : {A B : Type 0} (hops : List Hop) (links : B → List (Option ℕ)) (vectors_of : B → Grid A) (link link' : ℕ) (vectors vectors' : List (Grid A)) (old old' new : List B) → link ≡ link' → vectors ≡ vectors' → old ≡ old'
-    → AreRenewed link vectors hops (length hops) (map links old) (map links new) (map vectors_of old) (map vectors_of new)
-    → AreRenewed link' vectors' hops (length hops) (map links old') (map links new) (map vectors_of old') (map vectors_of new)
-renewed_at hops links vectors_of link link' vectors vectors' old old' new l v b is =
-    subst (λ link. AreRenewed link vectors' hops (length hops) (map links old') (map links new) (map vectors_of old') (map vectors_of new)) l
-    (subst (λ vectors. AreRenewed link vectors hops (length hops) (map links old') (map links new) (map vectors_of old') (map vectors_of new)) v
-    (subst (λ old. AreRenewed link vectors hops (length hops) (map links old) (map links new) (map vectors_of old) (map vectors_of new)) b is))
+-- by equal links, vectors and bases the same is renewed
+module _ {X : Type 0} {F : FieldWords X} {E : EqualityWords X} {link link' : ℕ} {vectors vectors' : List (Grid X)} {bases bases' : List (Basis X F E)} (l : link ≡ link') (v : vectors ≡ vectors') (b : bases ≡ bases') where
+  pub renewed_at : (hops : List Hop) (new : List (Basis X F E)) → AreRenewed link vectors hops bases new → AreRenewed link' vectors' hops bases' new
+  renewed_at hops new is =
+      subst (λ link. AreRenewed link vectors' hops bases' new) l
+      (subst (λ vectors. AreRenewed link vectors hops bases' new) v (subst (λ bases. AreRenewed link vectors hops bases new) b is))
 
--- a product that isn't zero, by equal links, vectors and bases
-pub nonzero_at_link : {A B : Type 0} (zero : A) (add mul : A → A → A) (inverses_of : B → Grid A) (hop : Hop) (link link' : ℕ) (vectors vectors' : List (Grid A)) (bases bases' : List B) → link ≡ link' → vectors ≡ vectors' → bases ≡ bases'
-    → dot_of zero add mul (row_of (vectors_for vectors' hop.demand) link') (row_of (grid_at (map inverses_of bases') hop.demand) hop.path) ≢ zero
-    → dot_of zero add mul (row_of (vectors_for vectors hop.demand) link) (row_of (grid_at (map inverses_of bases) hop.demand) hop.path) ≢ zero
-nonzero_at_link {A} {B} zero add mul inverses_of hop link link' vectors vectors' bases bases' l v b nonzero is =
-    let product : ℕ → List (Grid A) → List B → A = λ link vectors bases. dot_of zero add mul (row_of (vectors_for vectors hop.demand) link) (row_of (grid_at (map inverses_of bases) hop.demand) hop.path) in
-    nonzero (sym (ap (λ link. product link vectors bases) l ∙ ap (λ vectors. product link' vectors bases) v ∙ ap (product link' vectors') b) ∙ is)
+  -- and the product isn't zero
+  pub nonzero_at_link : (hop : Hop) → dot_of F.zero F.add F.mul (row_of (vectors_for vectors' hop.demand) link') (row_of (inverses_in bases' hop.demand) hop.path) ≢ F.zero
+      → dot_of F.zero F.add F.mul (row_of (vectors_for vectors hop.demand) link) (row_of (inverses_in bases hop.demand) hop.path) ≢ F.zero
+  nonzero_at_link hop nonzero is =
+      let product : ℕ → List (Grid X) → List (Basis X F E) → X = λ link vectors bases. dot_of F.zero F.add F.mul (row_of (vectors_for vectors hop.demand) link) (row_of (inverses_in bases hop.demand) hop.path) in
+      nonzero (sym (ap (λ link. product link vectors bases) l ∙ ap (λ vectors. product link' vectors bases) v ∙ ap (product link' vectors') b) ∙ is)

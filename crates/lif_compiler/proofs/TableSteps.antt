@@ -8,6 +8,8 @@ use Rattle.field_vectors.specs.Elements.{dot_of}
 use Rattle.field_vectors.specs.Grid.{Grid, IsMatrix, entry_of, row_of, with_row}
 use Rattle.field_vectors.proofs.GridLaws.{length-row_of, row_of-elements, row_of-with_other, row_of-with_row}
 use Rattle.field_vectors.proofs.NumberLaws.{get_or-numbers, number-dot_of, numbers-IsRow}
+use Rattle.std.specs.declared.cmp.PartialEq.{Ghosts as EqualityWords}
+use Rattle.gf_tables.specs.declared.field.Field.{Ghosts as FieldWords}
 use Rattle.gf_tables.specs.Field.{IsField, IsNumbering}
 use Rattle.gf_tables.specs.Kind.{IsOfKind}
 use Rattle.gf_tables.specs.declared.kind.FieldKind.{FieldKind}
@@ -16,7 +18,10 @@ use Rattle.linear_algebra.specs.Elements.{numbers}
 use Rattle.linear_algebra.proofs.RowLaws.{unit_row-IsRow}
 use Rattle.linear_algebra.specs.Rows.{dot, unit_row}
 use Rattle.node_program.specs.Carried.{numbers_at, source_vector}
-use Rattle.lif_compiler.specs.Tables.{grid_at, vectors_for}
+use Rattle.sink_basis.specs.declared.basis.Basis.{Basis}
+use Rattle.lif_compiler.specs.Bases.{inverses_in}
+use Rattle.lif_compiler.specs.Tables.{vectors_for}
+use Rattle.lif_compiler.proofs.BasesLaws.{inverses_in-at}
 use Rattle.lif_compiler.specs.declared.hops.Hop.{Hop}
 
 -- the first entries of a row are these, and nothing else is changed
@@ -103,12 +108,13 @@ module _ {A : Type 0} {P : A → Type 0} {nought one : A} {add mul : A → A →
       ∙ ap (λ (leaves : Bool). dot kind (source_vector leaves width (numbers_at number vectors) from) (numbers_at number inverses path)) (sym is)
 
 -- the inverse vectors of a basis that was read
-pub inverses_at : {A B : Type 0} (inverses : B → Grid A) (bases : List B) (demand : ℕ) (basis : B) → demand < length bases → basis ≡ slice_index_or bases demand basis → inverses basis ≡ grid_at (map inverses bases) demand
-inverses_at inverses bases demand basis within is = ap inverses is ∙ sym (get_or-map inverses bases demand basis (record { columns = 0; rows = [] }) within)
+pub inverses_read : {X : Type 0} {F : FieldWords X} {E : EqualityWords X} (bases : List (Basis X F E)) (demand : ℕ) (basis : Basis X F E) → demand < length bases
+    → basis ≡ slice_index_or bases demand basis → basis.inverses ≡ inverses_in bases demand
+inverses_read {X} {F} {E} bases demand basis within is = ap (λ (one : Basis X F E). one.inverses) is ∙ sym (inverses_in-at bases demand basis within)
 
 -- the vectors for a demand that were read
-pub vectors_at : {A : Type 0} (vectors : List (Grid A)) (demand count : ℕ) (m : Grid A) → 0 < length vectors → count ≡ length vectors → m ≡ slice_index_or vectors (demand % count) m → m ≡ vectors_for vectors demand
-vectors_at vectors demand count m some same is =
+pub vectors_read : {A : Type 0} (vectors : List (Grid A)) (demand count : ℕ) (m : Grid A) → 0 < length vectors → count ≡ length vectors → m ≡ slice_index_or vectors (demand % count) m → m ≡ vectors_for vectors demand
+vectors_read vectors demand count m some same is =
     let within : demand % length vectors < length vectors = omega arith in
     is ∙ ap (λ n. slice_index_or vectors (demand % n) m) same ∙ get_or_default vectors (demand % length vectors) m (record { columns = 0; rows = [] }) within
 
@@ -119,7 +125,3 @@ pub products_same : {A : Type 0} (kind : FieldKind) (number : A → ℕ) (leaves
 products_same {A} kind number leaves leaves' width rate sources m m' i i' path l w v n =
     let products : Bool → ℕ → Grid A → Grid A → List ℕ = λ leaves width m i. map (λ from. dot kind (source_vector leaves width (numbers_at number m) from) (numbers_at number i path)) sources in
     ap (λ leaves. products leaves width m i) l ∙ ap (λ width. products leaves' width m i) w ∙ ap (λ m. products leaves' rate m i) v ∙ ap (λ i. products leaves' rate m' i) n
-
--- the same, where it is read anew
-pub inverses_there : {A B : Type 0} (inverses : B → Grid A) (bases : List B) (demand : ℕ) (basis : B) → demand < length bases → inverses (slice_index_or bases demand basis) ≡ grid_at (map inverses bases) demand
-inverses_there inverses bases demand basis within = sym (get_or-map inverses bases demand basis (record { columns = 0; rows = [] }) within)

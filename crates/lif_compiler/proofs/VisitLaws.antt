@@ -15,7 +15,7 @@ use Rattle.node_program.specs.Value.{leaves_source}
 use Rattle.lif_compiler.specs.Frontier.{IsAtFrontier, frontier_vector, last_below}
 use Rattle.lif_compiler.proofs.FrontierLaws.{last_below-before, last_below-before_first, last_below-next, last_below-next_other}
 use Rattle.lif_compiler.proofs.HopLaws.{hop-before_first, hop-before_inner, hop-demand, hop-leaves, hop-path, rising-route}
-use Rattle.lif_compiler.specs.Hops.{IsHop, route_of}
+use Rattle.lif_compiler.specs.Hops.{IsHop, Routes, route_of}
 use Rattle.lif_compiler.specs.Visits.{AreRoutes, paths_of}
 use Rattle.lif_compiler.specs.declared.hops.Hop.{Hop}
 
@@ -108,7 +108,7 @@ module _ (vector_of : ℕ → List ℕ) (rate : ℕ) (paths : List (List ℕ)) (
         ];
       }
 
-module _ (net : Net) (rate : ℕ) (routes : List (List (List ℕ))) (order : IsTrue (are_in_order [] net.links)) (are : AreRoutes net rate routes) (link : ℕ) (hop : Hop) (is : IsHop routes link hop) where
+module _ (net : Net) (rate : ℕ) (routes : Routes) (order : IsTrue (are_in_order [] net.links)) (are : AreRoutes net rate routes) (link : ℕ) (hop : Hop) (is : IsHop routes link hop) where
   -- what comes before a link on the path of a hop has the vector at the path's frontier
   pub hop-vector : (vector_of : ℕ → List ℕ) (frontier : List (Option ℕ)) (vectors : List (List ℕ)) → IsAtFrontier vector_of rate (paths_of routes hop.demand) link frontier vectors
       → source_vector (leaves_source net link) rate vector_of hop.before ≡ slice_index_or vectors hop.path []

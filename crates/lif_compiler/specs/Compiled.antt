@@ -1,12 +1,12 @@
--- What the compiler makes of a network: a code of the network's rate, and certificates of that rate.
+-- What the compiler makes of a network: a code of the network's rate, and certificates of that
+-- rate.
 use Rattle.std.specs.Prelude.{◌≡◌, ◌<◌, ◌≤◌, ◌+◌, ◌==◌, ℕ, List, Bool, true, false, length, map, slice_get, slice_index, All, Some, if◌then◌else◌}
 use Rattle.gf_tables.specs.Product.{mark_of, size_of}
 use Rattle.gf_tables.specs.declared.kind.FieldKind.{FieldKind}
 use Rattle.gf_tables.specs.declared.kind.FieldKind.TheVariants.{Eight, Sixteen}
 use Rattle.net_model.specs.Demands.{demand_count}
-use Rattle.net_model.specs.Renumbering.{old_number, renumbered_links, renumbered_pattern}
+use Rattle.net_model.specs.Renumbering.{IsRenumbered, old_number}
 use Rattle.net_model.specs.Walks.{IsAcyclic}
-use Rattle.net_model.specs.declared.net.FieldChoice.{FieldChoice}
 use Rattle.net_model.specs.declared.net.Net.{Net}
 use Rattle.cut_witness.specs.Certificate.{AreCertificates, IsLeastValue}
 use Rattle.cut_witness.specs.declared.cert.Cert.{Cert}
@@ -20,15 +20,6 @@ use Rattle.topo_order.specs.Order.{order_of}
 -- the kind of field that a mark in code files stands for
 abbrev pub marked_kind : ℕ → FieldKind
 marked_kind mark = if mark == mark_of Sixteen then Sixteen else Eight
-
--- a network with its links in a new order, and this field named; all else is as it was
-pub record IsRenumbered (order : List ℕ) (choice : FieldChoice) (old new : Net) : Type 0 where
-  pub nodes : new.nodes ≡ old.nodes
-  pub links : new.links ≡ renumbered_links old.links order
-  pub source : new.source ≡ old.source
-  pub sinks : new.sinks ≡ old.sinks
-  pub patterns : new.patterns ≡ map (renumbered_pattern order) old.patterns
-  pub field : new.field ≡ choice
 
 -- a path of some certificate, among so many of its first
 pub record IsPrintedPath (rate : ℕ) (certs : List Cert) (number : ℕ) (path : List ℕ) : Type 0 where
@@ -55,19 +46,22 @@ pub record IsFirstOf (rate : ℕ) (certs : List Cert) (number link : ℕ) : Type
   pub some : 0 < length path
   pub first : slice_index path 0 ≡ link
 
--- what an operand is of a link, by whether that leaves the source: the number of a path that the link begins, or else a
--- link directly before it
+-- what an operand is of a link, by whether that leaves the source: the number of a path that the
+-- link begins, or else a link directly before it
 abbrev pub Feeds : Bool → List ℕ → ℕ → List Cert → ℕ → ℕ → Type 0
 Feeds true order rate certs from link = IsFirstOf rate certs from (old_number order link)
-Feeds false order rate certs from link = StandsBefore rate certs (old_number order from) (old_number order link)
+Feeds false order rate certs from link =
+    StandsBefore rate certs (old_number order from) (old_number order link)
 
 -- an operand of a link of a code comes from the printed paths, whose links have their old numbers
 abbrev pub IsOfPaths : List ℕ → List Cert → Code → ℕ → Operand → Type 0
-IsOfPaths order certs code link operand = Feeds (leaves_source code.net link) order code.rate certs operand.from link
+IsOfPaths order certs code link operand =
+    Feeds (leaves_source code.net link) order code.rate certs operand.from link
 
--- An accepted code of the network, with its links in order; its rate is the least value of the certificates of all
--- demands, and its operands come from their paths.
-pub record IsCompiled (net : Net) (field : FieldKind) (code : Code) (certs : List Cert) : Type 0 where
+-- An accepted code of the network, with its links in order; its rate is the least value of the
+-- certificates of all demands, and its operands come from their paths.
+pub record IsCompiled (net : Net) (field : FieldKind) (code : Code)
+    (certs : List Cert) : Type 0 where
   pub acyclic : IsAcyclic net.links
   pub served : demand_count net ≤ size_of field
   pub certified : AreCertificates net certs
@@ -77,4 +71,5 @@ pub record IsCompiled (net : Net) (field : FieldKind) (code : Code) (certs : Lis
   pub is_least : IsLeastValue certs least
   pub rate : code.rate ≡ least
   pub accepted : IsAccepted code
-  pub of_paths : (link : ℕ) → link < length net.links → All (IsOfPaths (order_of net.links) certs code link) (operands_at code.operands link)
+  pub of_paths : (link : ℕ) → link < length net.links
+      → All (IsOfPaths (order_of net.links) certs code link) (operands_at code.operands link)

@@ -1,5 +1,5 @@
--- Drafts of a compiler that visits the links 0, 1, 2, .. in order and gives each its operands. Links that it hasn't
--- visited yet have none.
+-- Drafts of a compiler that visits the links 0, 1, 2, .. in order and gives each its operands.
+-- Links that it hasn't visited yet have none.
 use Rattle.std.specs.Prelude.{ℕ, ◌-◌, List, [], ◌++◌, length, replicate}
 use Rattle.node_program.specs.declared.Operand.{Operand}
 

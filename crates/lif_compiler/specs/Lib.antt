@@ -9,6 +9,8 @@ pub mod Decoders
 pub mod ReadOff
 pub mod Operands
 pub mod Tables
+pub mod Bases
+pub mod PartialCodes
 pub mod Steps
 pub mod Routes
 pub mod Planning

@@ -17,11 +17,13 @@ pub record AreSources (numbers sources : List ℕ) : Type 0 where
 pub record ArePlaces (numbers sources places : List ℕ) : Type 0 where
   pub each : length places ≡ length numbers
   pub within : (k : ℕ) → k < length numbers → slice_index places k < length sources
-  pub there : (k : ℕ) → k < length numbers → slice_index sources (slice_index places k) ≡ slice_index numbers k
+  pub there : (k : ℕ) → k < length numbers
+      → slice_index sources (slice_index places k) ≡ slice_index numbers k
 
 -- the sources with their coefficients, but for those whose coefficient is zero
 abbrev pub operands_of : List ℕ → List ℕ → List Operand
 operands_of [] coefficients = []
 operands_of (from ∷ sources) [] = []
 operands_of (from ∷ sources) (times ∷ coefficients) =
-    if times == 0 then operands_of sources coefficients else record { from = from; times = times } ∷ operands_of sources coefficients
+    if times == 0 then operands_of sources coefficients
+    else record { from = from; times = times } ∷ operands_of sources coefficients

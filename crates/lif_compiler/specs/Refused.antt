@@ -44,7 +44,8 @@ IsBadRate net OutOfMemory = Unit {0}
 -- what each refusal says of a network, for a field with so many elements
 abbrev pub IsRefusal : Net → ℕ → CompileRefusal → Type 0
 IsRefusal net size (Cyclic links) = IsShownCycle net.links links
-IsRefusal net size (TooManyDemands count) = IsAcyclic net.links × (size < demand_count net) × (count ≡ demand_count net)
+IsRefusal net size (TooManyDemands count) =
+    IsAcyclic net.links × (size < demand_count net) × (count ≡ demand_count net)
 IsRefusal net size (ZeroRate demand side) = IsServed net size × IsZeroRate net demand side
 IsRefusal net size (RateOver demand least) = IsServed net size × IsRateOver net demand least
 IsRefusal net size OutOfMemory = Unit {0}

@@ -1,38 +1,69 @@
--- What a visit changes: the vectors of a link under all patterns, and the bases of the demands whose paths it is on.
-use Rattle.std.specs.Prelude.{◌≡◌, ◌≢◌, ◌<◌, ◌≤◌, ℕ, Bool, true, false, List, [], Option, Some, length, slice_get, slice_index_or, slice_set}
+-- What a visit changes: the vectors of a link under all patterns, and the bases of the demands
+-- whose paths it is on.
+use Rattle.std.specs.Prelude.{◌≡◌, ◌≢◌, ◌<◌, ◌≤◌, ℕ, All, Bool, true, false, List, Some, length, slice_get, slice_set}
+use Rattle.std.specs.declared.cmp.PartialEq.{Ghosts as EqualityWords}
 use Rattle.field_vectors.specs.Grid.{Grid, row_of, with_row}
+use Rattle.gf_tables.specs.declared.field.Field.{Ghosts as FieldWords}
 use Rattle.gf_tables.specs.declared.kind.FieldKind.{FieldKind}
 use Rattle.net_model.specs.Failed.{is_failed_in}
-use Rattle.net_model.specs.declared.Pattern.{Pattern}
+use Rattle.net_model.specs.declared.net.Net.{Net}
 use Rattle.node_program.specs.Carried.{IsCarried}
+use Rattle.node_program.specs.Value.{leaves_source}
 use Rattle.node_program.specs.declared.Operand.{Operand}
+use Rattle.sink_basis.specs.declared.basis.Basis.{Basis}
+use Rattle.lif_compiler.specs.Bases.{frontier_in, vectors_in}
 use Rattle.lif_compiler.specs.Tables.{grid_at, vectors_for}
 use Rattle.lif_compiler.specs.declared.hops.Hop.{Hop}
 
--- a link that fails carries zero, and stays as it was; any other carries the sum of its operands' vectors
-abbrev pub IsCarriedUnless : {A : Type 0} → Bool → FieldKind → (A → ℕ) → Bool → List Operand → ℕ → Grid A → Grid A → Type 0
+-- operands whose numbers are below a bound
+abbrev pub AreFromBelow : ℕ → List Operand → Type 0
+AreFromBelow bound operands = All (λ operand. operand.from < bound) operands
+
+-- a link that fails carries zero, and stays as it was; any other carries the sum of its operands'
+-- vectors
+abbrev pub IsCarriedUnless : {A : Type 0}
+    → Bool → FieldKind → (A → ℕ) → Bool → List Operand → ℕ → Grid A → Grid A → Type 0
 IsCarriedUnless true field number leaves operands link old new = new ≡ old
-IsCarriedUnless false field number leaves operands link old new = IsCarried field number leaves operands link old new
+IsCarriedUnless false field number leaves operands link old new =
+    IsCarried field number leaves operands link old new
 
 -- so under each of the first patterns, and nothing is changed under the others
-pub record AreCarried {A : Type 0} (field : FieldKind) (number : A → ℕ) (patterns : List Pattern) (leaves : Bool) (operands : List Operand) (link count : ℕ) (old new : List (Grid A)) : Type 0 where
+pub record AreCarriedTo {A : Type 0} (field : FieldKind) (number : A → ℕ) (net : Net) (link : ℕ)
+    (operands : List Operand) (count : ℕ) (old new : List (Grid A)) : Type 0 where
   pub each_pattern : length new ≡ length old
-  pub made : (pattern : ℕ) → pattern < count → pattern < length old → IsCarriedUnless (is_failed_in patterns pattern link) field number leaves operands link (grid_at old pattern) (grid_at new pattern)
+  pub made : (pattern : ℕ) → pattern < count → pattern < length old
+      → IsCarriedUnless (is_failed_in net.patterns pattern link) field number
+      (leaves_source net link) operands link (grid_at old pattern) (grid_at new pattern)
   pub others : (pattern : ℕ) → count ≤ pattern → grid_at new pattern ≡ grid_at old pattern
+
+-- so under each pattern
+abbrev pub AreCarried : {A : Type 0}
+    → FieldKind → (A → ℕ) → Net → ℕ → List Operand → List (Grid A) → List (Grid A) → Type 0
+AreCarried field number net link operands old new =
+    AreCarriedTo field number net link operands (length old) old new
 
 -- none of the first hops is of the demand
 abbrev pub IsApart : List Hop → ℕ → ℕ → Type 0
-IsApart hops count demand = (k : ℕ) (hop : Hop) → k < count → slice_get hops k ≡ Some hop → hop.demand ≢ demand
+IsApart hops count demand = (k : ℕ) (hop : Hop) → k < count
+    → slice_get hops k ≡ Some hop → hop.demand ≢ demand
 
--- The link is on the frontier of the paths of the first hops, with the vector that it has under the pattern of the
--- demand. Nothing else is changed.
-pub record AreRenewed {A : Type 0} (link : ℕ) (vectors : List (Grid A)) (hops : List Hop) (count : ℕ)
-    (old_links new_links : List (List (Option ℕ))) (old new : List (Grid A)) : Type 0 where
-  pub same_links : length new_links ≡ length old_links
+-- The link is on the frontier of the paths of the first hops, with the vector that it has under the
+-- pattern of the demand. Nothing else is changed.
+pub record AreRenewedTo {X : Type 0} {F : FieldWords X} {E : EqualityWords X} (link : ℕ)
+    (vectors : List (Grid X)) (hops : List Hop) (count : ℕ)
+    (old new : List (Basis X F E)) : Type 0 where
   pub same_count : length new ≡ length old
   pub links_at : (k : ℕ) (hop : Hop) → k < count → slice_get hops k ≡ Some hop
-      → slice_index_or new_links hop.demand [] ≡ slice_set (slice_index_or old_links hop.demand []) hop.path (Some link)
+      → frontier_in new hop.demand ≡ slice_set (frontier_in old hop.demand) hop.path (Some link)
   pub vectors_at : (k : ℕ) (hop : Hop) → k < count → slice_get hops k ≡ Some hop
-      → grid_at new hop.demand ≡ with_row (grid_at old hop.demand) hop.path (row_of (vectors_for vectors hop.demand) link)
-  pub links_other : (demand : ℕ) → IsApart hops count demand → slice_index_or new_links demand [] ≡ slice_index_or old_links demand []
-  pub vectors_other : (demand : ℕ) → IsApart hops count demand → grid_at new demand ≡ grid_at old demand
+      → vectors_in new hop.demand
+      ≡ with_row (vectors_in old hop.demand) hop.path (row_of (vectors_for vectors hop.demand) link)
+  pub links_other : (demand : ℕ) → IsApart hops count demand
+      → frontier_in new demand ≡ frontier_in old demand
+  pub vectors_other : (demand : ℕ) → IsApart hops count demand
+      → vectors_in new demand ≡ vectors_in old demand
+
+-- so by all hops
+abbrev pub AreRenewed : {X : Type 0} {F : FieldWords X} {E : EqualityWords X}
+    → ℕ → List (Grid X) → List Hop → List (Basis X F E) → List (Basis X F E) → Type 0
+AreRenewed link vectors hops old new = AreRenewedTo link vectors hops (length hops) old new

@@ -4,10 +4,10 @@ ghost use Rattle.field_vectors.specs.Grid.{IsMatrix, row_of};
 ghost use Rattle.gf_tables.specs.Kind.{IsOfKind};
 ghost use Rattle.gf_tables.specs.declared.kind.FieldKind.{FieldKind};
 ghost use Rattle.node_program.specs.Value.{leaves_source};
-ghost use Rattle.lif_compiler.specs.Steps.{AreCarried, IsCarriedUnless};
-ghost use Rattle.lif_compiler.specs.Tables.{AreNamed, AreOfShape};
+ghost use Rattle.lif_compiler.specs.Steps.{AreCarried, AreFromBelow, IsCarriedUnless};
+ghost use Rattle.lif_compiler.specs.Tables.{AreOfShape};
 
-use crate::draft::leaves_source;
+use crate::partial_code::leaves_source;
 use counted_steps::Steps;
 use field_vectors::Matrix;
 use gf_tables::Field;
@@ -27,8 +27,8 @@ fn carry_unless<F: Field, L: Ledger>(
     requires link { link < length vectors.old.rows }
     requires zeros { row_of vectors.old link ≡ replicate vectors.old.columns F.zero }
     requires times { All (λ operand. operand.times < F.SIZE) operands.now }
-    requires rows { leaves ≡ true → All (λ operand. operand.from < vectors.old.columns) operands.now }
-    requires links { leaves ≡ false → All (λ operand. operand.from < link) operands.now }
+    requires rows { leaves ≡ true → AreFromBelow vectors.old.columns operands.now }
+    requires links { leaves ≡ false → AreFromBelow link operands.now }
     ensures carried { (kind : FieldKind) → IsOfKind kind F.SIZE F.BYTES F.MARK F.product
         → IsCarriedUnless is_failed kind F.number leaves operands.now link vectors.old vectors.new }
     ensures kept { IsMatrix F.is_element vectors.new }
@@ -53,10 +53,10 @@ pub fn carry_all<F: Field, L: Ledger>(
     requires shape { AreOfShape (length net.now.links) rate vectors.old }
     requires zeros { All (λ m. row_of m link ≡ replicate rate F.zero) vectors.old }
     requires times { All (λ operand. operand.times < F.SIZE) operands.now }
-    requires rows { leaves_source net.now link ≡ true → All (λ operand. operand.from < rate) operands.now }
-    requires links { leaves_source net.now link ≡ false → All (λ operand. operand.from < link) operands.now }
+    requires rows { leaves_source net.now link ≡ true → AreFromBelow rate operands.now }
+    requires links { leaves_source net.now link ≡ false → AreFromBelow link operands.now }
     ensures carried { (kind : FieldKind) → IsOfKind kind F.SIZE F.BYTES F.MARK F.product
-        → AreCarried kind F.number net.now.patterns (leaves_source net.now link) operands.now link (length vectors.old) vectors.old vectors.new }
+        → AreCarried kind F.number net.now link operands.now vectors.old vectors.new }
     ensures kept { All (IsMatrix F.is_element) vectors.new }
 {
     let leaves = leaves_source(net, link);

@@ -1,19 +1,20 @@
 //! The compiler: a network to a code of its rate, the least cut of a demand.
-ghost use Rattle.std.specs.Prelude.{◌≡◌, ◌≤◌, ℕ, List, [], IfErr, IfOk, IsTrue, length};
+ghost use Rattle.std.specs.Prelude.{◌≡◌, ◌≤◌, [], IfErr, IfOk, IsTrue, length};
 ghost use Rattle.cut_witness.specs.Certificate.{AreCertificates, IsLeastValue};
 ghost use Rattle.gf_tables.specs.Kind.{IsOfKind};
 ghost use Rattle.net_model.specs.Demands.{demand_count};
-ghost use Rattle.net_model.specs.Renumbering.{HasEachOnce};
+ghost use Rattle.net_model.specs.Renumbering.{HasEachOnce, IsRenumbered};
 ghost use Rattle.net_model.specs.Walks.{IsAcyclic};
 ghost use Rattle.node_program.specs.Code.{are_in_order, choice_of};
 ghost use Rattle.topo_order.specs.Order.{order_of};
-ghost use Rattle.lif_compiler.specs.Compiled.{IsCompiled, IsRenumbered, marked_kind};
+ghost use Rattle.lif_compiler.specs.Compiled.{IsCompiled, marked_kind};
+ghost use Rattle.lif_compiler.specs.Hops.{Routes};
 ghost use Rattle.lif_compiler.specs.Refused.{IsRefusal};
-ghost use Rattle.lif_compiler.specs.Visits.{AreVisitable, IsFilled};
+ghost use Rattle.lif_compiler.specs.Visits.{AreVisitable, IsFilledBy};
 
 use crate::decoding::decoders_of;
-use crate::draft::Draft;
 use crate::kinds::kind_of;
+use crate::partial_code::PartialCode;
 use crate::planning::hops_of;
 use crate::rating::bounded_rate;
 use crate::routes::routes_of;
@@ -48,19 +49,21 @@ fn fill<F: Field, L: Ledger>(
     requires few { demand_count net.now ≤ F.SIZE }
     requires order { IsTrue (are_in_order [] net.now.links) }
     requires named { net.now.field ≡ choice_of (marked_kind F.MARK) }
-    requires ready { (routes : List (List (List ℕ))) × AreVisitable net.now rate routes hops.now }
-    ensures { IfOk result (λ parts. (routes : List (List (List ℕ))) → AreVisitable net.now rate routes hops.now → IsFilled net.now (marked_kind F.MARK) rate routes parts.0 parts.1) }
+    requires ready { (routes : Routes) × AreVisitable net.now rate routes hops.now }
+    ensures { IfOk result (λ parts.
+        IsFilledBy net.now (marked_kind F.MARK) rate hops.now parts.0 parts.1) }
 {
-    let mut draft = Draft::<F>::start(alloc, net, rate)?;
-    draft.visit_all(alloc, net, hops, steps)?;
-    let decoders = decoders_of(alloc, draft.bases.as_slice())?;
-    Ok((OperandTable::of(draft.operands), decoders))
+    let mut code = PartialCode::<F>::start(alloc, net, rate)?;
+    code.visit_all(alloc, net, hops, steps)?;
+    let decoders = decoders_of(alloc, code.bases.as_slice())?;
+    Ok((OperandTable::of(code.operands), decoders))
 }
 
 // A network with its links in a new order, and with the field named.
 fn in_order<F: Field>(alloc: Global, net: &Net, order: &[u32]) -> Result<Net, AllocError>
     requires { HasEachOnce (length net.now.links) order.now }
-    ensures { IfOk result (λ new. IsRenumbered order.now (choice_of (marked_kind F.MARK)) net.now new) }
+    ensures { IfOk result (λ new.
+        IsRenumbered order.now (choice_of (marked_kind F.MARK)) net.now new) }
 {
     Ok(net.renumbered(alloc, order, choice_of(kind_of::<F>()))?)
 }
@@ -104,7 +107,8 @@ pub fn compile<F: Field, G: Gate + Sync, L: Ledger, R: Threads + Sync>(
     steps: &mut Steps<L>,
 ) -> Result<(Code, Vec<Cert>), CompileRefusal>
     requires { IsOfKind (marked_kind F.MARK) F.SIZE F.BYTES F.MARK F.product }
-    ensures compiled { IfOk result (λ made. IsCompiled net.now (marked_kind F.MARK) made.0 made.1.items) }
+    ensures compiled { IfOk result (λ made.
+        IsCompiled net.now (marked_kind F.MARK) made.0 made.1.items) }
     ensures refused { IfErr result (IsRefusal net.now F.SIZE) }
 {
     let order = order(alloc, net)?;

@@ -1,9 +1,7 @@
 //! The decoders that bases give.
-ghost use Rattle.std.specs.Prelude.{◌≡◌, ◌<◌, ◌≤◌, ◌++◌, ℕ, All, IfOk, OnOk, Some, length, map, slice_get};
-ghost use Rattle.linear_algebra.specs.Elements.{numbers};
-ghost use Rattle.lif_compiler.specs.Decoders.{IsReadOff};
-ghost use Rattle.lif_compiler.specs.ReadOff.{AreApart, AreReached, AreSorted, entries_of_paths, placed_links, row_of_entries};
-ghost use Rattle.node_program.specs.declared.Decoder.{Decoder};
+ghost use Rattle.std.specs.Prelude.{◌≡◌, ◌<◌, ◌≤◌, ◌++◌, All, IfOk, OnOk, length, map};
+ghost use Rattle.lif_compiler.specs.Decoders.{AreReadOff, IsReadOffBasis};
+ghost use Rattle.lif_compiler.specs.ReadOff.{AreApart, AreReached, AreSorted, entries_by, placed_links, row_by};
 
 use field_vectors::Matrix;
 use gf_tables::Field;
@@ -27,8 +25,7 @@ pub(crate) fn decoders_of<F: Field>(
     requires reached { All (λ basis. AreReached basis.frontier) bases.now }
     requires apart { All (λ basis. AreApart basis.frontier) bases.now }
     ensures count { IfOk result (λ decoders. length decoders ≡ length bases.now) }
-    ensures each { IfOk result (λ decoders. (k : ℕ) (basis : _) (decoder : Decoder) → slice_get bases.now k ≡ Some basis → slice_get decoders k ≡ Some decoder
-        → IsReadOff F.SIZE (length basis.frontier) basis.frontier (map (numbers F.number) basis.inverses.rows) decoder) }
+    ensures each { IfOk result (AreReadOff bases.now) }
 {
     let mut decoders = Vec::with_capacity(alloc, bases.len())?;
     for basis in bases {
@@ -42,7 +39,7 @@ pub(crate) fn decoders_of<F: Field>(
 pub(crate) fn decoder_of<F: Field>(alloc: Global, basis: &Basis<F>) -> Result<Decoder, AllocError>
     requires reached { AreReached basis.now.frontier }
     requires apart { AreApart basis.now.frontier }
-    ensures { IfOk result (IsReadOff F.SIZE (length basis.now.frontier) basis.now.frontier (map (numbers F.number) basis.now.inverses.rows)) }
+    ensures { IfOk result (IsReadOffBasis basis.now) }
 {
     let sorted = sorted_links(alloc, basis.frontier.as_slice())?;
     let links = links_of(alloc, &sorted)?;
@@ -96,7 +93,7 @@ fn entries_of<F: Field>(
     sorted: &[PlacedLink],
 ) -> Result<Entries, AllocError>
     requires { All (λ one. one.path < length inverses.now.rows) sorted.now }
-    ensures value { IfOk result (λ entries. entries ≡ entries_of_paths inverses.now.columns (map (numbers F.number) inverses.now.rows) (map (λ one. one.path) sorted.now)) }
+    ensures value { IfOk result (λ entries. entries ≡ entries_by F.number inverses.now sorted.now) }
     ensures below { IfOk result (All (λ entry. entry < F.SIZE)) }
 {
     let mut entries = Vec::new(alloc);
@@ -116,7 +113,8 @@ fn push_row<F: Field>(
     requires paths { All (λ one. one.path < length inverses.now.rows) sorted.now }
     requires row { row < inverses.now.columns }
     requires below { All (λ entry. entry < F.SIZE) entries.old.items }
-    ensures added { OnOk result (entries.new.items ≡ entries.old.items ++ row_of_entries (map (numbers F.number) inverses.now.rows) (map (λ one. one.path) sorted.now) row) }
+    ensures added { OnOk result
+        (entries.new.items ≡ entries.old.items ++ row_by F.number inverses.now sorted.now row) }
     ensures below { OnOk result (All (λ entry. entry < F.SIZE) entries.new.items) }
 {
     for one in sorted {

@@ -54,7 +54,8 @@ pub(crate) fn operands_with<F: Field>(
     coefficients: &[F],
 ) -> Result<OperandList, AllocError>
     requires { length coefficients.now ≡ length sources.now }
-    ensures { IfOk result (λ operands. operands ≡ operands_of sources.now (map F.number coefficients.now)) }
+    ensures { IfOk result (λ operands.
+        operands ≡ operands_of sources.now (map F.number coefficients.now)) }
 {
     let mut operands = Vec::new(alloc);
     for (place, from) in sources.iter().enumerate() {

@@ -1,10 +1,11 @@
 //! The hops over each link.
-ghost use Rattle.std.specs.Prelude.{◌≡◌, ◌<◌, ◌≤◌, ◌^◌, ℕ, List, [], All, IfOk, IsTrue, OnOk, Some, length, map, nat_eq, slice_get};
+ghost use Rattle.std.specs.Prelude.{◌≡◌, ◌<◌, ◌≤◌, ℕ, [], All, IfOk, IsTrue, OnOk, length, map, nat_eq};
 ghost use Rattle.std.specs.List.{concat};
 ghost use Rattle.failure_patterns.specs.UsedField.{pair_demands};
 ghost use Rattle.net_model.specs.Lists.{are_distinct};
 ghost use Rattle.lif_compiler.specs.declared.hops.Hop.{Hop};
-ghost use Rattle.lif_compiler.specs.Hops.{AreHops};
+ghost use Rattle.lif_compiler.specs.Hops.{HaveHops};
+ghost use Rattle.lif_compiler.specs.Routes.{ArePathsBelow};
 ghost use Rattle.lif_compiler.specs.Planning.{Gains, hops_of_demand, hops_of_path, list_of};
 
 use crate::{Hop, HopList};
@@ -18,12 +19,12 @@ pub(crate) fn hops_of(
     links: usize,
     routes: &[Paths],
 ) -> Result<Vec<HopList>, AllocError>
-    requires below { All (All (All (λ link. link < links))) routes.now }
+    requires below { All (ArePathsBelow links) routes.now }
     requires apart { All (λ paths. IsTrue (are_distinct nat_eq (concat paths))) routes.now }
     requires few_demands { length routes.now ≤ pair_demands }
     requires few_paths { All (λ paths. length paths ≤ 32) routes.now }
     ensures count { IfOk result (λ hops. length hops.items ≡ links) }
-    ensures hops { IfOk result (λ hops. (link : ℕ) (at : List Hop) → slice_get hops.items link ≡ Some at → AreHops routes.now link at) }
+    ensures hops { IfOk result (λ hops. HaveHops routes.now hops.items) }
 {
     let mut hops = empty_lists(alloc, links)?;
     for (demand, paths) in routes.iter().enumerate() {
@@ -46,7 +47,7 @@ fn empty_lists(alloc: Global, links: usize) -> Result<Vec<Vec<Hop>>, AllocError>
 
 // Adds the hops of the paths of a demand.
 fn add_demand(hops: &mut [Vec<Hop>], demand: u32, paths: &[LinkList]) -> Result<(), AllocError>
-    requires below { All (All (λ link. link < length hops.old)) paths.now }
+    requires below { ArePathsBelow (length hops.old) paths.now }
     requires few { length paths.now ≤ 32 }
     ensures { OnOk result (Gains (hops_of_demand demand paths.now) hops.old hops.new) }
 {

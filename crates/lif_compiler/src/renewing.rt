@@ -1,10 +1,11 @@
 //! The bases of the demands whose paths a visited link is on.
 ghost use Rattle.std.specs.Prelude.{◌≡◌, ◌≢◌, ◌<◌, ℕ, All, IsTrue, OnOk, Some, length, map, slice_get, slice_set};
 ghost use Rattle.field_vectors.specs.Elements.{dot_of};
-ghost use Rattle.field_vectors.specs.Grid.{AreMatrices, row_of, with_row};
+ghost use Rattle.field_vectors.specs.Grid.{row_of, with_row};
 ghost use Rattle.net_model.specs.Lists.{is_rising};
+ghost use Rattle.lif_compiler.specs.Bases.{HasMatrices, HasWidth, inverses_in};
 ghost use Rattle.lif_compiler.specs.Steps.{AreRenewed};
-ghost use Rattle.lif_compiler.specs.Tables.{AreAmong, AreOfShape, grid_at, vectors_for};
+ghost use Rattle.lif_compiler.specs.Tables.{AreAmong, AreOfShape, vectors_for};
 ghost use Rattle.lif_compiler.specs.declared.hops.Hop.{Hop};
 
 use crate::Hop;
@@ -23,10 +24,12 @@ fn renew<F: Field>(
 ) -> Result<(), AllocError>
     requires path { path < length basis.old.frontier }
     requires width { length vector.now ≡ length basis.old.frontier }
-    requires nonzero { dot_of F.zero F.add F.mul vector.now (row_of basis.old.inverses path) ≢ F.zero }
-    ensures frontier { OnOk result (basis.new.frontier ≡ slice_set basis.old.frontier path (Some link)) }
+    requires nonzero { dot_of F.zero F.add F.mul vector.now (row_of basis.old.inverses path)
+        ≢ F.zero }
+    ensures frontier { OnOk result
+        (basis.new.frontier ≡ slice_set basis.old.frontier path (Some link)) }
     ensures vectors { OnOk result (basis.new.vectors ≡ with_row basis.old.vectors path vector.now) }
-    ensures matrices { OnOk result (AreMatrices F.is_element basis.new.vectors basis.new.inverses) }
+    ensures matrices { OnOk result (HasMatrices basis.new) }
 {
     basis.renew(alloc, path, link, vector)?;
     Ok(())
@@ -45,16 +48,15 @@ pub fn renew_all<F: Field>(
     requires link { link < links }
     requires some_pattern { 0 < length vectors.now }
     requires shape { AreOfShape links rate vectors.now }
-    requires frontiers { All (λ basis. length basis.frontier ≡ rate) bases.old }
-    requires matrices { All (λ basis. AreMatrices F.is_element basis.vectors basis.inverses) bases.old }
+    requires frontiers { All (HasWidth rate) bases.old }
+    requires matrices { All HasMatrices bases.old }
     requires hops { AreAmong (length bases.old) rate hops.now }
     requires once { IsTrue (is_rising (map (λ hop. hop.demand) hops.now)) }
     requires nonzero { (k : ℕ) (hop : Hop) → slice_get hops.now k ≡ Some hop →
-        dot_of F.zero F.add F.mul (row_of (vectors_for vectors.now hop.demand) link) (row_of (grid_at (map (λ basis. basis.inverses) bases.old) hop.demand) hop.path) ≢ F.zero }
-    ensures renewed { OnOk result (AreRenewed link vectors.now hops.now (length hops.now)
-        (map (λ basis. basis.frontier) bases.old) (map (λ basis. basis.frontier) bases.new)
-        (map (λ basis. basis.vectors) bases.old) (map (λ basis. basis.vectors) bases.new)) }
-    ensures matrices { OnOk result (All (λ basis. AreMatrices F.is_element basis.vectors basis.inverses) bases.new) }
+        dot_of F.zero F.add F.mul (row_of (vectors_for vectors.now hop.demand) link)
+        (row_of (inverses_in bases.old hop.demand) hop.path) ≢ F.zero }
+    ensures renewed { OnOk result (AreRenewed link vectors.now hops.now bases.old bases.new) }
+    ensures matrices { OnOk result (All HasMatrices bases.new) }
 {
     for hop in hops {
         let demand = hop.demand as usize;

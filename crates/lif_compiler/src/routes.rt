@@ -1,7 +1,7 @@
 //! The routes of demands: paths of their certificates, with the new numbers of the links.
 ghost use Rattle.std.specs.Prelude.{◌≡◌, ◌<◌, ◌≤◌, All, IfOk, length, map, slice_index};
 ghost use Rattle.net_model.specs.Renumbering.{HasEachOnce};
-ghost use Rattle.lif_compiler.specs.Routes.{IsInverse, routes_of_certs};
+ghost use Rattle.lif_compiler.specs.Routes.{ArePathsBelow, IsInverse, routes_of_certs};
 
 use cut_witness::Cert;
 use net_model::{LinkList, Paths};
@@ -16,7 +16,7 @@ pub(crate) fn routes_of(
     rate: u32,
 ) -> Result<Vec<Paths>, AllocError>
     requires order { HasEachOnce (length order.now) order.now }
-    requires links { All (λ cert. All (All (λ link. link < length order.now)) cert.paths) certs.now }
+    requires links { All (λ cert. ArePathsBelow (length order.now) cert.paths) certs.now }
     requires enough { All (λ cert. rate ≤ length cert.paths) certs.now }
     ensures { IfOk result (λ routes. routes.items ≡ routes_of_certs order.now rate certs.now) }
 {
@@ -47,7 +47,7 @@ fn routes_of_paths(
     paths: &[LinkList],
     new_numbers: &[u32],
 ) -> Result<Paths, AllocError>
-    requires { All (All (λ link. link < length new_numbers.now)) paths.now }
+    requires { ArePathsBelow (length new_numbers.now) paths.now }
     ensures { IfOk result (λ routes. routes ≡ map (map (slice_index new_numbers.now)) paths.now) }
 {
     let mut routes = Vec::with_capacity(alloc, paths.len())?;

@@ -3,13 +3,13 @@ ghost use Rattle.std.specs.Prelude.{◌≡◌, ◌≢◌, ◌<◌, ◌≤◌, �
 ghost use Rattle.field_vectors.specs.Grid.{row_of};
 ghost use Rattle.gf_tables.specs.Kind.{IsOfKind};
 ghost use Rattle.gf_tables.specs.declared.kind.FieldKind.{FieldKind};
-ghost use Rattle.linear_algebra.specs.Rows.{dot};
-ghost use Rattle.node_program.specs.Carried.{numbers_at, source_vector};
-ghost use Rattle.node_program.specs.Value.{leaves_source};
-ghost use Rattle.lif_compiler.specs.Tables.{AreAmong, AreNamed, AreOfShape, IsTable};
+ghost use Rattle.node_program.specs.Carried.{numbers_at};
+ghost use Rattle.lif_compiler.specs.Bases.{HasWidth};
+ghost use Rattle.lif_compiler.specs.PartialCodes.{IsTableFor};
+ghost use Rattle.lif_compiler.specs.Tables.{AreAmong, AreNamed, AreOfShape, CanFeed, product_by};
 
 use crate::Hop;
-use crate::draft::{Draft, leaves_source};
+use crate::partial_code::{PartialCode, leaves_source};
 use counted_steps::Steps;
 use field_vectors::{Matrix, dot};
 use gf_tables::Field;
@@ -32,7 +32,7 @@ fn product<F: Field, L: Ledger>(
     requires width { inverses.now.columns ≡ vectors.now.columns }
     ensures element { F.is_element result }
     ensures value { (kind : FieldKind) → IsOfKind kind F.SIZE F.BYTES F.MARK F.product →
-        F.number result ≡ dot kind (source_vector leaves vectors.now.columns (numbers_at F.number vectors.now) from) (numbers_at F.number inverses.now path) }
+        F.number result ≡ product_by kind F.number leaves vectors.now inverses.now path from }
 {
     if leaves {
         inverses.at(path, from)
@@ -59,8 +59,9 @@ fn fill_row<F: Field, L: Ledger>(
     requires width { inverses.now.columns ≡ vectors.now.columns }
     ensures columns { table.new.columns ≡ table.old.columns }
     ensures height { length table.new.rows ≡ length table.old.rows }
-    ensures products { (kind : FieldKind) → IsOfKind kind F.SIZE F.BYTES F.MARK F.product → numbers_at F.number table.new row
-        ≡ map (λ from. dot kind (source_vector leaves vectors.now.columns (numbers_at F.number vectors.now) from) (numbers_at F.number inverses.now path)) sources.now }
+    ensures products { (kind : FieldKind) → IsOfKind kind F.SIZE F.BYTES F.MARK F.product
+        → numbers_at F.number table.new row
+        ≡ map (product_by kind F.number leaves vectors.now inverses.now path) sources.now }
     ensures others { (other : ℕ) → other ≢ row → row_of table.new other ≡ row_of table.old other }
 {
     let _columns = table.columns();
@@ -70,7 +71,7 @@ fn fill_row<F: Field, L: Ledger>(
     }
 }
 
-impl<F: Field> Draft<F> {
+impl<F: Field> PartialCode<F> {
     /// The table of the products of the sources' vectors with the inverse vectors of the hops' paths: a row for each
     /// hop over the link, a column for each source.
     pub fn table_of<L: Ledger>(
@@ -85,13 +86,12 @@ impl<F: Field> Draft<F> {
         requires link { link < length net.now.links }
         requires some_pattern { 0 < length self.now.vectors.items }
         requires vectors { AreOfShape (length net.now.links) self.now.rate self.now.vectors.items }
-        requires bases { All (λ basis. length basis.frontier ≡ self.now.rate) self.now.bases.items }
+        requires bases { All (HasWidth self.now.rate) self.now.bases.items }
         requires hops { AreAmong (length self.now.bases.items) self.now.rate hops.now }
-        requires sources { AreNamed (leaves_source net.now link) self.now.rate (length net.now.links) sources.now }
+        requires sources { CanFeed net.now self.now.rate link sources.now }
         requires few_sources { length sources.now < 2 ^ 32 }
         requires few_hops { length hops.now < 2 ^ 32 }
-        ensures { IfOk result (λ table. (kind : FieldKind) → IsOfKind kind F.SIZE F.BYTES F.MARK F.product →
-            IsTable kind F.number (leaves_source net.now link) self.now.rate sources.now hops.now self.now.vectors.items (map (λ basis. basis.inverses) self.now.bases.items) table) }
+        ensures { IfOk result (IsTableFor net.now link sources.now hops.now self.now) }
     {
         let leaves = leaves_source(net, link);
         let mut table = Matrix::zeros(alloc, hops.len() as u32, sources.len() as u32)?;

@@ -1,13 +1,14 @@
 //! The visit of a link.
-ghost use Rattle.std.specs.Prelude.{◌≡◌, ◌<◌, ◌≤◌, ◌+◌, ℕ, List, [], All, OnOk, length, map};
-ghost use Rattle.field_vectors.specs.Grid.{AreMatrices};
+ghost use Rattle.std.specs.Prelude.{◌≡◌, ◌<◌, ◌≤◌, ◌+◌, [], All, OnOk, length};
 ghost use Rattle.gf_tables.specs.Kind.{IsOfKind};
 ghost use Rattle.net_model.specs.Demands.{demand_count};
+ghost use Rattle.lif_compiler.specs.Bases.{HasMatrices};
 ghost use Rattle.lif_compiler.specs.Compiled.{marked_kind};
-ghost use Rattle.lif_compiler.specs.Visits.{AreVisitable, CanVisit, IsVisited};
+ghost use Rattle.lif_compiler.specs.Hops.{Routes};
+ghost use Rattle.lif_compiler.specs.Visits.{AreVisitable, CanVisit, IsVisited, VisitsAll, VisitsNext};
 
 use crate::carrying::carry_all;
-use crate::draft::Draft;
+use crate::partial_code::PartialCode;
 use crate::renewing::renew_all;
 use crate::{Hop, HopList};
 use counted_steps::Steps;
@@ -16,7 +17,7 @@ use net_model::Net;
 use std::alloc::{AllocError, Global};
 use std::sync::ledger::Ledger;
 
-impl<F: Field> Draft<F> {
+impl<F: Field> PartialCode<F> {
     /// Visits the next link, over which these are the hops: chooses its operands, and puts it on the frontier of each
     /// path that has it.
     pub fn visit<L: Ledger>(
@@ -29,16 +30,13 @@ impl<F: Field> Draft<F> {
         requires field { IsOfKind (marked_kind F.MARK) F.SIZE F.BYTES F.MARK F.product }
         requires next { length self.old.operands.items < length net.now.links }
         requires few { demand_count net.now ≤ F.SIZE }
-        requires matrices { All (λ basis. AreMatrices F.is_element basis.vectors basis.inverses) self.old.bases.items }
-        requires ready { (routes : List (List (List ℕ))) × CanVisit F.number F.zero net.now (marked_kind F.MARK) self.old.rate routes hops.now
-            self.old.operands.items self.old.vectors.items (map (λ basis. basis.frontier) self.old.bases.items) (map (λ basis. basis.vectors) self.old.bases.items) }
+        requires matrices { All HasMatrices self.old.bases.items }
+        requires ready { (routes : Routes) × CanVisit net.now routes hops.now self.old }
         ensures rate { self.new.rate ≡ self.old.rate }
-        ensures count { OnOk result (length self.new.operands.items ≡ length self.old.operands.items + 1) }
-        ensures matrices { OnOk result (All (λ basis. AreMatrices F.is_element basis.vectors basis.inverses) self.new.bases.items) }
-        ensures visited { OnOk result ((routes : List (List (List ℕ))) → CanVisit F.number F.zero net.now (marked_kind F.MARK) self.old.rate routes hops.now
-            self.old.operands.items self.old.vectors.items (map (λ basis. basis.frontier) self.old.bases.items) (map (λ basis. basis.vectors) self.old.bases.items)
-            → IsVisited F.number F.zero net.now (marked_kind F.MARK) self.old.rate routes
-            self.new.operands.items self.new.vectors.items (map (λ basis. basis.frontier) self.new.bases.items) (map (λ basis. basis.vectors) self.new.bases.items)) }
+        ensures count { OnOk result
+            (length self.new.operands.items ≡ length self.old.operands.items + 1) }
+        ensures matrices { OnOk result (All HasMatrices self.new.bases.items) }
+        ensures visited { OnOk result (VisitsNext net.now hops.now self.old self.new) }
     {
         let link = self.operands.len() as u32;
         let operands = self.choose_operands(alloc, net, link, hops, steps)?;
@@ -62,9 +60,7 @@ impl<F: Field> Draft<F> {
         self.operands.push(operands)?;
         Ok(())
     }
-}
 
-impl<F: Field> Draft<F> {
     /// Visits all links in order, over which these are the hops.
     pub fn visit_all<L: Ledger>(
         &mut self,
@@ -76,16 +72,14 @@ impl<F: Field> Draft<F> {
         requires field { IsOfKind (marked_kind F.MARK) F.SIZE F.BYTES F.MARK F.product }
         requires few { demand_count net.now ≤ F.SIZE }
         requires none { self.old.operands.items ≡ [] }
-        requires matrices { All (λ basis. AreMatrices F.is_element basis.vectors basis.inverses) self.old.bases.items }
-        requires ready { (routes : List (List (List ℕ))) × AreVisitable net.now self.old.rate routes hops.now × IsVisited F.number F.zero net.now (marked_kind F.MARK) self.old.rate routes
-            self.old.operands.items self.old.vectors.items (map (λ basis. basis.frontier) self.old.bases.items) (map (λ basis. basis.vectors) self.old.bases.items) }
+        requires matrices { All HasMatrices self.old.bases.items }
+        requires ready { (routes : Routes)
+            × AreVisitable net.now self.old.rate routes hops.now
+            × IsVisited net.now routes self.old }
         ensures rate { self.new.rate ≡ self.old.rate }
         ensures whole { OnOk result (length self.new.operands.items ≡ length net.now.links) }
-        ensures matrices { OnOk result (All (λ basis. AreMatrices F.is_element basis.vectors basis.inverses) self.new.bases.items) }
-        ensures visited { OnOk result ((routes : List (List (List ℕ))) → AreVisitable net.now self.old.rate routes hops.now → IsVisited F.number F.zero net.now (marked_kind F.MARK) self.old.rate routes
-            self.old.operands.items self.old.vectors.items (map (λ basis. basis.frontier) self.old.bases.items) (map (λ basis. basis.vectors) self.old.bases.items)
-            → IsVisited F.number F.zero net.now (marked_kind F.MARK) self.old.rate routes
-            self.new.operands.items self.new.vectors.items (map (λ basis. basis.frontier) self.new.bases.items) (map (λ basis. basis.vectors) self.new.bases.items)) }
+        ensures matrices { OnOk result (All HasMatrices self.new.bases.items) }
+        ensures visited { OnOk result (VisitsAll net.now hops.now self.old self.new) }
     {
         for list in hops {
             self.visit(alloc, net, list.as_slice(), steps)?;

@@ -9,3 +9,4 @@ pub mod CallLaws
 pub mod DeedLaws
 mod Contents
 mod MemoryCalls
+pub mod PushLaws

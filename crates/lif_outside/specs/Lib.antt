@@ -14,3 +14,9 @@ pub mod Accounts
 pub mod AccountLaws
 pub mod Calls
 pub mod Memory
+pub mod Moves
+pub mod LinksAccounts
+pub mod MoveLaws
+pub mod Seeded
+pub mod Picks
+pub mod Listed

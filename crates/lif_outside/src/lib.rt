@@ -2,12 +2,18 @@
 #![tactic(auto)]
 
 mod gate;
+mod links;
+mod listed;
 mod memory;
+mod seeded;
 mod sink;
 mod store;
 
 pub use gate::{Gate, NoGate};
+pub use links::{Flight, Links};
+pub use listed::ListLinks;
 pub use memory::{Call, Fail, MemSink, MemStore};
+pub use seeded::SeedLinks;
 pub use sink::Sink;
 pub use store::Store;
 

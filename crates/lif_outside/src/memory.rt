@@ -7,7 +7,7 @@ ghost use Rattle.lif_outside.specs.Events.{read_event, create_event, append_even
 ghost use Rattle.lif_outside.specs.Files.{SameFiles};
 ghost use Rattle.lif_outside.specs.Puts.{put_event};
 
-mod parts;
+pub mod parts;
 #[cfg(test)]
 mod tests;
 

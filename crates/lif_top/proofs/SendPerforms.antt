@@ -13,7 +13,8 @@ use Rattle.lif_outside.proofs.StreamLaws.{stream_failed}
 use Rattle.lif_outside.specs.Streams.{reads_in, writes_in}
 use Rattle.lif_outside.proofs.TurnLaws.{appends-failed, creates_of-failed, creates_of-unfailed, front_unfailed}
 use Rattle.node_program.specs.declared.code.Code.{Code}
-use Rattle.top_base.specs.Accepting.{HoldsCode, IsCodeOf, RefusesCode, code_limit}
+use Rattle.code_file.specs.Limits.{code_limit}
+use Rattle.top_base.specs.Accepting.{HoldsCode, IsCodeOf, RefusesCode}
 use Rattle.top_base.proofs.AcceptingLaws.{code_input}
 use Rattle.top_base.specs.Acting.{LeavesUnread}
 use Rattle.top_base.proofs.ActingLaws.{ActsWell, acts_known, acts_used}

@@ -1,6 +1,6 @@
 //! A code at work, and the files of its sinks.
 ghost use Rattle.std.specs.Prelude.{◌≡◌, ◌*◌, length, vec_len};
-ghost use Rattle.block_carrier.specs.Carried.{row_bytes};
+ghost use Rattle.generation_frame.specs.Blocks.{row_bytes};
 
 use block_carrier::Carrier;
 

@@ -2,6 +2,7 @@
 use Rattle.std.specs.Prelude.{◌≡◌, ◌≢◌, ◌<◌, ◌≤◌, ◌+◌, ℕ, Bool, cond, List, length, slice_index}
 use Rattle.net_model.specs.Walks.{head_of, tail_of}
 use Rattle.net_model.specs.declared.Link.{Link}
+use Rattle.net_model.specs.declared.net.Net.{Net}
 
 -- the node that a link leads into, or the one that it leaves
 abbrev pub end_of : List Link → Bool → ℕ → ℕ
@@ -22,4 +23,13 @@ pub record AreFirsts (end : ℕ → ℕ) (count nodes from : ℕ) (firsts : List
 -- for each link from a number on the next one at the same node
 pub record AreNexts (end : ℕ → ℕ) (count from : ℕ) (nexts : List ℕ) : Type 0 where
   pub each_link : length nexts ≡ count
-  pub next : (l : ℕ) → from ≤ l → l < count → IsNextAt end count (end l) (l + 1) (slice_index nexts l)
+  pub next : (l : ℕ) → from ≤ l → l < count
+      → IsNextAt end count (end l) (l + 1) (slice_index nexts l)
+
+-- the first links of a network that lead into each node (`heads`), or that leave it
+abbrev pub AreFirstsAt : Net → Bool → List ℕ → Type 0
+AreFirstsAt net heads = AreFirsts (end_of net.links heads) (length net.links) (length net.nodes) 0
+
+-- for each link of a network the next one at the same node
+abbrev pub AreNextsAt : Net → Bool → List ℕ → Type 0
+AreNextsAt net heads = AreNexts (end_of net.links heads) (length net.links) 0

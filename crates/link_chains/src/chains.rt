@@ -1,8 +1,7 @@
 //! Chains of the links at one node, in rising order.
 ghost use Rattle.std.specs.Prelude.{◌≡◌, ◌<◌, IfOk, length};
-ghost use Rattle.link_chains.specs.Chains.{AreFirsts, AreNexts, end_of};
+ghost use Rattle.link_chains.specs.Chains.{AreFirstsAt, AreNextsAt, end_of};
 
-use crate::ends::{head, tail};
 use net_model::Net;
 use std::alloc::{AllocError, Global};
 
@@ -16,8 +15,8 @@ pub struct Chains {
 
 /// The chains of the links that lead into each node (`heads`), or of those that leave it.
 pub fn chains_of(alloc: Global, net: &Net, heads: bool) -> Result<Chains, AllocError>
-    ensures firsts { IfOk result (λ chains. AreFirsts (end_of net.now.links heads) (length net.now.links) (length net.now.nodes) 0 chains.firsts.items) }
-    ensures nexts { IfOk result (λ chains. AreNexts (end_of net.now.links heads) (length net.now.links) 0 chains.nexts.items) }
+    ensures firsts { IfOk result (λ chains. AreFirstsAt net.now heads chains.firsts.items) }
+    ensures nexts { IfOk result (λ chains. AreNextsAt net.now heads chains.nexts.items) }
 {
     let count = net.links.len() as u32;
     let mut firsts = vec![in alloc; count; net.nodes.len()]?;
@@ -37,8 +36,8 @@ fn end(net: &Net, heads: bool, link: u32) -> u32
     ensures below { result < length net.now.nodes }
 {
     if heads {
-        head(net, link)
+        net.head(link)
     } else {
-        tail(net, link)
+        net.tail(link)
     }
 }

@@ -2,9 +2,7 @@
 #![tactic(auto)]
 
 mod chains;
-mod ends;
 mod wiring;
 
 pub use chains::{Chains, chains_of};
-pub use ends::{head, tail};
 pub use wiring::{Wiring, wiring_of};

@@ -10,4 +10,5 @@ has names name = list_any (bytes_eq name) names
 -- names, and each of others that isn't among them, where it stands first
 abbrev pub distinct_from : List (List ℕ) → List (List ℕ) → List (List ℕ)
 distinct_from seen [] = seen
-distinct_from seen (name ∷ names) = distinct_from (if has seen name then seen else seen ++ name ∷ []) names
+distinct_from seen (name ∷ names) =
+    distinct_from (if has seen name then seen else seen ++ name ∷ []) names

@@ -27,12 +27,19 @@ with_spaces names = flat_map (λ name. 32 ∷ name) names
 abbrev pub on_lines : List (List ℕ) → List ℕ
 on_lines names = flat_map (λ name. name ++ 10 ∷ []) names
 
--- links, and the nodes of a side in rising order, each after a space
+-- links, each on a line of its own, and each after a space
+abbrev pub link_lines : Net → List ℕ → List ℕ
+link_lines net links = on_lines (map (link_name net) links)
+
 abbrev pub links_text : Net → List ℕ → List ℕ
 links_text net links = with_spaces (map (link_name net) links)
 
+-- the nodes of a side in rising order, and their names, each after a space
+abbrev pub nodes_on : Net → List Bool → List ℕ
+nodes_on net side = filter (is_on side) (range_with_len 0 (length net.nodes))
+
 abbrev pub side_text : Net → List Bool → List ℕ
-side_text net side = with_spaces (map (node_name net) (filter (is_on side) (range_with_len 0 (length net.nodes))))
+side_text net side = with_spaces (map (node_name net) (nodes_on net side))
 
 -- a demand: its sink and its pattern
 abbrev pub demand_text : Net → Demand → List ℕ

@@ -1,5 +1,6 @@
 //! The names of a network's nodes, links and patterns.
 ghost use Rattle.std.specs.Prelude.{◌≡◌, ◌<◌, ◌≤◌, length};
+ghost use Rattle.net_model.specs.Limits.{longest_name};
 ghost use Rattle.net_model.specs.Name.{IsName};
 ghost use Rattle.name_texts.specs.Names.{link_name, node_name, pattern_name, sink_name};
 
@@ -10,7 +11,7 @@ pub fn node_name(net: &Net, node: usize) -> &[u8]
     requires { node < length net.now.nodes }
     ensures value { result.now ≡ node_name net.now node }
     ensures valid { IsName result.now }
-    ensures short { length result.now ≤ 32 }
+    ensures short { length result.now ≤ longest_name }
 {
     net.nodes.at(node).bytes()
 }
@@ -19,7 +20,7 @@ pub fn node_name(net: &Net, node: usize) -> &[u8]
 pub fn link_name(net: &Net, link: u32) -> &[u8]
     requires { link < length net.now.links }
     ensures value { result.now ≡ link_name net.now link }
-    ensures short { length result.now ≤ 32 }
+    ensures short { length result.now ≤ longest_name }
 {
     net.links.at(link as usize).name.bytes()
 }
@@ -29,7 +30,7 @@ pub fn sink_name(net: &Net, sink: usize) -> &[u8]
     requires { sink < length net.now.sinks }
     ensures value { result.now ≡ sink_name net.now sink }
     ensures valid { IsName result.now }
-    ensures short { length result.now ≤ 32 }
+    ensures short { length result.now ≤ longest_name }
 {
     node_name(net, *net.sinks.at(sink) as usize)
 }
@@ -38,7 +39,7 @@ pub fn sink_name(net: &Net, sink: usize) -> &[u8]
 pub fn pattern_name(net: &Net, pattern: usize) -> &[u8]
     requires { pattern < length net.now.patterns }
     ensures value { result.now ≡ pattern_name net.now pattern }
-    ensures short { length result.now ≤ 32 }
+    ensures short { length result.now ≤ longest_name }
 {
     net.patterns.at(pattern).name.bytes()
 }

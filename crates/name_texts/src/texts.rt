@@ -1,6 +1,6 @@
 //! Texts of many names.
-ghost use Rattle.std.specs.Prelude.{◌≡◌, ◌<◌, ◌++◌, All, OnOk, length, map};
-ghost use Rattle.name_texts.specs.Names.{demand_text, link_name, links_text, on_lines, side_text};
+ghost use Rattle.std.specs.Prelude.{◌≡◌, ◌<◌, ◌++◌, All, OnOk, length};
+ghost use Rattle.name_texts.specs.Names.{demand_text, link_lines, links_text, side_text};
 
 use crate::names::{link_name, node_name, pattern_name, sink_name};
 use net_model::{Demand, Net};
@@ -12,7 +12,7 @@ pub const NAME_ROOM: usize = 33;
 /// Adds the names of links to a text, each on a line of its own.
 pub fn push_lines(text: &mut Vec<u8>, net: &Net, links: &[u32]) -> Result<(), AllocError>
     requires { All (λ link. link < length net.now.links) links.now }
-    ensures { OnOk result (text.new.items ≡ text.old.items ++ on_lines (map (link_name net.now) links.now)) }
+    ensures { OnOk result (text.new.items ≡ text.old.items ++ link_lines net.now links.now) }
 {
     for link in links {
         text.extend_from_slice(link_name(net, *link))?;

@@ -1,5 +1,6 @@
 pub mod ListLaws
 pub mod NetworkLaws
+pub mod EndLaws
 pub mod WalkLaws
 pub mod FlowLaws
 pub mod RenumberingLaws

@@ -2,6 +2,7 @@
 use Rattle.std.specs.Prelude.{ℕ, Bool, false, not, ◌<◌, ◌≤◌, ◌&&◌, ◌==◌, nat_lt, nat_eq, IsTrue, List, [], ◌∷◌, length, map, codes}
 use Rattle.std.specs.List.{list_all}
 use Rattle.std.specs.Str.{bytes_eq}
+use Rattle.net_model.specs.Limits.{most_links, most_nodes, most_patterns}
 use Rattle.net_model.specs.Lists.{are_distinct, is_rising}
 use Rattle.net_model.specs.Name.{is_name}
 use Rattle.net_model.specs.declared.Link.{Link}
@@ -40,6 +41,6 @@ pub record IsNetwork (nodes : List (List ℕ)) (links : List Link) (source : ℕ
   pub distinct_sinks : IsTrue (are_distinct nat_eq sinks)
   pub pattern_names : IsTrue (are_names (map (λ pattern. pattern.name) patterns))
   pub pattern_links : IsTrue (are_patterns (length links) patterns)
-  pub few_nodes : length nodes ≤ 4096
-  pub few_links : length links ≤ 8192
-  pub few_patterns : length patterns ≤ 4096
+  pub few_nodes : length nodes ≤ most_nodes
+  pub few_links : length links ≤ most_links
+  pub few_patterns : length patterns ≤ most_patterns

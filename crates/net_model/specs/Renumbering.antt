@@ -5,6 +5,8 @@ use Rattle.net_model.specs.Flows.{FlowNetwork}
 use Rattle.net_model.specs.Lists.{are_distinct, is_among}
 use Rattle.net_model.specs.declared.Link.{Link}
 use Rattle.net_model.specs.declared.Pattern.{Pattern}
+use Rattle.net_model.specs.declared.net.FieldChoice.{FieldChoice}
+use Rattle.net_model.specs.declared.net.Net.{Net}
 
 -- each number below a bound stands in the list once
 pub record HasEachOnce (bound : ℕ) (order : List ℕ) : Type 0 where
@@ -41,6 +43,15 @@ renumbered_network network order =
       sink = network.sink;
       failed = renumbered_set order network.failed;
     }
+
+-- a network with its links in a new order, and this field named; all else is as it was
+pub record IsRenumbered (order : List ℕ) (choice : FieldChoice) (old new : Net) : Type 0 where
+  pub nodes : new.nodes ≡ old.nodes
+  pub links : new.links ≡ renumbered_links old.links order
+  pub source : new.source ≡ old.source
+  pub sinks : new.sinks ≡ old.sinks
+  pub patterns : new.patterns ≡ map (renumbered_pattern order) old.patterns
+  pub field : new.field ≡ choice
 
 -- no link has a mark
 pub record AreUnmarked (marks : List Bool) : Type 0 where

@@ -1,7 +1,8 @@
--- Links that follow one another: walks and cycles.
-use Rattle.std.specs.Prelude.{◌≡◌, ◌<◌, ◌-◌, ℕ, List, [], ◌∷◌, length, slice_get, slice_index}
+-- The ends of links, and links that follow one another: walks and cycles.
+use Rattle.std.specs.Prelude.{◌≡◌, ◌<◌, ◌-◌, ◌==◌, ℕ, Bool, false, List, [], ◌∷◌, length, slice_get, slice_index}
 use Rattle.std.specs.Option.{option_map_or}
 use Rattle.net_model.specs.declared.Link.{Link}
+use Rattle.net_model.specs.declared.net.Net.{Net}
 
 -- the node that the link of a number leaves, and the one that it leads into
 abbrev pub tail_of : List Link → ℕ → ℕ
@@ -9,6 +10,10 @@ tail_of links link = option_map_or (λ l. l.tail) (slice_get links link) 0
 
 abbrev pub head_of : List Link → ℕ → ℕ
 head_of links link = option_map_or (λ l. l.head) (slice_get links link) 0
+
+-- whether a link leaves the source
+abbrev pub leaves_source : Net → ℕ → Bool
+leaves_source net link = option_map_or (λ l. l.tail == net.source) (slice_get net.links link) false
 
 -- links of the network, by their numbers, each of which starts at the head of the one before
 abbrev pub IsWalk : List Link → List ℕ → Type 0

@@ -1,12 +1,14 @@
 //! Networks: named nodes and links, a source, sinks, and patterns of links that fail together.
 #![tactic(auto)]
 
+mod limits;
 mod lists;
 mod name;
 mod net;
 mod renumbering;
 mod sharing;
 
+pub use limits::{LONGEST_NAME, MOST_LINKS, MOST_NODES, MOST_PATTERNS};
 pub use lists::{LinkList, LinkTable, NameList, NodeList, Paths, PatternList, Side};
 pub use name::{Name, NameFault, is_name};
 pub use net::{FieldChoice, Net};

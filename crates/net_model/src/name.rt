@@ -3,11 +3,9 @@ ghost use Rattle.std.specs.Prelude.{◌≡◌, ◌↔◌, IfOk, IsErrOf};
 ghost use Rattle.std.specs.List.{list_all};
 ghost use Rattle.net_model.specs.Name.{IsName, is_name, is_name_byte};
 
+use crate::LONGEST_NAME;
 use std::alloc::{AllocError, Global};
 use std::marker::Model;
-
-/// The greatest length of a name, in bytes.
-const LONGEST: usize = 32;
 
 /// 1 to 32 bytes, each a letter of ASCII, a digit, `_`, `-` or `.`.
 #[derive(Drop)]
@@ -73,7 +71,7 @@ impl Name {
 pub fn is_name(bytes: &[u8]) -> bool
     ensures { result ≡ is_name bytes.now }
 {
-    (1..=LONGEST).contains(&bytes.len()) && are_name_bytes(bytes)
+    (1..=LONGEST_NAME).contains(&bytes.len()) && are_name_bytes(bytes)
 }
 
 fn are_name_bytes(bytes: &[u8]) -> bool

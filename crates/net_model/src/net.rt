@@ -32,9 +32,10 @@ pub struct Net {
 }
 
 impl Net {
-    ghost use Rattle.std.specs.Prelude.{◌≡◌, ◌<◌, IfOk, length, map};
+    ghost use Rattle.std.specs.Prelude.{◌≡◌, ◌<◌, IfOk, length};
     ghost use Rattle.net_model.specs.Failed.{is_failed_in};
-    ghost use Rattle.net_model.specs.Renumbering.{HasEachOnce, renumbered_links, renumbered_pattern};
+    ghost use Rattle.net_model.specs.Renumbering.{HasEachOnce, IsRenumbered};
+    ghost use Rattle.net_model.specs.Walks.{head_of, leaves_source, tail_of};
 
     /// The network of these parts. It takes no memory.
     pub fn of(
@@ -63,6 +64,32 @@ impl Net {
         }
     }
 
+    /// The node that a link leaves.
+    pub fn tail(&self, link: u32) -> u32
+        requires { link < length self.now.links }
+        ensures value { result ≡ tail_of self.now.links link }
+        ensures below { result < length self.now.nodes }
+    {
+        self.links.at(link as usize).tail
+    }
+
+    /// The node that a link leads into.
+    pub fn head(&self, link: u32) -> u32
+        requires { link < length self.now.links }
+        ensures value { result ≡ head_of self.now.links link }
+        ensures below { result < length self.now.nodes }
+    {
+        self.links.at(link as usize).head
+    }
+
+    /// Whether a link leaves the source.
+    pub fn leaves_source(&self, link: u32) -> bool
+        requires { link < length self.now.links }
+        ensures { result ≡ leaves_source self.now link }
+    {
+        self.links.at(link as usize).tail == self.source
+    }
+
     /// Whether a link fails in a pattern.
     pub fn is_failed(&self, pattern: u32, link: u32) -> bool
         requires pattern { pattern < length self.now.patterns }
@@ -82,12 +109,7 @@ impl Net {
         field: FieldChoice,
     ) -> Result<Net, AllocError>
         requires { HasEachOnce (length self.now.links) order.now }
-        ensures nodes { IfOk result (λ net. net.nodes ≡ self.now.nodes) }
-        ensures links { IfOk result (λ net. net.links ≡ renumbered_links self.now.links order.now) }
-        ensures source { IfOk result (λ net. net.source ≡ self.now.source) }
-        ensures sinks { IfOk result (λ net. net.sinks ≡ self.now.sinks) }
-        ensures patterns { IfOk result (λ net. net.patterns ≡ map (renumbered_pattern order.now) self.now.patterns) }
-        ensures field { IfOk result (λ net. net.field ≡ field) }
+        ensures { IfOk result (IsRenumbered order.now field self.now) }
     {
         renumbered(alloc, self, order, field)
     }

@@ -1,10 +1,9 @@
 //! Networks whose links have new numbers.
 ghost use Rattle.std.specs.Prelude.{◌≡◌, ◌≤◌, IsTrue, IfOk, OnOk, false, filter, length, map, nat_lt, slice_index, slice_index_or};
 ghost use Rattle.std.specs.List.{list_all, range_with_len};
+ghost use Rattle.net_model.specs.Limits.{most_links};
 ghost use Rattle.net_model.specs.Network.{are_patterns};
-ghost use Rattle.net_model.specs.Renumbering.{HasEachOnce, renumbered_links, renumbered_pattern};
-ghost use Rattle.net_model.specs.Renumbering.{AreUnmarked};
-ghost use Rattle.net_model.specs.Renumbering.{AreMarked};
+ghost use Rattle.net_model.specs.Renumbering.{AreMarked, AreUnmarked, HasEachOnce, IsRenumbered, renumbered_links, renumbered_pattern};
 
 use crate::{
     FieldChoice, Link, LinkList, LinkTable, Name, NameList, Net, NodeList, Pattern, PatternList,
@@ -20,12 +19,7 @@ pub(crate) fn renumbered(
     field: FieldChoice,
 ) -> Result<Net, AllocError>
     requires { HasEachOnce (length net.now.links) order.now }
-    ensures nodes { IfOk result (λ new. new.nodes ≡ net.now.nodes) }
-    ensures links { IfOk result (λ new. new.links ≡ renumbered_links net.now.links order.now) }
-    ensures source { IfOk result (λ new. new.source ≡ net.now.source) }
-    ensures sinks { IfOk result (λ new. new.sinks ≡ net.now.sinks) }
-    ensures patterns { IfOk result (λ new. new.patterns ≡ map (renumbered_pattern order.now) net.now.patterns) }
-    ensures field { IfOk result (λ new. new.field ≡ field) }
+    ensures { IfOk result (IsRenumbered order.now field net.now) }
 {
     let nodes = copied_names(alloc, net.nodes.as_slice())?;
     let links = ordered_links(alloc, net.links.as_slice(), order)?;
@@ -87,7 +81,7 @@ fn marked_places(
     count: usize,
 ) -> Result<LinkList, AllocError>
     requires order { HasEachOnce (length marks.now) order.now }
-    requires few { length marks.now ≤ 8192 }
+    requires few { length marks.now ≤ most_links }
     ensures { IfOk result (λ places. places ≡ filter (λ new. slice_index_or marks.now (slice_index order.now new) false) (range_with_len 0 (length order.now))) }
 {
     let mut places = Vec::with_capacity(alloc, count)?;
@@ -107,7 +101,7 @@ fn renumbered_pattern(
     marks: &mut [bool],
 ) -> Result<Pattern, AllocError>
     requires order { HasEachOnce (length marks.old) order.now }
-    requires few { length marks.old ≤ 8192 }
+    requires few { length marks.old ≤ most_links }
     requires links { IsTrue (list_all (λ link. nat_lt link (length marks.old)) pattern.now.links) }
     requires unmarked { AreUnmarked marks.old }
     ensures pattern { IfOk result (λ new. new ≡ renumbered_pattern order.now pattern.now) }
@@ -131,7 +125,7 @@ fn renumbered_patterns(
     order: &[u32],
 ) -> Result<PatternList, AllocError>
     requires order { HasEachOnce (length order.now) order.now }
-    requires few { length order.now ≤ 8192 }
+    requires few { length order.now ≤ most_links }
     requires patterns { IsTrue (are_patterns (length order.now) patterns.now) }
     ensures { IfOk result (λ new. new ≡ map (renumbered_pattern order.now) patterns.now) }
 {

@@ -5,7 +5,7 @@ use Rattle.std.proofs.lemmas.List.{append-nil}
 use Rattle.std.proofs.lemmas.List.Elements.{filter-append}
 use Rattle.std.proofs.lemmas.List.FromFn.{map-range_with_len_more}
 use Rattle.net_reader.specs.Marks.{AreMarks}
-use Rattle.net_reader.specs.Parts.{failed_in}
+use Rattle.net_reader.specs.Text.{numbers_of}
 use Rattle.name_index.specs.Seen.{has}
 
 same_map : (l : List ℕ) → map (λ n. n) l ≡ l
@@ -32,7 +32,7 @@ filter_same p q (suc n) same =
     let P : ℕ → Type 0 = λ k. filter p (range_with_len 0 k) ≡ filter q (range_with_len 0 k) in
     subst P (add-one n) (filter_range_more p n (q n) here ∙ ap (λ (l : List ℕ). if q n then l ++ n ∷ [] else l) before ∙ sym (filter_range_more q n (q n) refl))
 
-pub failed_marked : (links names : List (List ℕ)) (marks : List Bool) → AreMarks links names marks → filter (λ link. slice_index_or marks link false) (range_with_len 0 (length marks)) ≡ failed_in links names
+pub failed_marked : (links names : List (List ℕ)) (marks : List Bool) → AreMarks links names marks → filter (λ link. slice_index_or marks link false) (range_with_len 0 (length marks)) ≡ numbers_of links names
 failed_marked links names marks told =
     ap (λ (n : ℕ). filter (λ link. slice_index_or marks link false) (range_with_len 0 n)) told.size
     ∙ filter_same (λ link. slice_index_or marks link false) (λ link. has names (slice_index_or links link [])) (length links) told.each

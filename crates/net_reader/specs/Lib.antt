@@ -1,8 +1,11 @@
+pub mod Added
 pub mod Gives
 pub mod Lines
 pub mod Marks
 pub mod Parts
+pub mod RefusalNames
 pub mod Said
 pub mod State
 pub mod Statements
 pub mod Text
+pub mod Words

@@ -8,9 +8,13 @@ without_empty_end [] = []
 without_empty_end (piece ∷ []) = if length piece == 0 then [] else piece ∷ []
 without_empty_end (piece ∷ next ∷ pieces) = piece ∷ without_empty_end (next ∷ pieces)
 
--- a text cut at each line feed; a last piece that is empty is no line
+-- a text cut at each line feed
+abbrev pub pieces_of : List ℕ → List (List ℕ)
+pieces_of text = slice_split (λ byte. byte == 10) text
+
+-- its lines: a last piece that is empty is none
 abbrev pub lines_of : List ℕ → List (List ℕ)
-lines_of text = without_empty_end (slice_split (λ byte. byte == 10) text)
+lines_of text = without_empty_end (pieces_of text)
 
 -- a line without a carriage return at its end
 abbrev pub without_return : List ℕ → List ℕ
@@ -26,6 +30,10 @@ content_of line = take_while (λ byte. not (byte == 35)) (without_return line)
 abbrev pub is_text : ℕ → Bool
 is_text byte = (byte == 9) || (nat_le 32 byte && nat_le byte 126)
 
+-- a space or a tab
+abbrev pub is_blank : ℕ → Bool
+is_blank byte = (byte == 32) || (byte == 9)
+
 -- the words between spaces and tabs
 abbrev pub words_of : List ℕ → List (List ℕ)
-words_of content = filter (λ word. nat_lt 0 (length word)) (slice_split (λ byte. (byte == 32) || (byte == 9)) content)
+words_of content = filter (λ word. nat_lt 0 (length word)) (slice_split is_blank content)

@@ -20,7 +20,10 @@ pub data Statement : Type 0 where
 
 -- the statement of a first word and the words after it
 abbrev pub field_of : List (List ℕ) → Option Statement
-field_of (bits ∷ []) = if bytes_eq bits (codes "8") then Some (field_is 8) else if bytes_eq bits (codes "16") then Some (field_is 16) else None
+field_of (bits ∷ []) =
+    if bytes_eq bits (codes "8") then Some (field_is 8)
+    else if bytes_eq bits (codes "16") then Some (field_is 16)
+    else None
 field_of words = None
 
 abbrev pub source_of : List (List ℕ) → Option Statement
@@ -98,36 +101,58 @@ nodes_of statements = distinct_from [] (flat_map nodes_in statements)
 abbrev pub too_many_nodes : List Statement → Statement → Bool
 too_many_nodes earlier statement = nat_lt 4096 (length (nodes_of (earlier ++ statement ∷ [])))
 
--- what is wrong with a statement in view of the earlier ones, in the order in which it is looked for
-abbrev pub faults_of : List Statement → ℕ → Statement → List (Bool × ReadRefusal)
-faults_of earlier line (field_is bits) = (nat_lt 0 (length (field_bits earlier)), SecondField line) ∷ []
+-- whether a fault is there, and the refusal that it is
+abbrev pub Fault : Type 0
+Fault = Bool × ReadRefusal
+
+-- What is wrong with a statement in view of the earlier ones, in the order in which it is looked
+-- for.
+abbrev pub faults_of : List Statement → ℕ → Statement → List Fault
+faults_of earlier line (field_is bits) =
+    (nat_lt 0 (length (field_bits earlier)), SecondField line) ∷ []
 faults_of earlier line (source_is node) =
-    (not (is_name node), BadName line) ∷ (nat_lt 0 (length (source_names earlier)), SecondSource line) ∷ (too_many_nodes earlier (source_is node), TooMany line Nodes) ∷ []
+    (not (is_name node), BadName line)
+    ∷ (nat_lt 0 (length (source_names earlier)), SecondSource line)
+    ∷ (too_many_nodes earlier (source_is node), TooMany line Nodes) ∷ []
 faults_of earlier line (sink_is node) =
-    (not (is_name node), BadName line) ∷ (has (sink_names earlier) node, DuplicateSink line) ∷ (too_many_nodes earlier (sink_is node), TooMany line Nodes) ∷ []
+    (not (is_name node), BadName line)
+    ∷ (has (sink_names earlier) node, DuplicateSink line)
+    ∷ (too_many_nodes earlier (sink_is node), TooMany line Nodes) ∷ []
 faults_of earlier line (link_is name tail head) =
-    (not (list_all is_name (name ∷ tail ∷ head ∷ [])), BadName line) ∷ (has (link_names earlier) name, DuplicateLink line) ∷ (bytes_eq tail head, SelfLoop line)
-    ∷ (too_many_nodes earlier (link_is name tail head), TooMany line Nodes) ∷ (nat_lt 8191 (length (link_names earlier)), TooMany line Links) ∷ []
+    (not (list_all is_name (name ∷ tail ∷ head ∷ [])), BadName line)
+    ∷ (has (link_names earlier) name, DuplicateLink line)
+    ∷ (bytes_eq tail head, SelfLoop line)
+    ∷ (too_many_nodes earlier (link_is name tail head), TooMany line Nodes)
+    ∷ (nat_lt 8191 (length (link_names earlier)), TooMany line Links) ∷ []
 faults_of earlier line (pattern_is name links) =
-    (not (list_all is_name (name ∷ links)), BadName line) ∷ (bytes_eq name (codes "none") || has (pattern_names earlier) name, DuplicatePattern line)
-    ∷ (not (list_all (has (link_names earlier)) links), UnknownLink line) ∷ (not (are_distinct bytes_eq links), RepeatedLink line)
+    (not (list_all is_name (name ∷ links)), BadName line)
+    ∷ (bytes_eq name (codes "none") || has (pattern_names earlier) name, DuplicatePattern line)
+    ∷ (not (list_all (has (link_names earlier)) links), UnknownLink line)
+    ∷ (not (are_distinct bytes_eq links), RepeatedLink line)
     ∷ (nat_lt 4094 (length (pattern_names earlier)), TooMany line Patterns) ∷ []
 
+-- what lines say, or the refusal
+abbrev pub Heard : Type 0
+Heard = Result (List Statement) ReadRefusal
+
 -- the first fault that is there
-abbrev pub refused_first : List (Bool × ReadRefusal) → Statement → Result (List Statement) ReadRefusal
+abbrev pub refused_first : List Fault → Statement → Heard
 refused_first [] statement = Ok (statement ∷ [])
-refused_first (fault ∷ faults) statement = if fault.0 then Err fault.1 else refused_first faults statement
+refused_first (fault ∷ faults) statement =
+    if fault.0 then Err fault.1 else refused_first faults statement
 
 -- what words say: nothing where there are none
-abbrev pub read_words : List Statement → ℕ → List (List ℕ) → Result (List Statement) ReadRefusal
+abbrev pub read_words : List Statement → ℕ → List (List ℕ) → Heard
 read_words earlier line [] = Ok []
 read_words earlier line (first ∷ words) = read_statement (statement_of first words)
   where
-    read_statement : Option Statement → Result (List Statement) ReadRefusal
+    read_statement : Option Statement → Heard
     read_statement None = Err (BadLine line)
     read_statement (Some statement) = refused_first (faults_of earlier line statement) statement
 
 -- what a line says
-abbrev pub read_line : List Statement → ℕ → List ℕ → Result (List Statement) ReadRefusal
+abbrev pub read_line : List Statement → ℕ → List ℕ → Heard
 read_line earlier line bytes =
-    if list_all is_text (content_of bytes) then read_words earlier line (words_of (content_of bytes)) else Err (BadByte line)
+    let content = content_of bytes in
+    if list_all is_text content then read_words earlier line (words_of content)
+    else Err (BadByte line)

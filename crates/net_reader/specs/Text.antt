@@ -9,7 +9,7 @@ use Rattle.net_model.specs.declared.net.FieldChoice.TheVariants as choice
 use Rattle.net_model.specs.declared.net.Net.{Net}
 use Rattle.net_reader.specs.Lines.{lines_of}
 use Rattle.name_index.specs.Seen.{has}
-use Rattle.net_reader.specs.Statements.{Statement, link_is, pattern_is, field_bits, link_names, nodes_of, read_line, sink_names, source_names}
+use Rattle.net_reader.specs.Statements.{Statement, Heard, link_is, pattern_is, field_bits, link_names, nodes_of, read_line, sink_names, source_names}
 use Rattle.net_reader.specs.declared.refusal.ReadRefusal.{ReadRefusal}
 use Rattle.net_reader.specs.declared.refusal.ReadRefusal.TheVariants.{NoSource, NoSink, SinkIsSource}
 
@@ -18,14 +18,16 @@ abbrev pub net_limit : ℕ
 net_limit = 4194304
 
 -- what is done with what was said, if it was good
-abbrev pub and_then : Result (List Statement) ReadRefusal → (List Statement → Result (List Statement) ReadRefusal) → Result (List Statement) ReadRefusal
+abbrev pub and_then : Heard → (List Statement → Heard) → Heard
 and_then (Err refusal) next = Err refusal
 and_then (Ok statements) next = next statements
 
 -- what lines say, from the line of a number on, or the refusal of the first that isn't good
-abbrev pub read_lines : List Statement → ℕ → List (List ℕ) → Result (List Statement) ReadRefusal
+abbrev pub read_lines : List Statement → ℕ → List (List ℕ) → Heard
 read_lines earlier number [] = Ok earlier
-read_lines earlier number (line ∷ lines) = and_then (read_line earlier number line) (λ statements. read_lines (earlier ++ statements) (number + 1) lines)
+read_lines earlier number (line ∷ lines) =
+    and_then (read_line earlier number line) (λ statements.
+    read_lines (earlier ++ statements) (number + 1) lines)
 
 -- the number of a name among names
 abbrev pub number_in : List (List ℕ) → List ℕ → ℕ
@@ -35,14 +37,21 @@ number_in names name = unwrap_or (position (bytes_eq name) names) 0
 abbrev pub links_of : List (List ℕ) → List Statement → List Link
 links_of nodes [] = []
 links_of nodes (link_is name tail head ∷ statements) =
-    record { name = name; tail = number_in nodes tail; head = number_in nodes head } ∷ links_of nodes statements
+    let tail = number_in nodes tail in
+    let head = number_in nodes head in
+    record { name = name; tail = tail; head = head } ∷ links_of nodes statements
 links_of nodes (statement ∷ statements) = links_of nodes statements
 
--- the listed patterns of statements, in the order of their lines, each with its links in rising order
+-- the numbers of the links that are named, in rising order
+abbrev pub numbers_of : List (List ℕ) → List (List ℕ) → List ℕ
+numbers_of names links =
+    filter (λ link. has links (slice_index_or names link [])) (range_with_len 0 (length names))
+
+-- the listed patterns of statements, in the order of their lines
 abbrev pub patterns_of : List (List ℕ) → List Statement → List Pattern
 patterns_of names [] = []
 patterns_of names (pattern_is name links ∷ statements) =
-    record { name = name; links = filter (λ link. has links (slice_index_or names link [])) (range_with_len 0 (length names)) } ∷ patterns_of names statements
+    record { name = name; links = numbers_of names links } ∷ patterns_of names statements
 patterns_of names (statement ∷ statements) = patterns_of names statements
 
 -- the field that is written, if one is
@@ -60,7 +69,19 @@ pub record Parts : Type 0 where
   pub field : FieldChoice
 
 abbrev pub parts_of : Net → Parts
-parts_of net = record { nodes = net.nodes; links = net.links; source = net.source; sinks = net.sinks; patterns = net.patterns; field = net.field }
+parts_of net = record {
+  nodes = net.nodes;
+  links = net.links;
+  source = net.source;
+  sinks = net.sinks;
+  patterns = net.patterns;
+  field = net.field;
+}
+
+-- the pattern without links and those of statements
+abbrev pub pattern_table : List (List ℕ) → List Statement → List Pattern
+pattern_table names statements =
+    record { name = codes "none"; links = [] } ∷ patterns_of names statements
 
 -- the parts that statements with this source stand for
 abbrev pub parts_in : List Statement → List ℕ → Parts
@@ -69,7 +90,7 @@ parts_in statements source = record {
   links = links_of (nodes_of statements) statements;
   source = number_in (nodes_of statements) source;
   sinks = map (number_in (nodes_of statements)) (sink_names statements);
-  patterns = record { name = codes "none"; links = [] } ∷ patterns_of (link_names statements) statements;
+  patterns = pattern_table (link_names statements) statements;
   field = choice_in (field_bits statements);
 }
 
@@ -78,18 +99,23 @@ abbrev pub whole_of : List Statement → List (List ℕ) → List (List ℕ) →
 whole_of statements [] sinks = Err NoSource
 whole_of statements (source ∷ more) [] = Err NoSink
 whole_of statements (source ∷ more) (sink ∷ sinks) =
-    if has (sink ∷ sinks) source then Err (SinkIsSource (number_in (nodes_of statements) source)) else Ok (parts_in statements source)
+    if has (sink ∷ sinks) source
+    then Err (SinkIsSource (number_in (nodes_of statements) source))
+    else Ok (parts_in statements source)
 
-abbrev pub whole_in : Result (List Statement) ReadRefusal → Result Parts ReadRefusal
+abbrev pub whole_said : List Statement → Result Parts ReadRefusal
+whole_said statements = whole_of statements (source_names statements) (sink_names statements)
+
+abbrev pub whole_in : Heard → Result Parts ReadRefusal
 whole_in (Err refusal) = Err refusal
-whole_in (Ok statements) = whole_of statements (source_names statements) (sink_names statements)
+whole_in (Ok statements) = whole_said statements
 
 -- the network that a text stands for, by its parts, or why there is none
 abbrev pub network_of : List ℕ → Result Parts ReadRefusal
 network_of text = whole_in (read_lines [] 1 (lines_of text))
 
 -- the nodes of what was read, none where a line isn't good
-abbrev pub names_read : Result (List Statement) ReadRefusal → List (List ℕ)
+abbrev pub names_read : Heard → List (List ℕ)
 names_read (Err refusal) = []
 names_read (Ok statements) = nodes_of statements
 

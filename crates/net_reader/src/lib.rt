@@ -14,4 +14,4 @@ mod whole;
 
 pub use node_names::node_name;
 pub use refusal::{ReadRefusal, What};
-pub use whole::read_net;
+pub use whole::{NET_LIMIT, read_net};

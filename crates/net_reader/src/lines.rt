@@ -1,20 +1,21 @@
 //! The lines of a text, and their words.
 ghost use Rattle.std.specs.Prelude.{◌≡◌, ◌==◌, ◌||◌, not, IfOk, map};
 ghost use Rattle.std.specs.List.{list_all, prefix_len, slice_split};
-ghost use Rattle.net_reader.specs.Lines.{lines_of, without_return, content_of, is_text, words_of};
+ghost use Rattle.net_reader.specs.Lines.{pieces_of, lines_of, without_return, content_of, is_text, words_of};
+ghost use Rattle.net_reader.specs.Words.{texts_of};
 
 use std::alloc::{AllocError, Global};
 
 // A text cut at each line feed.
 fn pieces_of<'a>(alloc: Global, text: &'a [u8]) -> Result<Vec<&'a [u8]>, AllocError>
-    ensures { IfOk result (λ pieces. map (λ piece. piece.now) pieces.items ≡ slice_split (λ byte. byte == 10) text.now) }
+    ensures { IfOk result (λ pieces. texts_of pieces.items ≡ pieces_of text.now) }
 {
     text.split(|byte| *byte == b'\n').collect(alloc)
 }
 
 /// The lines of a text: a last one that is empty is none.
 pub(crate) fn lines_of<'a>(alloc: Global, text: &'a [u8]) -> Result<Vec<&'a [u8]>, AllocError>
-    ensures { IfOk result (λ lines. map (λ line. line.now) lines.items ≡ lines_of text.now) }
+    ensures { IfOk result (λ lines. texts_of lines.items ≡ lines_of text.now) }
 {
     let mut lines = pieces_of(alloc, text)?;
     let Some(last) = lines.pop() else {
@@ -72,7 +73,7 @@ fn is_text(byte: u8) -> bool
 
 /// The words between spaces and tabs.
 pub(crate) fn words_of<'a>(alloc: Global, content: &'a [u8]) -> Result<Vec<&'a [u8]>, AllocError>
-    ensures { IfOk result (λ words. map (λ word. word.now) words.items ≡ words_of content.now) }
+    ensures { IfOk result (λ words. texts_of words.items ≡ words_of content.now) }
 {
     content
         .split(|byte| *byte == b' ' || *byte == b'\t')

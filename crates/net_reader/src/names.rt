@@ -5,6 +5,7 @@ ghost use Rattle.std.specs.Str.{bytes_eq};
 ghost use Rattle.name_index.specs.Seen.{has};
 ghost use Rattle.net_model.specs.Name.{is_name};
 ghost use Rattle.net_model.specs.Lists.{are_distinct};
+ghost use Rattle.net_reader.specs.Words.{texts_of};
 
 use name_index::Names;
 use net_model::is_name;
@@ -12,21 +13,21 @@ use std::alloc::{AllocError, Global};
 
 /// Whether all words are names.
 pub(crate) fn are_names(words: &[&[u8]]) -> bool
-    ensures { result ≡ list_all is_name (map (λ word. word.now) words.now) }
+    ensures { result ≡ list_all is_name (texts_of words.now) }
 {
     words.iter().all(|word| is_name(word))
 }
 
 /// Whether all words are among the names.
 pub(crate) fn has_all(names: &Names, words: &[&[u8]]) -> bool
-    ensures { result ≡ list_all (has names.now) (map (λ word. word.now) words.now) }
+    ensures { result ≡ list_all (has names.now) (texts_of words.now) }
 {
     words.iter().all(|word| names.has(word))
 }
 
 /// Whether no word stands twice.
 pub(crate) fn are_distinct(alloc: Global, words: &[&[u8]]) -> Result<bool, AllocError>
-    ensures { IfOk result (λ distinct. distinct ≡ are_distinct bytes_eq (map (λ word. word.now) words.now)) }
+    ensures { IfOk result (λ distinct. distinct ≡ are_distinct bytes_eq (texts_of words.now)) }
 {
     let mut seen = Names::new(alloc);
     for word in words {

@@ -1,11 +1,13 @@
 //! The parts of a network, from statements.
-ghost use Rattle.std.specs.Prelude.{◌≡◌, ℕ, List, ◌≤◌, ◌++◌, ◌∷◌, [], false, codes, length, filter, if◌then◌else◌, map, option_to_list, slice_index_or, OnOk, IfOk, IfErr, OnErr};
-ghost use Rattle.std.specs.List.{range_with_len, IsDistinct};
+ghost use Rattle.std.specs.Prelude.{◌≡◌, ◌≤◌, length, map, option_to_list, OnOk, IfOk, IsOkUnless};
+ghost use Rattle.std.specs.List.{IsDistinct};
 ghost use Rattle.std.specs.Str.{bytes_eq};
-ghost use Rattle.net_reader.specs.Marks.{AreMarks};
-ghost use Rattle.net_reader.specs.Parts.{failed_in};
+ghost use Rattle.net_reader.specs.Marks.{AreMarks, AddsMark, marked_in};
+ghost use Rattle.net_reader.specs.Added.{AddsIf, AddsLink, AddsPattern};
 ghost use Rattle.net_reader.specs.Said.{statement_in};
-ghost use Rattle.net_reader.specs.Text.{choice_in, links_of, number_in, patterns_of};
+ghost use Rattle.net_reader.specs.Text.{pattern_table, choice_in, numbers_of, links_of, number_in};
+ghost use Rattle.net_reader.specs.declared.refusal.ReadRefusal.TheVariants.{OutOfMemory};
+ghost use Rattle.net_reader.specs.Words.{texts_of};
 
 use crate::ReadRefusal;
 use crate::state::NONE;
@@ -30,7 +32,7 @@ pub(crate) struct Parts {
 // The name of these bytes.
 fn name_of(alloc: Global, bytes: &[u8]) -> Result<Name, ReadRefusal>
     ensures gives { IfOk result (λ name. name ≡ bytes.now) }
-    ensures refused { IfErr result (λ why. why ≡ ReadRefusal.OutOfMemory) }
+    ensures refused { IsOkUnless result OutOfMemory }
 {
     match Name::of(alloc, bytes) {
         Ok(name) => Ok(name),
@@ -40,8 +42,8 @@ fn name_of(alloc: Global, bytes: &[u8]) -> Result<Name, ReadRefusal>
 
 /// The names of words.
 pub(crate) fn name_list(alloc: Global, words: &[&[u8]]) -> Result<NameList, ReadRefusal>
-    ensures gives { IfOk result (λ names. names ≡ map (λ word. word.now) words.now) }
-    ensures refused { IfErr result (λ why. why ≡ ReadRefusal.OutOfMemory) }
+    ensures gives { IfOk result (λ names. names ≡ texts_of words.now) }
+    ensures refused { IsOkUnless result OutOfMemory }
 {
     let mut names = Vec::new(alloc);
     for word in words {
@@ -69,8 +71,8 @@ pub(crate) fn sink_list(
     sinks: &[&[u8]],
 ) -> Result<NodeList, ReadRefusal>
     requires { length nodes.now ≤ 4096 }
-    ensures gives { IfOk result (λ list. list ≡ map (number_in nodes.now) (map (λ sink. sink.now) sinks.now)) }
-    ensures refused { IfErr result (λ why. why ≡ ReadRefusal.OutOfMemory) }
+    ensures gives { IfOk result (λ list. list ≡ map (number_in nodes.now) (texts_of sinks.now)) }
+    ensures refused { IsOkUnless result OutOfMemory }
 {
     let mut list = Vec::new(alloc);
     for sink in sinks {
@@ -87,8 +89,8 @@ fn add_link(
     said: &Said,
 ) -> Result<(), ReadRefusal>
     requires { length nodes.now ≤ 4096 }
-    ensures gives { OnOk result (links.new.items ≡ links.old.items ++ links_of nodes.now (statement_in said.now ∷ [])) }
-    ensures refused { IfErr result (λ why. why ≡ ReadRefusal.OutOfMemory) }
+    ensures gives { AddsLink result nodes.now links.old links.new (statement_in said.now) }
+    ensures refused { IsOkUnless result OutOfMemory }
 {
     match said {
         Said::Field(_) => Ok(()),
@@ -113,7 +115,7 @@ pub(crate) fn link_table(
 ) -> Result<LinkTable, ReadRefusal>
     requires { length nodes.now ≤ 4096 }
     ensures gives { IfOk result (λ links. links ≡ links_of nodes.now (map statement_in said.now)) }
-    ensures refused { IfErr result (λ why. why ≡ ReadRefusal.OutOfMemory) }
+    ensures refused { IsOkUnless result OutOfMemory }
 {
     let mut links = Vec::new(alloc);
     for one in said {
@@ -124,8 +126,8 @@ pub(crate) fn link_table(
 
 // Adds a number to a list, or not.
 fn push_if(list: &mut Vec<u32>, number: u32, is_there: bool) -> Result<(), ReadRefusal>
-    ensures gives { OnOk result (list.new.items ≡ (if is_there then list.old.items ++ number ∷ [] else list.old.items)) }
-    ensures refused { IfErr result (λ why. why ≡ ReadRefusal.OutOfMemory) }
+    ensures gives { OnOk result (AddsIf is_there list.old list.new number) }
+    ensures refused { IsOkUnless result OutOfMemory }
 {
     if is_there {
         list.push(number)?;
@@ -137,7 +139,7 @@ fn push_if(list: &mut Vec<u32>, number: u32, is_there: bool) -> Result<(), ReadR
 fn mark(links: &Names, marks: &mut Vec<bool>, word: &[u8])
     requires distinct { IsDistinct bytes_eq links.now }
     requires size { length marks.old.items ≡ length links.now }
-    ensures { (words : List (List ℕ)) → AreMarks links.now words marks.old.items → AreMarks links.now (words ++ word.now ∷ []) marks.new.items }
+    ensures { AddsMark links.now marks.old.items marks.new.items word.now }
 {
     let Some(number) = links.number_of(word) else {
         return;
@@ -147,8 +149,8 @@ fn mark(links: &Names, marks: &mut Vec<bool>, word: &[u8])
 
 // Marks for the links that words name.
 fn marked(alloc: Global, links: &Names, words: &[&[u8]]) -> Result<Vec<bool>, ReadRefusal>
-    ensures gives { IfOk result (λ marks. AreMarks links.now (map (λ word. word.now) words.now) marks.items) }
-    ensures refused { IfErr result (λ why. why ≡ ReadRefusal.OutOfMemory) }
+    ensures gives { IfOk result (λ marks. AreMarks links.now (texts_of words.now) marks.items) }
+    ensures refused { IsOkUnless result OutOfMemory }
 {
     let mut marks = vec![in alloc; false; links.len()]?;
     for word in words {
@@ -160,8 +162,8 @@ fn marked(alloc: Global, links: &Names, words: &[&[u8]]) -> Result<Vec<bool>, Re
 // The numbers of the marks, in rising order.
 fn numbers_marked(alloc: Global, marks: &[bool]) -> Result<LinkList, ReadRefusal>
     requires { length marks.now ≤ 8192 }
-    ensures gives { IfOk result (λ numbers. numbers ≡ filter (λ link. slice_index_or marks.now link false) (range_with_len 0 (length marks.now))) }
-    ensures refused { IfErr result (λ why. why ≡ ReadRefusal.OutOfMemory) }
+    ensures gives { IfOk result (λ numbers. numbers ≡ marked_in marks.now) }
+    ensures refused { IsOkUnless result OutOfMemory }
 {
     let mut numbers = Vec::new(alloc);
     for (i, is_marked) in marks.iter().enumerate() {
@@ -173,8 +175,8 @@ fn numbers_marked(alloc: Global, marks: &[bool]) -> Result<LinkList, ReadRefusal
 // The links that words name, in rising order.
 fn failed(alloc: Global, links: &Names, words: &[&[u8]]) -> Result<LinkList, ReadRefusal>
     requires { length links.now ≤ 8192 }
-    ensures gives { IfOk result (λ failed. failed ≡ failed_in links.now (map (λ word. word.now) words.now)) }
-    ensures refused { IfErr result (λ why. why ≡ ReadRefusal.OutOfMemory) }
+    ensures gives { IfOk result (λ failed. failed ≡ numbers_of links.now (texts_of words.now)) }
+    ensures refused { IsOkUnless result OutOfMemory }
 {
     let marks = marked(alloc, links, words)?;
     numbers_marked(alloc, &marks)
@@ -188,8 +190,8 @@ fn add_pattern(
     said: &Said,
 ) -> Result<(), ReadRefusal>
     requires { length links.now ≤ 8192 }
-    ensures gives { OnOk result (patterns.new.items ≡ patterns.old.items ++ patterns_of links.now (statement_in said.now ∷ [])) }
-    ensures refused { IfErr result (λ why. why ≡ ReadRefusal.OutOfMemory) }
+    ensures gives { AddsPattern result links.now patterns.old patterns.new (statement_in said.now) }
+    ensures refused { IsOkUnless result OutOfMemory }
 {
     match said {
         Said::Field(_) => Ok(()),
@@ -212,8 +214,8 @@ pub(crate) fn pattern_list(
     said: &[Said],
 ) -> Result<PatternList, ReadRefusal>
     requires { length links.now ≤ 8192 }
-    ensures gives { IfOk result (λ patterns. patterns ≡ record { name = codes "none"; links = [] } ∷ patterns_of links.now (map statement_in said.now)) }
-    ensures refused { IfErr result (λ why. why ≡ ReadRefusal.OutOfMemory) }
+    ensures gives { IfOk result (λ all. all ≡ pattern_table links.now (map statement_in said.now)) }
+    ensures refused { IsOkUnless result OutOfMemory }
 {
     let mut patterns = Vec::new(alloc);
     let name = name_of(alloc, NONE)?;

@@ -1,9 +1,10 @@
 //! The lines of a text, one after another.
-ghost use Rattle.std.specs.Prelude.{◌≡◌, ◌++◌, ◌∷◌, ◌+◌, [], map, Ok, OnOk, IfOk};
+ghost use Rattle.std.specs.Prelude.{◌≡◌, [], OnOk, IfOk};
 ghost use Rattle.net_reader.specs.Gives.{Gives};
 ghost use Rattle.net_reader.specs.Said.{statement_in};
-ghost use Rattle.net_reader.specs.State.{said_in, AreTables, IsState, check_statement, with_words, with_line};
+ghost use Rattle.net_reader.specs.State.{said_in, IsState, Checks, Notes, Adds, AddsWords, AddsLine};
 ghost use Rattle.net_reader.specs.Text.{read_lines};
+ghost use Rattle.net_reader.specs.Words.{texts_of};
 
 use crate::ReadRefusal;
 use crate::lines::{are_text, content_of, words_of};
@@ -19,8 +20,8 @@ fn note<'a>(
     said: &Said<'a>,
 ) -> Result<(), ReadRefusal>
     requires { IsState state.old }
-    ensures gives { Gives (λ _. statement_in said.now ∷ []) result (check_statement (said_in state.old) line (statement_in said.now)) }
-    ensures noted { OnOk result (AreTables (said_in state.old ++ statement_in said.now ∷ []) state.new) }
+    ensures gives { Checks result state.old line (statement_in said.now) }
+    ensures noted { Notes result state.old state.new (statement_in said.now) }
     ensures kept { OnOk result (state.new.said ≡ state.old.said) }
 {
     match said {
@@ -40,8 +41,8 @@ fn add<'a>(
     said: Said<'a>,
 ) -> Result<(), ReadRefusal>
     requires { IsState state.old }
-    ensures gives { Gives (λ _. statement_in said.entry ∷ []) result (check_statement (said_in state.old) line (statement_in said.entry)) }
-    ensures added { OnOk result (said_in state.new ≡ said_in state.old ++ statement_in said.entry ∷ []) }
+    ensures gives { Checks result state.old line (statement_in said.entry) }
+    ensures added { Adds result state.old state.new (statement_in said.entry) }
     ensures tables { OnOk result (IsState state.new) }
 {
     note(alloc, state, line, &said)?;
@@ -57,7 +58,7 @@ fn read_words<'a>(
     words: &[&'a [u8]],
 ) -> Result<(), ReadRefusal>
     requires { IsState state.old }
-    ensures gives { Gives (λ _. said_in state.new) result (with_words (said_in state.old) line (map (λ word. word.now) words.now)) }
+    ensures gives { AddsWords result state.old state.new line (texts_of words.now) }
     ensures tables { OnOk result (IsState state.new) }
 {
     let Some((first, rest)) = words.split_first() else {
@@ -77,7 +78,7 @@ fn read_line<'a>(
     bytes: &'a [u8],
 ) -> Result<(), ReadRefusal>
     requires { IsState state.old }
-    ensures gives { Gives (λ _. said_in state.new) result (with_line (said_in state.old) line bytes.now) }
+    ensures gives { AddsLine result state.old state.new line bytes.now }
     ensures tables { OnOk result (IsState state.new) }
 {
     let content = content_of(bytes);
@@ -90,7 +91,7 @@ fn read_line<'a>(
 
 /// What lines say, the first of which has the number 1.
 pub(crate) fn read_lines<'a>(alloc: Global, lines: &[&'a [u8]]) -> Result<State<'a>, ReadRefusal>
-    ensures gives { Gives said_in result (read_lines [] 1 (map (λ line. line.now) lines.now)) }
+    ensures gives { Gives said_in result (read_lines [] 1 (texts_of lines.now)) }
     ensures tables { IfOk result IsState }
 {
     let mut state = State::new(alloc);

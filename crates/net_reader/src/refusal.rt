@@ -12,8 +12,9 @@ pub enum What {
     Patterns,
 }
 
-/// Why a text is no network. The refusal is that of the first line that isn't good, and of its refusals the first in the
-/// order below; the last but one three are of the text as a whole. A line is counted from 1, skipped ones too.
+/// Why a text is no network. The refusal is that of the first line that isn't good, and of its
+/// refusals the first in the order below; the last but one three are of the text as a whole. A line
+/// is counted from 1, skipped ones too.
 #[derive(Clone, Copy, Debug, PartialEq, Eq)]
 pub enum ReadRefusal {
     /// A byte is neither a tab nor from the space to the tilde.
@@ -76,6 +77,77 @@ pub enum ReadRefusal {
     },
     /// There was no memory.
     OutOfMemory,
+}
+
+impl What {
+    ghost use Rattle.std.specs.Prelude.{◌≡◌, ◌≤◌, length};
+    ghost use Rattle.net_reader.specs.RefusalNames.{what_name};
+
+    /// Its name.
+    pub fn name(self) -> &'static str
+        ensures name { result.now ≡ what_name self }
+        ensures short { length result.now ≤ 16 }
+    {
+        match self {
+            What::Nodes => "Nodes",
+            What::Links => "Links",
+            What::Patterns => "Patterns",
+        }
+    }
+}
+
+impl ReadRefusal {
+    ghost use Rattle.std.specs.Prelude.{◌≡◌, ◌≤◌, length};
+    ghost use Rattle.net_reader.specs.RefusalNames.{refusal_name, refusal_line};
+
+    /// Its name.
+    pub fn name(self) -> &'static str
+        ensures name { result.now ≡ refusal_name self }
+        ensures short { length result.now ≤ 16 }
+    {
+        match self {
+            ReadRefusal::BadByte { .. } => "BadByte",
+            ReadRefusal::BadLine { .. } => "BadLine",
+            ReadRefusal::BadName { .. } => "BadName",
+            ReadRefusal::DuplicateLink { .. } => "DuplicateLink",
+            ReadRefusal::DuplicatePattern { .. } => "DuplicatePattern",
+            ReadRefusal::DuplicateSink { .. } => "DuplicateSink",
+            ReadRefusal::SecondSource { .. } => "SecondSource",
+            ReadRefusal::SelfLoop { .. } => "SelfLoop",
+            ReadRefusal::UnknownLink { .. } => "UnknownLink",
+            ReadRefusal::RepeatedLink { .. } => "RepeatedLink",
+            ReadRefusal::SecondField { .. } => "SecondField",
+            ReadRefusal::TooMany { .. } => "TooMany",
+            ReadRefusal::NoSource => "NoSource",
+            ReadRefusal::NoSink => "NoSink",
+            ReadRefusal::SinkIsSource { .. } => "SinkIsSource",
+            ReadRefusal::OutOfMemory => "OutOfMemory",
+        }
+    }
+
+    /// The line that it is of, if it is of one.
+    pub fn line(self) -> Option<u64>
+        ensures { result ≡ refusal_line self }
+    {
+        match self {
+            ReadRefusal::BadByte { line } => Some(line),
+            ReadRefusal::BadLine { line } => Some(line),
+            ReadRefusal::BadName { line } => Some(line),
+            ReadRefusal::DuplicateLink { line } => Some(line),
+            ReadRefusal::DuplicatePattern { line } => Some(line),
+            ReadRefusal::DuplicateSink { line } => Some(line),
+            ReadRefusal::SecondSource { line } => Some(line),
+            ReadRefusal::SelfLoop { line } => Some(line),
+            ReadRefusal::UnknownLink { line } => Some(line),
+            ReadRefusal::RepeatedLink { line } => Some(line),
+            ReadRefusal::SecondField { line } => Some(line),
+            ReadRefusal::TooMany { line, .. } => Some(line),
+            ReadRefusal::NoSource => None,
+            ReadRefusal::NoSink => None,
+            ReadRefusal::SinkIsSource { .. } => None,
+            ReadRefusal::OutOfMemory => None,
+        }
+    }
 }
 
 impl From<AllocError> for ReadRefusal {

@@ -1,4 +1,5 @@
-//! That threads can take values of every type of this crate, and share them: it is shown by being proved.
+//! That threads can take values of every type of this crate, and share them: it is shown by being
+//! proved.
 use crate::{ReadRefusal, What};
 
 fn shared<T: Send + Sync>() {}

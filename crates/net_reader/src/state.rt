@@ -1,11 +1,10 @@
 //! The statements so far, and tables of what they name.
-ghost use Rattle.std.specs.Prelude.{◌≡◌, ◌++◌, ◌∷◌, [], map, OnOk, IfOk};
+ghost use Rattle.std.specs.Prelude.{◌≡◌, ◌∷◌, [], OnOk};
 ghost use Rattle.std.specs.List.{list_all};
 ghost use Rattle.net_model.specs.Name.{is_name};
-ghost use Rattle.net_reader.specs.Gives.{Gives};
-ghost use Rattle.net_reader.specs.Said.{statement_in};
-ghost use Rattle.net_reader.specs.State.{said_in, AreTables, IsState, check_statement};
+ghost use Rattle.net_reader.specs.State.{said_in, IsState, Checks, Notes};
 ghost use Rattle.net_reader.specs.Statements.{field_is, source_is, sink_is, link_is, pattern_is};
+ghost use Rattle.net_reader.specs.Words.{texts_of};
 
 use crate::names::{are_distinct, are_names, has_all};
 use crate::statements::Said;
@@ -50,8 +49,8 @@ impl<'a> State<'a> {
 /// A field, which is the only one.
 pub(crate) fn note_field<'a>(state: &mut State<'a>, line: u64, bits: u32) -> Result<(), ReadRefusal>
     requires { IsState state.old }
-    ensures gives { Gives (λ _. field_is bits ∷ []) result (check_statement (said_in state.old) line (field_is bits)) }
-    ensures noted { OnOk result (AreTables (said_in state.old ++ field_is bits ∷ []) state.new) }
+    ensures gives { Checks result state.old line (field_is bits) }
+    ensures noted { Notes result state.old state.new (field_is bits) }
     ensures kept { OnOk result (state.new.said ≡ state.old.said) }
 {
     if state.field.is_some() {
@@ -68,8 +67,8 @@ pub(crate) fn note_source<'a>(
     node: &'a [u8],
 ) -> Result<(), ReadRefusal>
     requires { IsState state.old }
-    ensures gives { Gives (λ _. source_is node.now ∷ []) result (check_statement (said_in state.old) line (source_is node.now)) }
-    ensures noted { OnOk result (AreTables (said_in state.old ++ source_is node.now ∷ []) state.new) }
+    ensures gives { Checks result state.old line (source_is node.now) }
+    ensures noted { Notes result state.old state.new (source_is node.now) }
     ensures kept { OnOk result (state.new.said ≡ state.old.said) }
 {
     if !is_name(node) {
@@ -96,8 +95,8 @@ pub(crate) fn note_sink<'a>(
     node: &'a [u8],
 ) -> Result<(), ReadRefusal>
     requires { IsState state.old }
-    ensures gives { Gives (λ _. sink_is node.now ∷ []) result (check_statement (said_in state.old) line (sink_is node.now)) }
-    ensures noted { OnOk result (AreTables (said_in state.old ++ sink_is node.now ∷ []) state.new) }
+    ensures gives { Checks result state.old line (sink_is node.now) }
+    ensures noted { Notes result state.old state.new (sink_is node.now) }
     ensures kept { OnOk result (state.new.said ≡ state.old.said) }
 {
     if !is_name(node) {
@@ -133,8 +132,8 @@ pub(crate) fn note_link<'a>(
     head: &'a [u8],
 ) -> Result<(), ReadRefusal>
     requires { IsState state.old }
-    ensures gives { Gives (λ _. link_is name.now tail.now head.now ∷ []) result (check_statement (said_in state.old) line (link_is name.now tail.now head.now)) }
-    ensures noted { OnOk result (AreTables (said_in state.old ++ link_is name.now tail.now head.now ∷ []) state.new) }
+    ensures gives { Checks result state.old line (link_is name.now tail.now head.now) }
+    ensures noted { Notes result state.old state.new (link_is name.now tail.now head.now) }
     ensures kept { OnOk result (state.new.said ≡ state.old.said) }
 {
     if !are_link_names(name, tail, head) {
@@ -173,8 +172,8 @@ pub(crate) fn note_pattern<'a>(
     links: &[&'a [u8]],
 ) -> Result<(), ReadRefusal>
     requires { IsState state.old }
-    ensures gives { Gives (λ _. pattern_is name.now (map (λ link. link.now) links.now) ∷ []) result (check_statement (said_in state.old) line (pattern_is name.now (map (λ link. link.now) links.now))) }
-    ensures noted { OnOk result (AreTables (said_in state.old ++ pattern_is name.now (map (λ link. link.now) links.now) ∷ []) state.new) }
+    ensures gives { Checks result state.old line (pattern_is name.now (texts_of links.now)) }
+    ensures noted { Notes result state.old state.new (pattern_is name.now (texts_of links.now)) }
     ensures kept { OnOk result (state.new.said ≡ state.old.said) }
 {
     if !is_name(name) || !are_names(links) {

@@ -1,7 +1,8 @@
 //! What the words of a line say.
-ghost use Rattle.std.specs.Prelude.{◌≡◌, ◌∷◌, None, Some, map, option_map, IfOk};
-ghost use Rattle.net_reader.specs.Said.{statement_in};
+ghost use Rattle.std.specs.Prelude.{IfOk};
+ghost use Rattle.net_reader.specs.Said.{Says};
 ghost use Rattle.net_reader.specs.Statements.{field_of, source_of, sink_of, link_of, pattern_of, statement_of};
+ghost use Rattle.net_reader.specs.Words.{texts_of};
 
 use std::alloc::{AllocError, Global};
 
@@ -37,7 +38,7 @@ pub(crate) enum Said<'a> {
 }
 
 fn field_of<'a>(words: &[&'a [u8]]) -> Option<Said<'a>>
-    ensures { option_map statement_in result ≡ field_of (map (λ word. word.now) words.now) }
+    ensures { Says (field_of (texts_of words.now)) result }
 {
     let [bits] = words else {
         return None;
@@ -52,7 +53,7 @@ fn field_of<'a>(words: &[&'a [u8]]) -> Option<Said<'a>>
 }
 
 fn source_of<'a>(words: &[&'a [u8]]) -> Option<Said<'a>>
-    ensures { option_map statement_in result ≡ source_of (map (λ word. word.now) words.now) }
+    ensures { Says (source_of (texts_of words.now)) result }
 {
     match words {
         [node] => Some(Said::Source(node)),
@@ -61,7 +62,7 @@ fn source_of<'a>(words: &[&'a [u8]]) -> Option<Said<'a>>
 }
 
 fn sink_of<'a>(words: &[&'a [u8]]) -> Option<Said<'a>>
-    ensures { option_map statement_in result ≡ sink_of (map (λ word. word.now) words.now) }
+    ensures { Says (sink_of (texts_of words.now)) result }
 {
     match words {
         [node] => Some(Said::Sink(node)),
@@ -70,7 +71,7 @@ fn sink_of<'a>(words: &[&'a [u8]]) -> Option<Said<'a>>
 }
 
 fn link_of<'a>(words: &[&'a [u8]]) -> Option<Said<'a>>
-    ensures { option_map statement_in result ≡ link_of (map (λ word. word.now) words.now) }
+    ensures { Says (link_of (texts_of words.now)) result }
 {
     match words {
         [name, tail, head] => Some(Said::Link { name, tail, head }),
@@ -79,7 +80,7 @@ fn link_of<'a>(words: &[&'a [u8]]) -> Option<Said<'a>>
 }
 
 fn pattern_of<'a>(alloc: Global, words: &[&'a [u8]]) -> Result<Option<Said<'a>>, AllocError>
-    ensures { IfOk result (λ said. option_map statement_in said ≡ pattern_of (map (λ word. word.now) words.now)) }
+    ensures { IfOk result (Says (pattern_of (texts_of words.now))) }
 {
     match words {
         [name, _, ..] => {
@@ -96,7 +97,7 @@ pub(crate) fn statement_of<'a>(
     first: &[u8],
     words: &[&'a [u8]],
 ) -> Result<Option<Said<'a>>, AllocError>
-    ensures { IfOk result (λ said. option_map statement_in said ≡ statement_of first.now (map (λ word. word.now) words.now)) }
+    ensures { IfOk result (Says (statement_of first.now (texts_of words.now))) }
 {
     if first == FIELD {
         Ok(field_of(words))

@@ -1,11 +1,11 @@
 //! All of a network text.
-ghost use Rattle.std.specs.Prelude.{◌≡◌, ◌≢◌, ◌≤◌, Ok, Err, length, IfOk, IfErr};
+ghost use Rattle.std.specs.Prelude.{◌≡◌, ◌≤◌, Ok, length, IfOk, IfErr, IsOkUnless};
 ghost use Rattle.net_model.specs.Network.{IsNetwork};
-ghost use Rattle.net_reader.specs.Gives.{Gives};
+ghost use Rattle.net_reader.specs.Gives.{Fails, Gives, Makes};
 ghost use Rattle.net_reader.specs.Parts.{parts_seen};
 ghost use Rattle.net_reader.specs.State.{said_in, IsState};
-ghost use Rattle.net_reader.specs.Statements.{sink_names, source_names};
-ghost use Rattle.net_reader.specs.Text.{net_limit, network_of, parts_in, parts_of, whole_of};
+ghost use Rattle.net_reader.specs.Text.{net_limit, network_of, parts_in, parts_of, whole_said};
+ghost use Rattle.net_reader.specs.declared.refusal.ReadRefusal.TheVariants.{OutOfMemory};
 
 use crate::ReadRefusal;
 use crate::lines::lines_of;
@@ -18,8 +18,8 @@ use std::alloc::Global;
 // The parts that the statements stand for.
 fn parts_in(alloc: Global, state: &State, source: &[u8]) -> Result<Parts, ReadRefusal>
     requires { IsState state.now }
-    ensures gives { IfOk result (λ parts. parts_seen parts ≡ parts_in (said_in state.now) source.now) }
-    ensures refused { IfErr result (λ why. why ≡ ReadRefusal.OutOfMemory) }
+    ensures gives { Makes parts_seen result (parts_in (said_in state.now) source.now) }
+    ensures refused { IsOkUnless result OutOfMemory }
 {
     let nodes = name_list(alloc, state.nodes.as_slice())?;
     let links = link_table(alloc, &state.nodes, &state.said)?;
@@ -38,7 +38,7 @@ fn parts_in(alloc: Global, state: &State, source: &[u8]) -> Result<Parts, ReadRe
 // What the statements stand for, or what is wrong with them as a whole.
 fn whole_of(alloc: Global, state: &State) -> Result<Parts, ReadRefusal>
     requires { IsState state.now }
-    ensures { Gives parts_seen result (whole_of (said_in state.now) (source_names (said_in state.now)) (sink_names (said_in state.now))) }
+    ensures { Gives parts_seen result (whole_said (said_in state.now)) }
 {
     let Some(source) = state.source else {
         return Err(ReadRefusal::NoSource);
@@ -79,11 +79,15 @@ fn net_of(parts: Parts) -> Net
     Net::of(nodes, links, source, sinks, patterns, field)
 }
 
-/// The network that a text stands for. A refusal is that of the first line that isn't good, or of the text as a whole.
+/// The greatest length of a network text, in bytes.
+pub const NET_LIMIT: usize = 4_194_304;
+
+/// The network that a text stands for. A refusal is that of the first line that isn't good, or of
+/// the text as a whole.
 pub fn read_net(alloc: Global, text: &[u8]) -> Result<Net, ReadRefusal>
     requires { length text.now ≤ net_limit }
     ensures ok { IfOk result (λ net. network_of text.now ≡ Ok (parts_of net)) }
-    ensures refused { IfErr result (λ why. why ≢ ReadRefusal.OutOfMemory → network_of text.now ≡ Err why) }
+    ensures refused { IfErr result (λ why. Fails why (network_of text.now)) }
 {
     let parts = read_parts(alloc, text)?;
     Ok(net_of(parts))

@@ -12,7 +12,8 @@ use Rattle.net_model.specs.declared.Link.{Link}
 use Rattle.net_model.specs.declared.net.Net.{Net}
 use Rattle.node_program.specs.Code.{IsDraft, leads_into, are_in_order, is_source_of, are_operands, are_operands_of}
 use Rattle.node_program.specs.Operands.{IsOperand}
-use Rattle.node_program.specs.Value.{operands_at, leaves_source}
+use Rattle.net_model.specs.Walks.{leaves_source}
+use Rattle.node_program.specs.Value.{operands_at}
 use Rattle.node_program.specs.declared.Operand.{Operand}
 
 -- whether the link of a number leads out of a node

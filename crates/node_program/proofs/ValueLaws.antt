@@ -17,7 +17,8 @@ use Rattle.linear_algebra.specs.Rows.{combination, zero_row, IsRow}
 use Rattle.node_program.specs.Decoding.{IsBlock}
 use Rattle.node_program.proofs.OperandLaws.{operands_of_draft}
 use Rattle.node_program.specs.Operands.{IsOperand}
-use Rattle.node_program.specs.Value.{width_of, row_at, operands_at, leaves_source, value_from, value_within, value, is_live_from, is_live_within, is_live}
+use Rattle.net_model.specs.Walks.{leaves_source}
+use Rattle.node_program.specs.Value.{width_of, row_at, operands_at, value_from, value_within, value, is_live_from, is_live_within, is_live}
 use Rattle.node_program.specs.declared.Operand.{Operand}
 
 -- two functions that agree on each item give one list

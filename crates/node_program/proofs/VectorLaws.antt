@@ -19,7 +19,8 @@ use Rattle.node_program.specs.Code.{IsDraft}
 use Rattle.node_program.specs.Decoding.{IsBlock}
 use Rattle.node_program.proofs.OperandLaws.{operands_of_draft}
 use Rattle.node_program.specs.Operands.{IsOperand}
-use Rattle.node_program.specs.Value.{width_of, row_at, operands_at, leaves_source, value_within, value, unit_block, global_vector, vector_from, is_live}
+use Rattle.net_model.specs.Walks.{leaves_source}
+use Rattle.node_program.specs.Value.{width_of, row_at, operands_at, value_within, value, unit_block, global_vector, vector_from, is_live}
 use Rattle.node_program.proofs.ValueLaws.{map-agree, coefficients-elements, either_row, value-equation, value-dead, IsRow-row_at, IsRow-value, IsRow-value_within}
 use Rattle.node_program.specs.declared.Operand.{Operand}
 

@@ -10,7 +10,8 @@ use Rattle.node_program.specs.Carried.{source_vector, numbers_at, IsCarried}
 use Rattle.node_program.specs.CodeValue.{vector_in}
 use Rattle.node_program.proofs.OperandLaws.{operands_of_draft}
 use Rattle.node_program.specs.Operands.{IsOperand}
-use Rattle.node_program.specs.Value.{operands_at, leaves_source}
+use Rattle.net_model.specs.Walks.{leaves_source}
+use Rattle.node_program.specs.Value.{operands_at}
 use Rattle.node_program.proofs.ValueLaws.{map-agree}
 use Rattle.node_program.proofs.VectorLaws.{global_vector-equation}
 use Rattle.node_program.specs.Vectors.{AreVectorsBefore}

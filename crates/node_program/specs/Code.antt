@@ -3,6 +3,7 @@ use Rattle.std.specs.Prelude.{◌≡◌, ℕ, Bool, true, false, not, ◌≤◌,
 use Rattle.std.specs.List.{list_all, list_any}
 use Rattle.std.specs.Option.{option_map_or}
 use Rattle.failure_patterns.specs.UsedField.{pair_demands}
+use Rattle.net_model.specs.Limits.{highest_rate}
 use Rattle.net_model.specs.Lists.{is_rising}
 use Rattle.net_model.specs.declared.Link.{Link}
 use Rattle.net_model.specs.declared.net.Net.{Net}
@@ -65,7 +66,7 @@ are_decoders net rate field (sink ∷ sinks) [] = false
 -- a code as far as it has no decoders yet
 pub record IsDraft (net : Net) (rate : ℕ) (field : FieldKind) (operands : List (List Operand)) : Type 0 where
   pub some_rate : 1 ≤ rate
-  pub low_rate : rate ≤ 32
+  pub low_rate : rate ≤ highest_rate
   pub few_demands : demand_count net ≤ pair_demands
   pub link_order : IsTrue (are_in_order [] net.links)
   pub link_operands : IsTrue (are_operands_of net rate field net.links operands)

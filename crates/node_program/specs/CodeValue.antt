@@ -2,7 +2,8 @@
 use Rattle.std.specs.Prelude.{ℕ, Bool, ◌||◌, List, map}
 use Rattle.std.specs.List.{range_with_len}
 use Rattle.net_model.specs.Failed.{failed_links}
-use Rattle.node_program.specs.Value.{value, global_vector, leaves_source, is_live}
+use Rattle.net_model.specs.Walks.{leaves_source}
+use Rattle.node_program.specs.Value.{value, global_vector, is_live}
 use Rattle.node_program.specs.declared.Operand.{Operand}
 use Rattle.node_program.specs.declared.code.Code.{Code}
 

@@ -3,7 +3,7 @@ use Rattle.std.specs.Prelude.{◌≡◌, ℕ, ◌<◌, true, false}
 use Rattle.gf_tables.specs.Product.{size_of}
 use Rattle.gf_tables.specs.declared.kind.FieldKind.{FieldKind}
 use Rattle.net_model.specs.declared.net.Net.{Net}
-use Rattle.node_program.specs.Value.{leaves_source}
+use Rattle.net_model.specs.Walks.{leaves_source}
 use Rattle.node_program.specs.declared.Operand.{Operand}
 
 -- a nonzero element, and a row of the source below the rate, or a link of a lower number

@@ -4,6 +4,7 @@ use Rattle.std.specs.List.{list_any, range_with_len}
 use Rattle.std.specs.Option.{option_map_or}
 use Rattle.gf_tables.specs.declared.kind.FieldKind.{FieldKind}
 use Rattle.net_model.specs.Lists.{is_among}
+pub use Rattle.net_model.specs.Walks.{leaves_source}
 use Rattle.net_model.specs.declared.net.Net.{Net}
 use Rattle.linear_algebra.specs.Rows.{combination, unit_row, zero_row}
 use Rattle.node_program.specs.declared.Operand.{Operand}
@@ -20,10 +21,6 @@ row_at rows i = unwrap_or (slice_get rows i) []
 -- the operands of a link
 abbrev pub operands_at : List (List Operand) → ℕ → List Operand
 operands_at operands link = unwrap_or (slice_get operands link) []
-
--- whether a link leaves the source
-abbrev pub leaves_source : Net → ℕ → Bool
-leaves_source net link = option_map_or (λ l. l.tail == net.source) (slice_get net.links link) false
 
 -- The value of a link on a block where links fail, by the values of the links that it reads: zero where it fails
 -- itself, else the sum over its operands of the coefficient times the operand's row of the block, or its link's value.

@@ -5,7 +5,7 @@ ghost use Rattle.node_program.specs.Vectors.{AreVectors, AreVectorsBefore};
 
 use crate::Code;
 use crate::carrying::carry;
-use crate::liveness::{leaves_source, operands_of};
+use crate::liveness::operands_of;
 use counted_steps::Steps;
 use field_vectors::Matrix;
 use gf_tables::Field;
@@ -40,7 +40,7 @@ fn fill<F: Field, L: Ledger>(vectors: &mut Matrix<F>, code: &Code, pattern: u32,
     let mut steps = Steps::<L>::start(blank);
     for link in 0..vectors.rows() {
         if !code.net.is_failed(pattern, link) {
-            let leaves = leaves_source(code, link);
+            let leaves = code.net.leaves_source(link);
             carry(vectors, link, leaves, operands_of(code, link), &mut steps);
         }
     }

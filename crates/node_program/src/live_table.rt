@@ -2,7 +2,7 @@
 ghost use Rattle.std.specs.Prelude.{◌≡◌, ℕ, ◌<◌, length, slice_get, IfOk};
 ghost use Rattle.node_program.specs.CodeValue.{is_live_in, live_table};
 
-use crate::liveness::{leaves_source, operands_of};
+use crate::liveness::operands_of;
 use crate::{Code, LiveLinks};
 use item_list::ItemList;
 use std::alloc::{AllocError, Global};
@@ -34,7 +34,7 @@ fn is_live_by(code: &Code, pattern: u32, link: u32, before: &[bool]) -> bool
     if code.net.is_failed(pattern, link) {
         return false;
     }
-    let leaves = leaves_source(code, link);
+    let leaves = code.net.leaves_source(link);
     for operand in operands_of(code, link) {
         if leaves || before[operand.from as usize] {
             return true;

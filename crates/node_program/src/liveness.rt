@@ -2,7 +2,7 @@
 ghost use Rattle.std.specs.Prelude.{◌≡◌, ◌<◌, length, All};
 ghost use Rattle.node_program.specs.CodeValue.{is_live_in};
 ghost use Rattle.node_program.specs.Operands.{IsOperand};
-ghost use Rattle.node_program.specs.Value.{leaves_source, operands_at};
+ghost use Rattle.node_program.specs.Value.{operands_at};
 
 use crate::{Code, Operand};
 
@@ -16,21 +16,13 @@ pub fn live(code: &Code, pattern: u32, link: u32) -> bool
     if code.net.is_failed(pattern, link) {
         return false;
     }
-    let leaves = leaves_source(code, link);
+    let leaves = code.net.leaves_source(link);
     for operand in operands_of(code, link) {
         if leaves || live(code, pattern, operand.from) {
             return true;
         }
     }
     false
-}
-
-/// Whether a link leaves the source.
-pub(crate) fn leaves_source(code: &Code, link: u32) -> bool
-    requires { link < length code.now.net.links }
-    ensures { result ≡ leaves_source code.now.net link }
-{
-    code.net.links.at(link as usize).tail == code.net.source
 }
 
 /// The operands of a link.

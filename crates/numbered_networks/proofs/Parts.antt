@@ -6,6 +6,7 @@ use Rattle.std.proofs.Common.{refl, sym, ◌∙◌, ap, subst, arith}
 use Rattle.std.proofs.lemmas.Bool.{and_from, and_parts, not_from_false, or_from, ltb-true, leb-true}
 use Rattle.std.proofs.lemmas.List.{length-map}
 use Rattle.std.proofs.lemmas.List.FromFn.{length-map-range_with_len}
+use Rattle.net_model.specs.Limits.{most_links, most_nodes, most_patterns}
 use Rattle.net_model.specs.Lists.{are_distinct}
 use Rattle.net_model.specs.Name.{is_name}
 use Rattle.net_model.specs.Network.{IsNetwork, are_patterns, is_link_among, is_listed_pattern, is_sink_among}
@@ -73,9 +74,9 @@ network_of names links sinks patterns n ends failing parts are valid linked soun
     let sink_tests = and_parts _ _ sink_parts.1 in
     let among_tests = and_parts _ _ sink_tests.0 in
     let some : 0 < length sinks = ltb-true _ _ among_tests.0 in
-    let nodes : n ≤ 4096 = leb-true _ _ fewer.0 in
-    let link_count : length ends ≤ 8192 = leb-true _ _ fewer.1 in
-    let listed_count : length failing < 4096 = ltb-true _ _ few.1 in
+    let nodes : n ≤ most_nodes = leb-true _ _ fewer.0 in
+    let link_count : length ends ≤ most_links = leb-true _ _ fewer.1 in
+    let listed_count : length failing < most_patterns = ltb-true _ _ few.1 in
     let node : 0 < n = some_node n sinks some among_tests.1 in
     record {
       node_names = and_from _ _ valid (subst Distinct (sym are) (names_distinct 0 n));

@@ -1,6 +1,7 @@
 -- The numbers of which a network is made, whose source is node 0.
 use Rattle.std.specs.Prelude.{ℕ, Bool, not, ◌&&◌, ◌==◌, nat_lt, nat_le, nat_eq, List, length}
 use Rattle.std.specs.List.{list_all}
+use Rattle.net_model.specs.Limits.{most_links, most_nodes, most_patterns}
 use Rattle.net_model.specs.Lists.{are_distinct, is_rising}
 use Rattle.net_model.specs.Network.{is_sink_among}
 use Rattle.net_model.specs.declared.Link.{Link}
@@ -23,7 +24,7 @@ is_failing links numbers = nat_lt 0 (length numbers) && is_rising numbers && lis
 
 -- not too many nodes, links and patterns, where the pattern `none` comes on top
 abbrev pub are_few : ℕ → ℕ → ℕ → Bool
-are_few nodes links patterns = nat_le nodes 4096 && nat_le links 8192 && nat_lt patterns 4096
+are_few nodes links patterns = nat_le nodes most_nodes && nat_le links most_links && nat_lt patterns most_patterns
 
 -- the numbers are those of a network
 abbrev pub are_parts : ℕ → List (ℕ × ℕ) → List ℕ → List (List ℕ) → Bool

@@ -5,6 +5,8 @@ ghost use Rattle.net_model.specs.Lists.{are_distinct, is_among, is_rising};
 ghost use Rattle.net_model.specs.Network.{is_sink_among};
 ghost use Rattle.numbered_networks.specs.Parts.{are_ends, are_few, are_parts, are_sinks, is_failing};
 
+use net_model::{MOST_LINKS, MOST_NODES, MOST_PATTERNS};
+
 /// Whether the numbers are those of a network.
 pub(crate) fn are_parts(nodes: u32, ends: &[(u32, u32)], sinks: &[u32], patterns: &[&[u32]]) -> bool
     ensures { result ≡ are_parts nodes ends.now sinks.now (map (λ links. links.now) patterns.now) }
@@ -18,7 +20,7 @@ pub(crate) fn are_parts(nodes: u32, ends: &[(u32, u32)], sinks: &[u32], patterns
 fn are_few(nodes: u32, links: usize, patterns: usize) -> bool
     ensures { result ≡ are_few nodes links patterns }
 {
-    nodes <= 4096 && links <= 8192 && patterns < 4096
+    nodes as usize <= MOST_NODES && links <= MOST_LINKS && patterns < MOST_PATTERNS
 }
 
 fn are_all_ends(nodes: u32, ends: &[(u32, u32)]) -> bool

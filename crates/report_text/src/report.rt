@@ -1,8 +1,6 @@
 //! The lines of a report.
-ghost use Rattle.std.specs.Prelude.{◌≡◌, ◌<◌, ◌++◌, All, IfOk, OnOk, codes, decimal, length};
-ghost use Rattle.std.specs.List.{flat_map};
-ghost use Rattle.name_texts.specs.Names.{demand_text, links_text};
-ghost use Rattle.report_text.specs.Report.{IsPrintable, entry_text, head_text};
+ghost use Rattle.std.specs.Prelude.{◌≡◌, ◌<◌, ◌++◌, All, IfOk, OnOk, decimal, length};
+ghost use Rattle.report_text.specs.Report.{IsPrintable, entry_text, head_text, path_text, paths_text, title_text};
 
 use crate::room::{HEAD_ROOM, entry_room};
 use cut_witness::Cert;
@@ -22,8 +20,8 @@ pub fn head(alloc: Global, rate: u32) -> Result<Vec<u8>, AllocError>
     Ok(text)
 }
 
-/// The lines of a certificate: the demand with the size of its cut, the nodes of its side, the links that cross
-/// it, and each path.
+/// The lines of a certificate: the demand with the size of its cut, the nodes of its side, the
+/// links that cross it, and each path.
 pub fn entry(alloc: Global, net: &Net, cert: &Cert) -> Result<Vec<u8>, AllocError>
     requires { IsPrintable net.now cert.now }
     ensures { IfOk result (λ text. text.items ≡ entry_text net.now cert.now) }
@@ -51,7 +49,7 @@ fn push_number(text: &mut Vec<u8>, number: u64) -> Result<(), AllocError>
 // Adds the demand of a certificate to a text, and the size of its cut.
 fn push_title(text: &mut Vec<u8>, net: &Net, cert: &Cert) -> Result<(), AllocError>
     requires { IsPrintable net.now cert.now }
-    ensures { OnOk result (text.new.items ≡ text.old.items ++ (codes "demand " ++ demand_text net.now cert.now.demand ++ codes " cut " ++ decimal cert.now.value)) }
+    ensures { OnOk result (text.new.items ≡ text.old.items ++ title_text net.now cert.now) }
 {
     text.extend_from_slice(b"demand ")?;
     push_demand(text, net, cert.demand)?;
@@ -62,7 +60,7 @@ fn push_title(text: &mut Vec<u8>, net: &Net, cert: &Cert) -> Result<(), AllocErr
 // Adds the line of a path to a text.
 fn push_path(text: &mut Vec<u8>, net: &Net, path: &[u32]) -> Result<(), AllocError>
     requires { All (λ link. link < length net.now.links) path.now }
-    ensures { OnOk result (text.new.items ≡ text.old.items ++ (codes "path" ++ links_text net.now path.now ++ codes "\n")) }
+    ensures { OnOk result (text.new.items ≡ text.old.items ++ path_text net.now path.now) }
 {
     text.extend_from_slice(b"path")?;
     push_links(text, net, path)?;
@@ -73,7 +71,7 @@ fn push_path(text: &mut Vec<u8>, net: &Net, path: &[u32]) -> Result<(), AllocErr
 // Adds a line for each path to a text.
 fn push_paths(text: &mut Vec<u8>, net: &Net, paths: &[LinkList]) -> Result<(), AllocError>
     requires { All (All (λ link. link < length net.now.links)) paths.now }
-    ensures { OnOk result (text.new.items ≡ text.old.items ++ flat_map (λ path. codes "path" ++ links_text net.now path ++ codes "\n") paths.now) }
+    ensures { OnOk result (text.new.items ≡ text.old.items ++ paths_text net.now paths.now) }
 {
     for path in paths {
         push_path(text, net, path.as_slice())?;

@@ -1,7 +1,6 @@
 //! How much room the lines of a report take.
-ghost use Rattle.std.specs.Prelude.{◌≡◌, ◌+◌, ◌*◌, ◌<◌, ◌≤◌, ◌^◌, min, length, sum_by};
-ghost use Rattle.net_model.specs.declared.net.Net.{Net};
-ghost use Rattle.report_text.specs.Report.{entry_text};
+ghost use Rattle.std.specs.Prelude.{◌≡◌, min, length, sum_by};
+ghost use Rattle.report_text.specs.Report.{IsRoomFor, room_of};
 
 use cut_witness::Cert;
 use name_texts::NAME_ROOM;
@@ -27,12 +26,11 @@ fn links_on(paths: &[LinkList]) -> usize
     links
 }
 
-/// Room enough for the lines of a certificate: that of so many names, paths and words, or the greatest number of the
-/// machine where that is less.
+/// Room enough for the lines of a certificate: that of so many names, paths and words, or the
+/// greatest number of the machine where that is less.
 pub(crate) fn entry_room(cert: &Cert) -> usize
-    ensures enough { (net : Net) → cert.now.value < 2 ^ 32 → length cert.now.side ≡ length net.nodes → min (length (entry_text net cert.now)) usize.MAX ≤ result }
-    ensures exact { let paths = cert.now.paths in let names = sum_by length paths + length cert.now.cut + length cert.now.side + 2 in
-        result ≡ min (names * NAME_ROOM + length paths * PATH_ROOM + WORDS_ROOM) usize.MAX }
+    ensures enough { IsRoomFor cert.now result }
+    ensures exact { result ≡ room_of cert.now NAME_ROOM PATH_ROOM WORDS_ROOM }
 {
     let names = links_on(cert.paths.as_slice())
         .saturating_add(cert.cut.len())

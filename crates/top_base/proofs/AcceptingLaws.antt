@@ -8,7 +8,8 @@ use Rattle.code_file.specs.Reading.{contents_of}
 use Rattle.code_file.proofs.ReadingLaws.{contents_of-bytes_of}
 use Rattle.node_program.specs.Decoding.{IsAccepted}
 use Rattle.node_program.specs.declared.code.Code.{Code}
-use Rattle.top_base.specs.Accepting.{IsCodeOf, RefusesCode, code_limit}
+use Rattle.code_file.specs.Limits.{code_limit}
+use Rattle.top_base.specs.Accepting.{IsCodeOf, RefusesCode}
 use Rattle.top_base.proofs.InputLaws.{IsInput}
 use Rattle.top_base.specs.Inputs.{is_refusal}
 use Rattle.top_base.specs.Outcome.{any_cycle}

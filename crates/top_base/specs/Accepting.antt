@@ -4,6 +4,7 @@ use Rattle.lif_outside.specs.Events.{Event}
 use Rattle.lif_outside.specs.Files.{Holds}
 use Rattle.code_checker.specs.Checking.{FailsFirst}
 use Rattle.code_file.specs.Items.{IsFileOf}
+use Rattle.code_file.specs.Limits.{code_limit}
 use Rattle.code_file.specs.Reading.{contents_of}
 use Rattle.node_program.specs.Decoding.{IsAccepted}
 use Rattle.node_program.specs.declared.code.Code.{Code}
@@ -12,10 +13,6 @@ use Rattle.top_base.specs.Lines.{check_failed_line, code_refused_line}
 use Rattle.top_base.specs.declared.outcome.Outcome.{Outcome}
 use Rattle.top_base.specs.declared.status.Status.{Status}
 use Rattle.top_base.specs.declared.status.Status.TheVariants.{CodeRefused, CheckFailed}
-
--- the greatest length of a code file
-abbrev pub code_limit : ℕ
-code_limit = 268435456
 
 -- the bytes are the file of this code, and it is accepted
 pub record IsCodeOf (bytes : List ℕ) (code : Code) : Type 0 where

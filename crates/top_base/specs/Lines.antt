@@ -1,7 +1,8 @@
 -- The lines said.
-use Rattle.std.specs.Prelude.{ℕ, Bool, List, [], ◌++◌, codes, decimal, map, unwrap_or, slice_get}
+use Rattle.std.specs.Prelude.{ℕ, Bool, List, [], ◌∷◌, ◌++◌, codes, decimal, map, unwrap_or, slice_get}
+use Rattle.std.specs.Option.{option_map_or}
 use Rattle.code_file.specs.declared.refusal.CodeRefusal.{CodeRefusal}
-use Rattle.code_file.specs.declared.refusal.CodeRefusal.TheVariants.{BadMagic, BadVersion, Truncated, BadField, BadRate, BadName, BadIndex, OutOfOrder, NotRising, ZeroCoefficient, BadOperand, TooMany, TrailingBytes, OutOfMemory}
+use Rattle.code_file.specs.RefusalNames as code
 use Rattle.gf_tables.specs.Product.{mark_of}
 use Rattle.gf_tables.specs.declared.kind.FieldKind.{FieldKind}
 use Rattle.failure_patterns.specs.Demands.{demand_of}
@@ -10,10 +11,9 @@ use Rattle.net_model.specs.Demands.{demand_count}
 use Rattle.net_model.specs.declared.net.Net.{Net}
 use Rattle.net_reader.specs.Text.{node_names_of}
 use Rattle.net_reader.specs.declared.refusal.ReadRefusal.{ReadRefusal}
-use Rattle.net_reader.specs.declared.refusal.ReadRefusal.TheVariants as net
-use Rattle.net_reader.specs.declared.refusal.ReadRefusal.TheVariants.{BadByte, BadLine, DuplicateLink, DuplicatePattern, DuplicateSink, SecondSource, SelfLoop, UnknownLink, RepeatedLink, SecondField, NoSource, NoSink, SinkIsSource}
-use Rattle.net_reader.specs.declared.refusal.What.{What}
-use Rattle.net_reader.specs.declared.refusal.What.TheVariants.{Nodes, Links, Patterns}
+use Rattle.net_reader.specs.RefusalNames as net
+use Rattle.net_reader.specs.RefusalNames.{what_name}
+use Rattle.net_reader.specs.declared.refusal.ReadRefusal.TheVariants.{SinkIsSource, TooMany}
 use Rattle.node_program.specs.declared.code.Code.{Code}
 
 abbrev pub usage_line : List ℕ
@@ -34,34 +34,18 @@ out_of_memory_line = codes "out of memory\n"
 abbrev pub link_fault_line : List ℕ
 link_fault_line = codes "link fault\n"
 
--- of what there are too many in a network text
-abbrev pub what_text : What → List ℕ
-what_text Nodes = codes "Nodes"
-what_text Links = codes "Links"
-what_text Patterns = codes "Patterns"
+-- what stands behind the name of a refusal of a network text: of what there are too many, or the name
+-- of the node, where it is of a sink that is the source
+abbrev pub detail_text : List ℕ → ReadRefusal → List ℕ
+detail_text name (TooMany line what) = codes " " ++ what_name what
+detail_text name (SinkIsSource sink) = codes " " ++ name
+detail_text name why = []
 
--- a refusal of a network text: its line and its name, or its name where it is of the text as a whole
-abbrev pub of_line : ℕ → List ℕ → List ℕ
-of_line line name = codes "line " ++ decimal line ++ codes ": " ++ name
-
--- with the name of the node, where it is of a sink that is the source
+-- a refusal of a network text: its line, where it is of one, and its name
 abbrev pub net_refusal_text : List ℕ → ReadRefusal → List ℕ
-net_refusal_text name (BadByte line) = of_line line (codes "BadByte")
-net_refusal_text name (BadLine line) = of_line line (codes "BadLine")
-net_refusal_text name (net.BadName line) = of_line line (codes "BadName")
-net_refusal_text name (DuplicateLink line) = of_line line (codes "DuplicateLink")
-net_refusal_text name (DuplicatePattern line) = of_line line (codes "DuplicatePattern")
-net_refusal_text name (DuplicateSink line) = of_line line (codes "DuplicateSink")
-net_refusal_text name (SecondSource line) = of_line line (codes "SecondSource")
-net_refusal_text name (SelfLoop line) = of_line line (codes "SelfLoop")
-net_refusal_text name (UnknownLink line) = of_line line (codes "UnknownLink")
-net_refusal_text name (RepeatedLink line) = of_line line (codes "RepeatedLink")
-net_refusal_text name (SecondField line) = of_line line (codes "SecondField")
-net_refusal_text name (net.TooMany line what) = of_line line (codes "TooMany " ++ what_text what)
-net_refusal_text name NoSource = codes "NoSource"
-net_refusal_text name NoSink = codes "NoSink"
-net_refusal_text name (SinkIsSource sink) = codes "SinkIsSource " ++ name
-net_refusal_text name net.OutOfMemory = codes "OutOfMemory"
+net_refusal_text name why =
+    option_map_or (λ line. codes "line " ++ decimal line ++ codes ": ") (net.refusal_line why) []
+    ++ net.refusal_name why ++ detail_text name why
 
 -- the name of that node in a text
 abbrev pub refused_name : List ℕ → ReadRefusal → List ℕ
@@ -80,20 +64,8 @@ order_text net order = on_lines (map (link_name net) order)
 
 -- a refusal of a code file by its name, and where it has a number a space and the number
 abbrev pub refusal_text : CodeRefusal → List ℕ
-refusal_text BadMagic = codes "BadMagic"
-refusal_text BadVersion = codes "BadVersion"
-refusal_text (Truncated at) = codes "Truncated " ++ decimal at
-refusal_text BadField = codes "BadField"
-refusal_text BadRate = codes "BadRate"
-refusal_text (BadName at) = codes "BadName " ++ decimal at
-refusal_text (BadIndex at) = codes "BadIndex " ++ decimal at
-refusal_text (OutOfOrder link) = codes "OutOfOrder " ++ decimal link
-refusal_text (NotRising at) = codes "NotRising " ++ decimal at
-refusal_text (ZeroCoefficient at) = codes "ZeroCoefficient " ++ decimal at
-refusal_text (BadOperand at) = codes "BadOperand " ++ decimal at
-refusal_text (TooMany at) = codes "TooMany " ++ decimal at
-refusal_text (TrailingBytes at) = codes "TrailingBytes " ++ decimal at
-refusal_text OutOfMemory = codes "OutOfMemory"
+refusal_text why =
+    code.refusal_name why ++ option_map_or (λ number. 32 ∷ decimal number) (code.refusal_number why) []
 
 abbrev pub code_refused_line : CodeRefusal → List ℕ
 code_refused_line why = codes "code refused: " ++ refusal_text why ++ codes "\n"

@@ -1,8 +1,9 @@
 //! A code that is read and checked.
-ghost use Rattle.std.specs.Prelude.{◌≡◌, ◌≢◌, ◌≤◌, ◌^◌, Ok, Err, IfOk, IfErr, length};
+ghost use Rattle.std.specs.Prelude.{◌≡◌, ◌≢◌, ◌≤◌, Ok, Err, IfOk, IfErr, length};
 ghost use Rattle.lif_outside.specs.Calls.{MakesCalls};
 ghost use Rattle.code_checker.specs.Checking.{IsRefusal};
 ghost use Rattle.code_file.specs.Items.{bytes_of};
+ghost use Rattle.code_file.specs.Limits.{code_limit};
 ghost use Rattle.top_base.specs.Accepting.{RefusesCodeOrLosesIt, ReadsCode};
 
 use crate::lines::Line;
@@ -10,18 +11,15 @@ use crate::outcome::Outcome;
 use crate::reading::read_whole;
 use crate::status::Status;
 use code_checker::{CheckRefusal, Checked, Refused, check};
-use code_file::{CodeRefusal, read_code};
+use code_file::{CODE_LIMIT, CodeRefusal, read_code};
 use lif_outside::{Gate, Store};
 use node_program::Code;
 use std::alloc::Global;
 use std::thread::Threads;
 
-/// The greatest length of a code file, in bytes.
-const CODE_LIMIT: usize = 268_435_456;
-
 // The code whose file the bytes are.
 fn parse<'a>(alloc: Global, bytes: &[u8]) -> Result<Code, Outcome<'a>>
-    requires { length bytes.now ≤ 2 ^ 28 }
+    requires { length bytes.now ≤ code_limit }
     ensures code { IfOk result (λ code. bytes.now ≡ bytes_of code) }
     ensures refused { IfErr result (λ outcome. RefusesCodeOrLosesIt bytes.now outcome) }
 {

@@ -5,7 +5,8 @@ ghost use Rattle.gf_tables.specs.Product.{mark_of};
 ghost use Rattle.failure_patterns.specs.Demands.{demand_of};
 ghost use Rattle.name_texts.specs.Names.{demand_text};
 ghost use Rattle.net_model.specs.Demands.{demand_count};
-ghost use Rattle.top_base.specs.Lines.{accepted_line, check_failed_line, code_refused_line, code_text, compiled_line, link_fault_line, net_refusal_text, net_refused_line, out_of_memory_line, rate_over_line, read_fault_line, refusal_text, same_path_line, sent_line, too_long_line, too_many_demands_line, unknown_pattern_line, usage_line, what_text, write_fault_line};
+ghost use Rattle.net_model.specs.Limits.{longest_name};
+ghost use Rattle.top_base.specs.Lines.{accepted_line, check_failed_line, code_refused_line, code_text, compiled_line, detail_text, link_fault_line, net_refused_line, out_of_memory_line, rate_over_line, read_fault_line, same_path_line, sent_line, too_long_line, too_many_demands_line, unknown_pattern_line, usage_line, write_fault_line};
 
 use crate::text::{ROOM, ShortText, Text};
 use arrayvec::ArrayVec;
@@ -15,7 +16,7 @@ use gf_tables::FieldKind;
 use itoa::Buffer;
 use name_texts::{pattern_name, sink_name};
 use net_model::{Demand, Net};
-use net_reader::{ReadRefusal, What};
+use net_reader::ReadRefusal;
 use node_program::Code;
 use std::marker::Model;
 
@@ -66,66 +67,17 @@ fn begin(words: &[u8]) -> ShortText
     text
 }
 
-// The name of a refusal, and its number, if it has one.
-fn name_and_number(why: CodeRefusal) -> (&'static [u8], Option<u64>)
-    ensures text { refusal_text why ≡ result.0.now ++ option_map_or (λ number. 32 ∷ decimal number) result.1 [] }
-    ensures short { length result.0.now ≤ 16 }
+// What stands behind the name of a refusal, if anything does: of what there are too many, or the name
+// of the node, where a sink is the source.
+fn detail(why: ReadRefusal, name: &[u8]) -> Option<&[u8]>
+    requires { length name.now ≤ longest_name }
+    ensures text { detail_text name.now why ≡ option_map_or (λ detail. 32 ∷ detail.now) result [] }
+    ensures short { IfSome result (λ detail. length detail.now ≤ longest_name) }
 {
     match why {
-        CodeRefusal::BadMagic => (b"BadMagic", None),
-        CodeRefusal::BadVersion => (b"BadVersion", None),
-        CodeRefusal::Truncated { at } => (b"Truncated", Some(at)),
-        CodeRefusal::BadField => (b"BadField", None),
-        CodeRefusal::BadRate => (b"BadRate", None),
-        CodeRefusal::BadName { at } => (b"BadName", Some(at)),
-        CodeRefusal::BadIndex { at } => (b"BadIndex", Some(at)),
-        CodeRefusal::OutOfOrder { link } => (b"OutOfOrder", Some(u64::from(link))),
-        CodeRefusal::NotRising { at } => (b"NotRising", Some(at)),
-        CodeRefusal::ZeroCoefficient { at } => (b"ZeroCoefficient", Some(at)),
-        CodeRefusal::BadOperand { at } => (b"BadOperand", Some(at)),
-        CodeRefusal::TooMany { at } => (b"TooMany", Some(at)),
-        CodeRefusal::TrailingBytes { at } => (b"TrailingBytes", Some(at)),
-        CodeRefusal::OutOfMemory => (b"OutOfMemory", None),
-    }
-}
-
-// Of what there are too many.
-fn name_of_what(what: What) -> &'static [u8]
-    ensures text { result.now ≡ what_text what }
-    ensures short { length result.now ≤ 32 }
-{
-    match what {
-        What::Nodes => b"Nodes",
-        What::Links => b"Links",
-        What::Patterns => b"Patterns",
-    }
-}
-
-// The line of a refusal, if it is of one, its name, and what follows the name.
-fn parts_of_refusal(why: ReadRefusal, name: &[u8]) -> (Option<u64>, &'static [u8], &[u8])
-    requires { length name.now ≤ 32 }
-    ensures text { net_refusal_text name.now why
-        ≡ option_map_or (λ line. codes "line " ++ decimal line ++ codes ": ") result.0 [] ++ result.1.now ++ result.2.now }
-    ensures short { length result.1.now ≤ 16 }
-    ensures rest_short { length result.2.now ≤ 32 }
-{
-    match why {
-        ReadRefusal::BadByte { line } => (Some(line), b"BadByte", b""),
-        ReadRefusal::BadLine { line } => (Some(line), b"BadLine", b""),
-        ReadRefusal::BadName { line } => (Some(line), b"BadName", b""),
-        ReadRefusal::DuplicateLink { line } => (Some(line), b"DuplicateLink", b""),
-        ReadRefusal::DuplicatePattern { line } => (Some(line), b"DuplicatePattern", b""),
-        ReadRefusal::DuplicateSink { line } => (Some(line), b"DuplicateSink", b""),
-        ReadRefusal::SecondSource { line } => (Some(line), b"SecondSource", b""),
-        ReadRefusal::SelfLoop { line } => (Some(line), b"SelfLoop", b""),
-        ReadRefusal::UnknownLink { line } => (Some(line), b"UnknownLink", b""),
-        ReadRefusal::RepeatedLink { line } => (Some(line), b"RepeatedLink", b""),
-        ReadRefusal::SecondField { line } => (Some(line), b"SecondField", b""),
-        ReadRefusal::TooMany { line, what } => (Some(line), b"TooMany ", name_of_what(what)),
-        ReadRefusal::NoSource => (None, b"NoSource", b""),
-        ReadRefusal::NoSink => (None, b"NoSink", b""),
-        ReadRefusal::SinkIsSource { .. } => (None, b"SinkIsSource ", name),
-        ReadRefusal::OutOfMemory => (None, b"OutOfMemory", b""),
+        ReadRefusal::TooMany { what, .. } => Some(what.name().as_bytes()),
+        ReadRefusal::SinkIsSource { .. } => Some(name),
+        _ => None,
     }
 }
 
@@ -242,18 +194,20 @@ impl<'a> Line<'a> {
 
     /// The text of a network is refused; the name is that of the node, where a sink is the source.
     pub fn net_refused(why: ReadRefusal, name: &[u8]) -> Line<'a>
-        requires { length name.now ≤ 32 }
+        requires { length name.now ≤ longest_name }
         ensures { result ≡ net_refused_line name.now why }
     {
         let mut text = begin(b"net refused: ");
-        let (line, refusal, rest) = parts_of_refusal(why, name);
-        if let Some(line) = line {
+        if let Some(line) = why.line() {
             push(&mut text, b"line ");
             push_number(&mut text, line);
             push(&mut text, b": ");
         }
-        push(&mut text, refusal);
-        push(&mut text, rest);
+        push(&mut text, why.name().as_bytes());
+        if let Some(detail) = detail(why, name) {
+            push(&mut text, b" ");
+            push(&mut text, detail);
+        }
         push(&mut text, b"\n");
         Line::of(text)
     }
@@ -285,10 +239,9 @@ impl<'a> Line<'a> {
     pub fn code_refused(why: CodeRefusal) -> Line<'a>
         ensures { result ≡ code_refused_line why }
     {
-        let (name, number) = name_and_number(why);
         let mut text = begin(b"code refused: ");
-        push(&mut text, name);
-        if let Some(number) = number {
+        push(&mut text, why.name().as_bytes());
+        if let Some(number) = why.number() {
             push(&mut text, b" ");
             push_number(&mut text, number);
         }

@@ -13,12 +13,9 @@ use crate::reading::read_whole;
 use crate::status::{NetWhy, Status};
 use lif_outside::Store;
 use net_model::{LinkList, Net};
-use net_reader::{ReadRefusal, node_name, read_net};
+use net_reader::{NET_LIMIT, ReadRefusal, node_name, read_net};
 use std::alloc::{AllocError, Global};
 use topo_order::{OrderRefusal, order};
-
-/// The greatest length of a network text, in bytes.
-const NET_LIMIT: usize = 4_194_304;
 
 /// A network without a cycle, and its links in order.
 #[derive(Drop)]

@@ -11,7 +11,8 @@ use Rattle.net_model.specs.Demands.{demand_count}
 use Rattle.net_model.specs.declared.net.Net.{Net}
 use Rattle.net_reader.specs.Text.{net_limit}
 use Rattle.topo_order.specs.Order.{order_of}
-use Rattle.top_base.specs.Accepting.{IsCodeOf, RefusesCode, code_limit}
+use Rattle.code_file.specs.Limits.{code_limit}
+use Rattle.top_base.specs.Accepting.{IsCodeOf, RefusesCode}
 use Rattle.top_base.proofs.AcceptingLaws.{code_input}
 use Rattle.top_base.proofs.InspectingLaws.{EndsWell, inspects_known, inspects_used}
 use Rattle.top_base.specs.Lines.{accepted_line, order_text}

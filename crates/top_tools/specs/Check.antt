@@ -1,7 +1,8 @@
 -- The command `check`.
 use Rattle.std.specs.Prelude.{◌≡◌, ℕ, List}
 use Rattle.node_program.specs.declared.code.Code.{Code}
-use Rattle.top_base.specs.Accepting.{IsCodeOf, RefusesCode, code_limit}
+use Rattle.code_file.specs.Limits.{code_limit}
+use Rattle.top_base.specs.Accepting.{IsCodeOf, RefusesCode}
 use Rattle.top_base.specs.Inspecting.{inspects}
 use Rattle.top_base.specs.Lines.{accepted_line}
 use Rattle.top_base.specs.Performs.{Behaviour}

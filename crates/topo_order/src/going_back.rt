@@ -1,21 +1,20 @@
 //! The cycle of a network whose links cannot all be placed.
-ghost use Rattle.std.specs.Prelude.{◌≡◌, ◌<◌, ◌≤◌, All, IfOk, None, drop, false, length, slice_index, slice_index_or};
+ghost use Rattle.std.specs.Prelude.{◌≡◌, ◌<◌, ◌≤◌, All, IfOk, drop, false, length, slice_index, slice_index_or};
 ghost use Rattle.net_model.specs.Walks.{head_of, tail_of};
 ghost use Rattle.topo_order.specs.GoingBack.{IsTurn, IsWalkedFrom};
-ghost use Rattle.topo_order.specs.Order.{IsShownCycle, next_link};
-ghost use Rattle.topo_order.specs.Placing.{IsPlacing};
+ghost use Rattle.topo_order.specs.Order.{IsShownCycle};
+ghost use Rattle.topo_order.specs.Placing.{IsPlacingIn, IsStuck};
 
 use crate::placing::Placing;
 use item_list::ItemList;
-use link_chains::tail;
 use net_model::{LinkList, Net};
 use std::alloc::{AllocError, Global};
 
 // A cycle, where some links aren't placed and none of them may be placed next.
 pub(crate) fn cycle(alloc: Global, net: &Net, placing: &Placing) -> Result<LinkList, AllocError>
-    requires placing { IsPlacing net.now.links (length net.now.nodes) placing.now }
+    requires placing { IsPlacingIn net.now placing.now }
     requires some { length placing.now.order.items < length net.now.links }
-    requires stuck { next_link net.now.links placing.now.order.items ≡ None }
+    requires stuck { IsStuck net.now placing.now }
     ensures { IfOk result (IsShownCycle net.now.links) }
 {
     let (path, from) = path_back(alloc, net, placing)?;
@@ -26,7 +25,7 @@ pub(crate) fn cycle(alloc: Global, net: &Net, placing: &Placing) -> Result<LinkL
 
 // The least link that isn't placed.
 fn first_unplaced(net: &Net, placing: &Placing) -> u32
-    requires placing { IsPlacing net.now.links (length net.now.nodes) placing.now }
+    requires placing { IsPlacingIn net.now placing.now }
     requires some { length placing.now.order.items < length net.now.links }
     ensures within { result < length net.now.links }
     ensures unplaced { slice_index_or placing.now.placed.items result false ≡ false }
@@ -41,23 +40,23 @@ fn first_unplaced(net: &Net, placing: &Placing) -> u32
 
 // A link that isn't placed, into the tail of one that isn't.
 fn back(net: &Net, placing: &Placing, link: u32) -> u32
-    requires placing { IsPlacing net.now.links (length net.now.nodes) placing.now }
-    requires stuck { next_link net.now.links placing.now.order.items ≡ None }
+    requires placing { IsPlacingIn net.now placing.now }
+    requires stuck { IsStuck net.now placing.now }
     requires within { link < length net.now.links }
     requires unplaced { slice_index_or placing.now.placed.items link false ≡ false }
     ensures within { result < length net.now.links }
     ensures unplaced { slice_index_or placing.now.placed.items result false ≡ false }
     ensures leads { head_of net.now.links result ≡ tail_of net.now.links link }
 {
-    placing.into[tail(net, link) as usize]
+    placing.into[net.tail(link) as usize]
 }
 
 // Links that aren't placed, each into the tail of the one before, and the place from which on they are a
 // cycle.
 fn path_back(alloc: Global, net: &Net, placing: &Placing) -> Result<(Vec<u32>, usize), AllocError>
-    requires placing { IsPlacing net.now.links (length net.now.nodes) placing.now }
+    requires placing { IsPlacingIn net.now placing.now }
     requires some { length placing.now.order.items < length net.now.links }
-    requires stuck { next_link net.now.links placing.now.order.items ≡ None }
+    requires stuck { IsStuck net.now placing.now }
     ensures from { IfOk result (λ found. found.1 < length found.0.items) }
     ensures turn { IfOk result (λ found. IsTurn net.now.links (drop found.1 found.0.items)) }
 {
@@ -66,7 +65,7 @@ fn path_back(alloc: Global, net: &Net, placing: &Placing) -> Result<(Vec<u32>, u
     let mut link = first_unplaced(net, placing);
     let mut path = vec![in alloc; link]?;
     loop {
-        let node = tail(net, link) as usize;
+        let node = net.tail(link) as usize;
         let from = seen[node];
         if from != 0 {
             return Ok((path, from));

@@ -1,11 +1,10 @@
 //! Links placed one after another.
 ghost use Rattle.std.specs.Prelude.{◌≡◌, ◌<◌, ◌++◌, ◌∷◌, [], Some, IfOk, OnOk, length, slice_index_or, true, false};
 ghost use Rattle.net_model.specs.Walks.{head_of};
-ghost use Rattle.link_chains.specs.Chains.{AreFirsts, AreNexts};
+ghost use Rattle.link_chains.specs.Chains.{AreFirstsAt, AreNextsAt};
 ghost use Rattle.topo_order.specs.Order.{next_link};
-ghost use Rattle.topo_order.specs.Placing.{IsNextInto, IsPlacing};
+ghost use Rattle.topo_order.specs.Placing.{IsNextInto, IsPlacingIn};
 
-use link_chains::head;
 use net_model::Net;
 use std::alloc::{AllocError, Global};
 
@@ -25,9 +24,9 @@ pub(crate) fn nothing_placed(
     net: &Net,
     first_into: Vec<u32>,
 ) -> Result<Placing, AllocError>
-    requires { AreFirsts (head_of net.now.links) (length net.now.links) (length net.now.nodes) 0 first_into.items }
+    requires { AreFirstsAt net.now true first_into.items }
     ensures empty { IfOk result (λ placing. placing.order.items ≡ []) }
-    ensures placing { IfOk result (λ placing. IsPlacing net.now.links (length net.now.nodes) placing) }
+    ensures placing { IfOk result (IsPlacingIn net.now) }
 {
     let order = Vec::with_capacity(alloc, net.links.len())?;
     let placed = vec![in alloc; false; net.links.len()]?;
@@ -45,16 +44,16 @@ pub(crate) fn place(
     next_into: &[u32],
     link: u32,
 ) -> Result<(), AllocError>
-    requires placing { IsPlacing net.now.links (length net.now.nodes) placing.old }
+    requires placing { IsPlacingIn net.now placing.old }
     requires room { length placing.old.order.items < length net.now.links }
-    requires chain { AreNexts (head_of net.now.links) (length net.now.links) 0 next_into.now }
+    requires chain { AreNextsAt net.now true next_into.now }
     requires next { next_link net.now.links placing.old.order.items ≡ Some link }
-    ensures placing { OnOk result (IsPlacing net.now.links (length net.now.nodes) placing.new) }
+    ensures placing { OnOk result (IsPlacingIn net.now placing.new) }
     ensures order { OnOk result (placing.new.order.items ≡ placing.old.order.items ++ link ∷ []) }
 {
     placing.order.push(link)?;
     placing.placed[link as usize] = true;
-    let node = head(net, link);
+    let node = net.head(link);
     if placing.into[node as usize] == link {
         let next = next_unplaced(net, placing.placed.as_slice(), next_into, link);
         placing.into[node as usize] = next;
@@ -66,7 +65,7 @@ pub(crate) fn place(
 // links.
 fn next_unplaced(net: &Net, placed: &[bool], next_into: &[u32], link: u32) -> u32
     requires flags { length placed.now ≡ length net.now.links }
-    requires chain { AreNexts (head_of net.now.links) (length net.now.links) 0 next_into.now }
+    requires chain { AreNextsAt net.now true next_into.now }
     requires within { link < length net.now.links }
     requires placed { slice_index_or placed.now link false ≡ true }
     ensures { IsNextInto net.now.links placed.now (head_of net.now.links link) link result }

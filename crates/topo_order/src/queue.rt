@@ -1,15 +1,11 @@
 //! The links that may be placed next.
-ghost use Rattle.std.specs.Prelude.{◌≡◌, ◌<◌, ◌+◌, [], true, false, IfOk, OnOk, None, length};
-ghost use Rattle.std.specs.Ordering.{nat_cmp};
-ghost use Rattle.std.specs.BTreeSet.{contains};
-ghost use Rattle.net_model.specs.Walks.{tail_of};
-ghost use Rattle.link_chains.specs.Chains.{AreFirsts, AreNexts};
-ghost use Rattle.topo_order.specs.Order.{next_link};
-ghost use Rattle.topo_order.specs.Placing.{IsPlacing};
-ghost use Rattle.topo_order.specs.Queue.{AreReady, HasLeaving, IsQueue};
+ghost use Rattle.std.specs.Prelude.{◌≡◌, ◌<◌, [], true, false, IfOk, OnOk, length};
+ghost use Rattle.link_chains.specs.Chains.{AreFirstsAt, AreNextsAt};
+ghost use Rattle.topo_order.specs.Placing.{HasSameOrder, IsOneLonger, IsPlacingIn, IsStuck};
+ghost use Rattle.topo_order.specs.Queue.{HasAlso, HasReady, IsQueueIn};
 
 use crate::placing::{Placing, nothing_placed, place};
-use link_chains::{Chains, chains_of, head, tail};
+use link_chains::{Chains, chains_of};
 use net_model::Net;
 use std::alloc::{AllocError, Global};
 use std::collections::BTreeSet;
@@ -26,8 +22,8 @@ pub(crate) struct Queue {
 // Nothing placed, and what may be placed first.
 pub(crate) fn start(alloc: Global, net: &Net) -> Result<(Placing, Queue), AllocError>
     ensures empty { IfOk result (λ start. start.0.order.items ≡ []) }
-    ensures placing { IfOk result (λ start. IsPlacing net.now.links (length net.now.nodes) start.0) }
-    ensures queue { IfOk result (λ start. IsQueue net.now.links (length net.now.nodes) start.0.order.items start.1) }
+    ensures placing { IfOk result (λ start. IsPlacingIn net.now start.0) }
+    ensures queue { IfOk result (λ start. IsQueueIn net.now start.0 start.1) }
 {
     let into = chains_of(alloc, net, true)?;
     let from = chains_of(alloc, net, false)?;
@@ -52,13 +48,13 @@ pub(crate) fn start(alloc: Global, net: &Net) -> Result<(Placing, Queue), AllocE
 
 // The links that may be placed first.
 fn first_ready(alloc: Global, net: &Net, placing: &Placing) -> Result<BTreeSet<u32>, AllocError>
-    requires { IsPlacing net.now.links (length net.now.nodes) placing.now }
-    ensures { IfOk result (λ ready. AreReady net.now.links placing.now.order.items (length net.now.links) (contains nat_cmp ready)) }
+    requires { IsPlacingIn net.now placing.now }
+    ensures { IfOk result (HasReady net.now placing.now) }
 {
     let count = net.links.len() as u32;
     let mut ready = BTreeSet::new(alloc);
     for link in 0..count {
-        if !placing.placed[link as usize] && placing.into[tail(net, link) as usize] == count {
+        if !placing.placed[link as usize] && placing.into[net.tail(link) as usize] == count {
             let _ = ready.insert(link)?;
         }
     }
@@ -71,20 +67,20 @@ pub(crate) fn place_next(
     placing: &mut Placing,
     queue: &mut Queue,
 ) -> Result<bool, AllocError>
-    requires placing { IsPlacing net.now.links (length net.now.nodes) placing.old }
-    requires queue { IsQueue net.now.links (length net.now.nodes) placing.old.order.items queue.old }
+    requires placing { IsPlacingIn net.now placing.old }
+    requires queue { IsQueueIn net.now placing.old queue.old }
     requires room { length placing.old.order.items < length net.now.links }
-    ensures placing { OnOk result (IsPlacing net.now.links (length net.now.nodes) placing.new) }
-    ensures queue { IfOk result (λ placed. placed ≡ true → IsQueue net.now.links (length net.now.nodes) placing.new.order.items queue.new) }
-    ensures more { IfOk result (λ placed. placed ≡ true → length placing.new.order.items ≡ length placing.old.order.items + 1) }
-    ensures stuck { IfOk result (λ placed. placed ≡ false → next_link net.now.links placing.new.order.items ≡ None) }
-    ensures same { IfOk result (λ placed. placed ≡ false → placing.new.order.items ≡ placing.old.order.items) }
+    ensures placing { OnOk result (IsPlacingIn net.now placing.new) }
+    ensures queue { IfOk result (λ found. found ≡ true → IsQueueIn net.now placing.new queue.new) }
+    ensures more { IfOk result (λ found. found ≡ true → IsOneLonger placing.old placing.new) }
+    ensures stuck { IfOk result (λ found. found ≡ false → IsStuck net.now placing.new) }
+    ensures same { IfOk result (λ found. found ≡ false → HasSameOrder placing.old placing.new) }
 {
     let Some(link) = queue.ready.pop_first() else {
         return Ok(false);
     };
     place(net, placing, queue.next_into.as_slice(), link)?;
-    let node = head(net, link);
+    let node = net.head(link);
     let count = net.links.len() as u32;
     if placing.into[node as usize] == count {
         add_leaving(
@@ -106,10 +102,10 @@ fn add_leaving(
     nexts: &[u32],
     node: u32,
 ) -> Result<(), AllocError>
-    requires firsts { AreFirsts (tail_of net.now.links) (length net.now.links) (length net.now.nodes) 0 firsts.now }
-    requires nexts { AreNexts (tail_of net.now.links) (length net.now.links) 0 nexts.now }
+    requires firsts { AreFirstsAt net.now false firsts.now }
+    requires nexts { AreNextsAt net.now false nexts.now }
     requires node { node < length net.now.nodes }
-    ensures { OnOk result (HasLeaving net.now.links node (contains nat_cmp ready.old) (contains nat_cmp ready.new)) }
+    ensures { OnOk result (HasAlso net.now node ready.old ready.new) }
 {
     let count = net.links.len() as u32;
     let mut link = firsts[node as usize];

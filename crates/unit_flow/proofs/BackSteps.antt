@@ -8,8 +8,8 @@ use Rattle.std.proofs.lemmas.List.Sums.{position_or_len_is}
 use Rattle.net_model.specs.Flows.{FlowNetwork, is_on}
 use Rattle.net_model.specs.Walks.{head_of, tail_of}
 use Rattle.net_model.specs.declared.Link.{Link}
-use Rattle.unit_flow.specs.Carrying.{IsCarried, IsCarriedFrom}
-use Rattle.unit_flow.proofs.CarryingLaws.{IsCarriedFrom-freed, IsCarriedFrom-used, is_free-set_other, is_used-set_other}
+use Rattle.unit_flow.specs.Conservation.{IsConserved, IsConservedFrom}
+use Rattle.unit_flow.proofs.ConservationLaws.{IsConservedFrom-freed, IsConservedFrom-used, is_free-set_other, is_used-set_other}
 use Rattle.unit_flow.proofs.PassageLaws.{free_alone, passage_cases}
 use Rattle.unit_flow.specs.Residual.{is_free, is_used, passage}
 use Rattle.unit_flow.specs.Searching.{CameByLink, IsQueue, link_at, node_at}
@@ -28,7 +28,7 @@ place_of-node_at network states search place is inside =
     (λ k before. ne_eqb _ _ (is.distinct k place before inside))
     (λ within. eq-eqb _ _ refl)
 
--- from the sink back to a node, the links by which the nodes were reached are turned, and no others: so the used links carry a unit more from that node on
+-- from the sink back to a node, the links by which the nodes were reached are turned, and no others: so the used links are a flow with a unit more from that node on
 pub record IsGoingBack (network : FlowNetwork) (old : List LinkState) (search : Search) (states : List LinkState) (place node : ℕ) : Type 0 where
   pub each_link : length states ≡ length network.links
   pub inside : place < search.queued
@@ -36,7 +36,7 @@ pub record IsGoingBack (network : FlowNetwork) (old : List LinkState) (search : 
   pub before_sink : (k : ℕ) → k < place → node_at search k ≢ network.sink
   pub free : (k : ℕ) → 0 < k → k ≤ place → is_free states (link_at search k) ≡ is_free old (link_at search k)
   pub used : (k : ℕ) → 0 < k → k ≤ place → is_used states (link_at search k) ≡ is_used old (link_at search k)
-  pub carried : (value : ℕ) → IsCarried network old value → IsCarriedFrom network states value node
+  pub conserved : (value : ℕ) → IsConserved network old value → IsConservedFrom network states value node
 
 -- at the sink
 pub back_none : (network : FlowNetwork) (old : List LinkState) (search : Search) → IsQueue network old search → length old ≡ length network.links → is_on search.reached.items network.sink ≡ true
@@ -53,7 +53,7 @@ back_none network old search is whole on =
       before_sink = λ k before same. is.distinct k there.0 before there.1 (same ∙ sym there.2);
       free = λ k some early. refl;
       used = λ k some early. refl;
-      carried = λ value carried. carried;
+      conserved = λ value conserved. conserved;
     })
 
 -- a link leads to one node, from wherever it is passed
@@ -112,17 +112,17 @@ module _ (network : FlowNetwork) (old : List LinkState) (search : Search) (state
     used_same : is_used states link ≡ is_used old link
     used_same = let Used_same : ℕ → Type 0 = λ l. is_used states l ≡ is_used old l in subst Used_same same (is.used place some (omega arith))
 
-    -- whatever state the link gets, all but what is carried stays
-    turned : (state : LinkState) (next : ℕ) → node_at search came.from ≡ next → ((value : ℕ) → IsCarried network old value → IsCarriedFrom network (slice_set states link state) value next)
+    -- whatever state the link gets, all but the flow stays
+    turned : (state : LinkState) (next : ℕ) → node_at search came.from ≡ next → ((value : ℕ) → IsConserved network old value → IsConservedFrom network (slice_set states link state) value next)
         → IsGoingBack network old search (slice_set states link state) came.from next
-    turned state next at carried = record {
+    turned state next at conserved = record {
       each_link = length-set states link state ∙ is.each_link;
       inside = omega (arith, came.before, is.inside);
       at = at;
       before_sink = λ k early. is.before_sink k (omega (arith, came.before));
       free = λ k more early. is_free-set_other states link (link_at search k) state (others k more early) ∙ is.free k more (omega (arith, came.before));
       used = λ k more early. is_used-set_other states link (link_at search k) state (others k more early) ∙ is.used k more (omega (arith, came.before));
-      carried = carried;
+      conserved = conserved;
     }
 
     -- a free link is used then, and a used one free
@@ -133,16 +133,16 @@ module _ (network : FlowNetwork) (old : List LinkState) (search : Search) (state
         let Cases : Bool → Type 0 = λ used. Back (cond used Free Used) (cond used (head_of network.links link) (tail_of network.links link)) in
         let cases : Cases (is_used states link) = elim (passage_cases network.links old link (node_at search came.from) node leads) [
           | inl forward ↦
-              let Carried : ℕ → ℕ → Type 0 = λ value from. IsCarriedFrom network states value from in
+              let Conserved : ℕ → ℕ → Type 0 = λ value from. IsConservedFrom network states value from in
               let unused : is_used states link ≡ false = used_same ∙ (free_alone old link forward.0).0 in
               subst Cases (sym unused)
-              (turned Used (tail_of network.links link) forward.1 (λ value carried.
-              IsCarriedFrom-used network states value link (subst (Carried value) forward.2 (is.carried value carried)) within (free_same ∙ forward.0) (λ at. apart (forward.2 ∙ at))
+              (turned Used (tail_of network.links link) forward.1 (λ value conserved.
+              IsConservedFrom-used network states value link (subst (Conserved value) forward.2 (is.conserved value conserved)) within (free_same ∙ forward.0) (λ at. apart (forward.2 ∙ at))
               (λ at. is.before_sink came.from came.before (forward.1 ∙ at))))
           | inr back ↦
-              let Carried : ℕ → ℕ → Type 0 = λ value from. IsCarriedFrom network states value from in
+              let Conserved : ℕ → ℕ → Type 0 = λ value from. IsConservedFrom network states value from in
               subst Cases (sym (used_same ∙ back.0))
-              (turned Free (head_of network.links link) back.1 (λ value carried. IsCarriedFrom-freed network states value link (subst (Carried value) back.2 (is.carried value carried)) within (used_same ∙ back.0)))
+              (turned Free (head_of network.links link) back.1 (λ value conserved. IsConservedFrom-freed network states value link (subst (Conserved value) back.2 (is.conserved value conserved)) within (used_same ∙ back.0)))
         ] in
         let Back_to : List LinkState → ℕ → Type 0 = λ some to. IsGoingBack network old search some came.from to in
         subst (λ some. Back_to some next) (sym new_is) (subst (Back_to _) (sym next_is) cases)

@@ -7,9 +7,9 @@ use Rattle.link_chains.specs.Chains.{AreFirsts, AreNexts}
 use Rattle.net_model.proofs.ListLaws.{find_first, find_least, find_nothing}
 use Rattle.net_model.specs.Walks.{tail_of}
 use Rattle.net_model.specs.declared.Link.{Link}
-use Rattle.unit_flow.proofs.CarryingLaws.{is_used-set_other, is_used-set_same, used_leaving_is}
+use Rattle.unit_flow.proofs.ConservationLaws.{is_used-set_other, is_used-set_same, used_leaving_is}
 use Rattle.unit_flow.specs.Residual.{is_used}
-use Rattle.unit_flow.specs.Splitting.{used_leaving}
+use Rattle.unit_flow.specs.Decomposition.{used_leaving}
 use Rattle.unit_flow.specs.Taking.{AreCursors, IsCursor}
 use Rattle.unit_flow.specs.declared.residual.LinkState.{LinkState}
 use Rattle.unit_flow.specs.declared.residual.LinkState.TheVariants.{Free}

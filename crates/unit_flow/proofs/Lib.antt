@@ -1,5 +1,5 @@
-pub mod CarryingLaws
-pub mod SplittingLaws
+pub mod ConservationLaws
+pub mod DecompositionLaws
 pub mod CountLaws
 pub mod PassageLaws
 pub mod SideLaws

@@ -1,4 +1,4 @@
--- What the used links carry across a side, and what that says of the links that cross it.
+-- The flow of the used links across a side, and what that says of the links that cross it.
 use Rattle.std.specs.Prelude.{◌≡◌, ◌≢◌, ◌<◌, ◌≤◌, ◌+◌, ℕ, Bool, true, false, ◌&&◌, ◌==◌, cond, List, length, count_by, sum_by}
 use Rattle.std.specs.List.{range_with_len}
 use Rattle.std.proofs.Common.{refl, sym, ◌∙◌, ap, subst, arith, inl, inr}
@@ -8,18 +8,18 @@ use Rattle.net_model.proofs.FlowLaws.{IsGreatestFlow-from_crossing, IsLeastCross
 use Rattle.net_model.specs.Flows.{FlowNetwork, IsGreatestFlow, IsLeastCrossed, IsLeastSide, IsSide, crossing, is_on, leaves}
 use Rattle.net_model.specs.Lists.{is_among}
 use Rattle.net_model.specs.Walks.{head_of, tail_of}
-use Rattle.unit_flow.specs.Carrying.{IsCarried, IsFlowNetwork, used_from, used_into}
+use Rattle.unit_flow.specs.Conservation.{IsConserved, IsFlowNetwork, used_from, used_into}
 use Rattle.unit_flow.proofs.CountLaws.{All-range, All-range_at, IsDistinct-range, count_by-implied, count_by-keys_on, count_by-none, count_by-same, count_by-split, is_among-range, none-count_by, same-count_by, sum_by-add, sum_by-same, sum_by-single}
 use Rattle.unit_flow.proofs.PassageLaws.{free_alone, free_or_used, is_used-within, passage-free, passage-used, passage_cases, used_alone}
 use Rattle.unit_flow.specs.Reaching.{IsClosed, IsReached}
 use Rattle.unit_flow.specs.Residual.{AreStates, is_used}
 use Rattle.unit_flow.specs.Sides.{leads_in, leads_out, used_in, used_out}
-use Rattle.unit_flow.specs.Splitting.{paths_of}
-use Rattle.unit_flow.proofs.SplittingLaws.{IsFlow-paths_of, length-paths_of}
+use Rattle.unit_flow.specs.Decomposition.{paths_of}
+use Rattle.unit_flow.proofs.DecompositionLaws.{IsFlow-paths_of, length-paths_of}
 use Rattle.unit_flow.specs.declared.residual.LinkState.{LinkState}
 
--- used links that carry so many units, and a side
-module _ (network : FlowNetwork) (states : List LinkState) (value : ℕ) (side : List Bool) (is : IsFlowNetwork network) (carried : IsCarried network states value) (is_side : IsSide network side) where
+-- used links that are a flow of so many units, and a side
+module _ (network : FlowNetwork) (states : List LinkState) (value : ℕ) (side : List Bool) (is : IsFlowNetwork network) (conserved : IsConserved network states value) (is_side : IsSide network side) where
   -- what leaves a node on the side is what leads into it and, at the source, the units that it gives
   at_node : (node : ℕ) → cond (is_on side node) (used_from network.links states node) 0 ≡ cond (is_on side node) (used_into network.links states node) 0 + cond (node == network.source) value 0
   at_node node = at (is_on side node) (node == network.source) refl refl
@@ -28,14 +28,14 @@ module _ (network : FlowNetwork) (states : List LinkState) (value : ℕ) (side :
           → cond on (used_from network.links states node) 0 ≡ cond on (used_into network.links states node) 0 + cond here value 0
       at true true on here =
           let same : node ≡ network.source = eqb-true _ _ here in
-          let from = subst (λ n. used_from network.links states n ≡ value + cond (network.sink == network.source) 1 0) (sym same) carried.from_source in
-          let into : used_into network.links states node ≡ 0 = subst (λ n. used_into network.links states n ≡ 0) (sym same) carried.into_source in
+          let from = subst (λ n. used_from network.links states n ≡ value + cond (network.sink == network.source) 1 0) (sym same) conserved.from_source in
+          let into : used_into network.links states node ≡ 0 = subst (λ n. used_into network.links states n ≡ 0) (sym same) conserved.into_source in
           let none = cond-false {A = ℕ} (network.sink == network.source) 1 0 (ne_eqb _ _ (λ alike. is.apart (sym alike))) in
           omega arith
       at true false on here =
           let sink : node ≢ network.sink = λ same. both_ways (is_on side node) (ap (is_on side) same ∙ is_side.sink) on in
           let none = cond-false {A = ℕ} (network.sink == node) 1 0 (ne_eqb _ _ (λ alike. sink (sym alike))) in
-          let balance = carried.balance node (eqb-false _ _ here) sink in
+          let balance = conserved.balance node (eqb-false _ _ here) sink in
           omega arith
       at false true on here = absurd (both_ways (is_on side node) on (ap (is_on side) (eqb-true _ _ here) ∙ is_side.source))
       at false false on here = omega arith
@@ -50,8 +50,8 @@ module _ (network : FlowNetwork) (states : List LinkState) (value : ℕ) (side :
       (All-range (λ link. is_used states link ≡ true → is_among nodes (end link) ≡ true) (length network.links) (λ link within used. is_among-range network.nodes (end link) (inside link within)))
 
   -- the used links that lead off a side are as many as those that lead onto it and the units from the source
-  pub carried_across : used_out network.links states side ≡ value + used_in network.links states side
-  carried_across =
+  pub conserved_across : used_out network.links states side ≡ value + used_in network.links states side
+  conserved_across =
       let links = range_with_len 0 (length network.links) in
       let nodes = range_with_len 0 network.nodes in
       let from : ℕ → Bool = λ link. is_used states link && is_on side (tail_of network.links link) in
@@ -134,26 +134,26 @@ crossing-closed network states side are closed =
         ]
 
 -- as many links as there are units cross a closed side
-pub length-crossing_closed : (network : FlowNetwork) (states : List LinkState) (value : ℕ) (side : List Bool) → IsFlowNetwork network → IsCarried network states value → IsSide network side
+pub length-crossing_closed : (network : FlowNetwork) (states : List LinkState) (value : ℕ) (side : List Bool) → IsFlowNetwork network → IsConserved network states value → IsSide network side
     → IsClosed network.links states side → length (crossing network side) ≡ value
-length-crossing_closed network states value side is carried is_side closed =
-    let parts = crossing-closed network states side carried.are_states closed in
-    omega (arith, carried_across network states value side is carried is_side, parts.0, parts.1)
+length-crossing_closed network states value side is conserved is_side closed =
+    let parts = crossing-closed network states side conserved.are_states closed in
+    omega (arith, conserved_across network states value side is conserved is_side, parts.0, parts.1)
 
 -- a side that as many links cross as there are units is closed
-pub IsClosed-least : (network : FlowNetwork) (states : List LinkState) (value : ℕ) (side : List Bool) → IsFlowNetwork network → IsCarried network states value → IsSide network side
+pub IsClosed-least : (network : FlowNetwork) (states : List LinkState) (value : ℕ) (side : List Bool) → IsFlowNetwork network → IsConserved network states value → IsSide network side
     → length (crossing network side) ≡ value → IsClosed network.links states side
-IsClosed-least network states value side is carried is_side few link node next within on leads =
-    let across = carried_across network states value side is carried is_side in
-    let most = used_out-le-crossing network states side carried.are_states in
+IsClosed-least network states value side is conserved is_side few link node next within on leads =
+    let across = conserved_across network states value side is conserved is_side in
+    let most = used_out-le-crossing network states side conserved.are_states in
     let none : used_in network.links states side ≡ 0 = omega arith in
     let whole : used_out network.links states side ≡ length (crossing network side) = omega arith in
     true_from_ne_false (is_on side next) (λ off. elim (passage_cases network.links states link node next leads) [
       | inl forward ↦
           let alone = free_alone states link forward.0 in
-          let working : is_among network.failed link ≡ false = sym (carried.are_states.failed link within) ∙ alone.1 in
+          let working : is_among network.failed link ≡ false = sym (conserved.are_states.failed link within) ∙ alone.1 in
           let crosses : leaves network side link ≡ true = and_from _ _ (and_from _ _ (not_from_false _ working) (ap (is_on side) (sym forward.1) ∙ on)) (not_from_false _ (ap (is_on side) (sym forward.2) ∙ off)) in
-          both_ways _ alone.0 (is_used-crossing network states side carried.are_states whole link within crosses)
+          both_ways _ alone.0 (is_used-crossing network states side conserved.are_states whole link within crosses)
       | inr back ↦
           let onto : leads_in network.links states side link ≡ true = and_from _ _ (and_from _ _ back.0 (ap (is_on side) (sym back.1) ∙ on)) (not_from_false _ (ap (is_on side) (sym back.2) ∙ off)) in
           both_ways _ (All-range_at (λ n. leads_in network.links states side n ≡ false) (length network.links) (none-count_by (leads_in network.links states side) (range_with_len 0 (length network.links)) none) link within) onto
@@ -164,36 +164,36 @@ pub IsSide-reached : (network : FlowNetwork) (states : List LinkState) (side : L
 IsSide-reached network states side reached off = record { whole = reached.whole; source = reached.source; sink = off }
 
 -- as many links as there are units cross it
-pub length-crossing_reached : (network : FlowNetwork) (states : List LinkState) (value : ℕ) (side : List Bool) → IsFlowNetwork network → IsCarried network states value → IsReached network states side
+pub length-crossing_reached : (network : FlowNetwork) (states : List LinkState) (value : ℕ) (side : List Bool) → IsFlowNetwork network → IsConserved network states value → IsReached network states side
     → is_on side network.sink ≡ false → length (crossing network side) ≡ value
-length-crossing_reached network states value side is carried reached off =
-    length-crossing_closed network states value side is carried (IsSide-reached network states side reached off) reached.closed
+length-crossing_reached network states value side is conserved reached off =
+    length-crossing_closed network states value side is conserved (IsSide-reached network states side reached off) reached.closed
 
--- and as many as there are paths that carry them
-pub length-paths_reached : (network : FlowNetwork) (states : List LinkState) (value : ℕ) (side : List Bool) → IsFlowNetwork network → IsCarried network states value → IsReached network states side
+-- and as many as there are paths
+pub length-paths_reached : (network : FlowNetwork) (states : List LinkState) (value : ℕ) (side : List Bool) → IsFlowNetwork network → IsConserved network states value → IsReached network states side
     → is_on side network.sink ≡ false → length (paths_of network value states) ≡ length (crossing network side)
-length-paths_reached network states value side is carried reached off =
-    length-paths_of network value states ∙ sym (length-crossing_reached network states value side is carried reached off)
+length-paths_reached network states value side is conserved reached off =
+    length-paths_of network value states ∙ sym (length-crossing_reached network states value side is conserved reached off)
 
 -- which are a greatest flow
-pub IsGreatestFlow-reached : (network : FlowNetwork) (states : List LinkState) (value : ℕ) (side : List Bool) → IsFlowNetwork network → IsCarried network states value → IsReached network states side
+pub IsGreatestFlow-reached : (network : FlowNetwork) (states : List LinkState) (value : ℕ) (side : List Bool) → IsFlowNetwork network → IsConserved network states value → IsReached network states side
     → is_on side network.sink ≡ false → IsGreatestFlow network (paths_of network value states)
-IsGreatestFlow-reached network states value side is carried reached off =
-    IsGreatestFlow-from_crossing network (paths_of network value states) side (IsFlow-paths_of network value states is carried) (IsSide-reached network states side reached off)
-    (length-paths_reached network states value side is carried reached off)
+IsGreatestFlow-reached network states value side is conserved reached off =
+    IsGreatestFlow-from_crossing network (paths_of network value states) side (IsFlow-paths_of network value states is conserved) (IsSide-reached network states side reached off)
+    (length-paths_reached network states value side is conserved reached off)
 
 -- it lies in every other side that is crossed by as few links as a least cut has
-pub IsLeastSide-reached : (network : FlowNetwork) (states : List LinkState) (value : ℕ) (side : List Bool) → IsFlowNetwork network → IsCarried network states value → IsReached network states side
+pub IsLeastSide-reached : (network : FlowNetwork) (states : List LinkState) (value : ℕ) (side : List Bool) → IsFlowNetwork network → IsConserved network states value → IsReached network states side
     → is_on side network.sink ≡ false → IsLeastSide network side
-IsLeastSide-reached network states value side is carried reached off =
-    let few = length-crossing_reached network states value side is carried reached off in
+IsLeastSide-reached network states value side is conserved reached off =
+    let few = length-crossing_reached network states value side is conserved reached off in
     let crossed : IsLeastCrossed network side =
-    IsLeastCrossed-from_flow network (paths_of network value states) side (IsFlow-paths_of network value states is carried) (IsSide-reached network states side reached off)
-    (length-paths_reached network states value side is carried reached off) in
+    IsLeastCrossed-from_flow network (paths_of network value states) side (IsFlow-paths_of network value states is conserved) (IsSide-reached network states side reached off)
+    (length-paths_reached network states value side is conserved reached off) in
     record {
       crossed = crossed;
       inside = λ other least node on.
           let one = crossed.least.least (crossing network other) least.least.is_cut in
           let two = least.least.least (crossing network side) crossed.least.is_cut in
-          reached.least other least.is_side.source (IsClosed-least network states value other is carried least.is_side (omega arith)) node on;
+          reached.least other least.is_side.source (IsClosed-least network states value other is conserved least.is_side (omega arith)) node on;
     }

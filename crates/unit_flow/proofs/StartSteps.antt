@@ -13,7 +13,7 @@ use Rattle.net_model.specs.Failed.{failed_links}
 use Rattle.net_model.specs.Lists.{is_among}
 use Rattle.net_model.specs.Network.{is_listed_pattern, are_patterns}
 use Rattle.net_model.specs.declared.Pattern.{Pattern}
-use Rattle.unit_flow.proofs.CarryingLaws.{is_failed-set_other, is_failed-set_same, is_used-set_other, is_used-set_same}
+use Rattle.unit_flow.proofs.ConservationLaws.{is_failed-set_other, is_failed-set_same, is_used-set_other, is_used-set_same}
 use Rattle.unit_flow.specs.Residual.{is_failed_state, is_used_state, is_failed, is_used}
 use Rattle.unit_flow.specs.declared.residual.LinkState.{LinkState}
 use Rattle.unit_flow.specs.declared.residual.LinkState.TheVariants.{Free, Failed}

@@ -1,8 +1,10 @@
 pub mod Residual
-pub mod Carrying
-pub mod Splitting
+pub mod Conservation
+pub mod Decomposition
 pub mod Taking
+pub mod FlowOf
 pub mod Reaching
 pub mod Visits
+pub mod Greatest
 pub mod Sides
 pub mod Searching

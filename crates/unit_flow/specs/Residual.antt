@@ -1,11 +1,12 @@
 -- Residual networks: which links may be passed, from which of their ends.
 use Rattle.std.specs.Prelude.{◌≡◌, ◌<◌, ℕ, Bool, true, false, ◌&&◌, ◌==◌, if◌then◌else◌, List, length, slice_get, Option, Some, None}
 use Rattle.std.specs.Option.{option_map_or}
-use Rattle.net_model.specs.Flows.{FlowNetwork}
+use Rattle.net_model.specs.Flows.{FlowNetwork, flow_network}
 use Rattle.net_model.specs.Lists.{is_among}
 use Rattle.net_model.specs.Walks.{head_of, tail_of}
 use Rattle.net_model.specs.declared.Demand.{Demand}
 use Rattle.net_model.specs.declared.Link.{Link}
+use Rattle.net_model.specs.declared.net.Net.{Net}
 use Rattle.unit_flow.specs.declared.residual.LinkState.{LinkState}
 use Rattle.unit_flow.specs.declared.residual.LinkState.TheVariants.{Free, Used, Failed}
 
@@ -39,13 +40,25 @@ is_used states link = option_map_or is_used_state (slice_get states link) false
 abbrev pub is_failed : List LinkState → ℕ → Bool
 is_failed states link = option_map_or is_failed_state (slice_get states link) false
 
--- the node that a link leads to when it is passed from a node: a free link from its tail, a used one from its head
+-- the node that a link leads to when it is passed from a node: a free link from its tail, a used
+-- one from its head
 abbrev pub passage : List Link → List LinkState → ℕ → ℕ → Option ℕ
 passage links states link from =
     if is_free states link && (from == tail_of links link) then Some (head_of links link)
-    else (if is_used states link && (from == head_of links link) then Some (tail_of links link) else None)
+    else
+    (if is_used states link && (from == head_of links link) then Some (tail_of links link)
+    else None)
 
 -- the states are those of a flow network's links: failed are those that failed
 pub record AreStates (network : FlowNetwork) (states : List LinkState) : Type 0 where
   pub each_link : length states ≡ length network.links
-  pub failed : (link : ℕ) → link < length network.links → is_failed states link ≡ is_among network.failed link
+  pub failed : (link : ℕ) → link < length network.links
+      → is_failed states link ≡ is_among network.failed link
+
+-- the states of a residual network are those of the links under a demand
+abbrev pub HasStates : Net → Demand → ResidualNetwork → Type 0
+HasStates net demand residual = AreStates (flow_network net demand) residual.states
+
+-- no link is used
+abbrev pub IsUnused : ResidualNetwork → Type 0
+IsUnused residual = (link : ℕ) → is_used residual.states link ≡ false

@@ -3,14 +3,11 @@ use Rattle.std.specs.Prelude.{◌≡◌, ◌<◌, ◌≤◌, ℕ, suc, false, Li
 use Rattle.net_model.specs.Flows.{FlowNetwork}
 use Rattle.net_model.specs.Walks.{tail_of}
 use Rattle.net_model.specs.declared.Link.{Link}
-use Rattle.unit_flow.specs.Carrying.{IsCarried}
 use Rattle.unit_flow.specs.Residual.{is_used}
-use Rattle.unit_flow.specs.Splitting.{Taken, taken_from}
+use Rattle.unit_flow.specs.Decomposition.{Taken, taken_from}
 use Rattle.unit_flow.specs.declared.residual.LinkState.{LinkState}
-
--- the used links carry at least one unit
-abbrev pub CarriesSome : FlowNetwork → List LinkState → Type 0
-CarriesSome network states = (value : ℕ) × IsCarried network states (suc value)
+use Rattle.unit_flow.specs.declared.decomposing.Undecomposed.{Undecomposed}
+use Rattle.net_model.specs.declared.net.Net.{Net}
 
 -- the first path, and the states without it
 abbrev pub first_taken : FlowNetwork → List LinkState → Taken
@@ -23,6 +20,12 @@ pub record IsCursor (links : List Link) (states : List LinkState) (node link : �
   pub before : (l : ℕ) → l < link → tail_of links l ≡ node → is_used states l ≡ false
 
 -- one for each node
-pub record AreCursors (links : List Link) (nodes : ℕ) (states : List LinkState) (cursors : List ℕ) : Type 0 where
+pub record AreCursors (links : List Link) (nodes : ℕ) (states : List LinkState)
+    (cursors : List ℕ) : Type 0 where
   pub each_node : length cursors ≡ nodes
   pub cursor : (node : ℕ) → node < nodes → IsCursor links states node (slice_index cursors node)
+
+-- those of the used links that are on no path yet
+abbrev pub HasCursors : Net → Undecomposed → Type 0
+HasCursors net undecomposed =
+    AreCursors net.links (length net.nodes) undecomposed.residual.states undecomposed.cursors.items

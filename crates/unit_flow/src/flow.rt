@@ -1,15 +1,15 @@
 //! The greatest flow of a demand, and its least side.
-ghost use Rattle.std.specs.Prelude.{◌≡◌, ◌<◌, ℕ, IfOk, IsTrue, List, length, map, slice_index};
-ghost use Rattle.counted_steps.specs.Steps.{RoseByAtMost};
+ghost use Rattle.std.specs.Prelude.{◌<◌, IfOk, IsTrue, length};
 ghost use Rattle.link_chains.specs.Wiring.{IsWiring};
-ghost use Rattle.net_model.specs.Flows.{IsCut, IsGreatestFlow, IsLeastSide, crossing, flow_network};
+ghost use Rattle.net_model.specs.Flows.{IsLeastSide, flow_network};
 ghost use Rattle.net_model.specs.Lists.{is_rising};
-ghost use Rattle.unit_flow.specs.Visits.{visit_bound};
+ghost use Rattle.unit_flow.specs.Greatest.{CrossesAsOften, IsGreatest, first_links};
+ghost use Rattle.unit_flow.specs.Visits.{AreFewVisits};
 
-use crate::growing::grow;
+use crate::augmenting::augment;
+use crate::decomposing::decompose;
 use crate::residual::Residual;
 use crate::search::Search;
-use crate::splitting::split;
 use counted_steps::Steps;
 use item_list::ItemList;
 use link_chains::{Wiring, wiring_of};
@@ -40,13 +40,13 @@ pub fn max_flow<L: Ledger>(
 ) -> Result<Flow, AllocError>
     requires sink { demand.sink < length net.now.sinks }
     requires pattern { demand.pattern < length net.now.patterns }
-    ensures greatest { IfOk result (λ flow. IsGreatestFlow (flow_network net.now demand) flow.paths) }
-    ensures rising { IfOk result (λ flow. IsTrue (is_rising (map (λ path. slice_index path 0) flow.paths))) }
+    ensures greatest { IfOk result (IsGreatest net.now demand) }
+    ensures rising { IfOk result (λ flow. IsTrue (is_rising (first_links flow.paths))) }
     ensures side { IfOk result (λ flow. IsLeastSide (flow_network net.now demand) flow.side) }
-    ensures as_many { IfOk result (λ flow. length flow.paths ≡ length (crossing (flow_network net.now demand) flow.side)) }
+    ensures as_many { IfOk result (CrossesAsOften net.now demand) }
 
     // Twice each link for each search, of which there is at most one more than each cut has links.
-    ensures ticks { (cut : List ℕ) → IsCut (flow_network net.now demand) cut → RoseByAtMost (visit_bound (length net.now.links) (length cut)) steps.old steps.new }
+    ensures ticks { AreFewVisits net.now demand steps.old steps.new }
 {
     let wiring = wiring_of(alloc, net)?;
     max_flow_along(alloc, net, &wiring, demand, steps)
@@ -63,19 +63,19 @@ pub fn max_flow_along<L: Ledger>(
     requires wiring { IsWiring net.now.links (length net.now.nodes) wiring.now }
     requires sink { demand.sink < length net.now.sinks }
     requires pattern { demand.pattern < length net.now.patterns }
-    ensures greatest { IfOk result (λ flow. IsGreatestFlow (flow_network net.now demand) flow.paths) }
-    ensures rising { IfOk result (λ flow. IsTrue (is_rising (map (λ path. slice_index path 0) flow.paths))) }
+    ensures greatest { IfOk result (IsGreatest net.now demand) }
+    ensures rising { IfOk result (λ flow. IsTrue (is_rising (first_links flow.paths))) }
     ensures side { IfOk result (λ flow. IsLeastSide (flow_network net.now demand) flow.side) }
-    ensures as_many { IfOk result (λ flow. length flow.paths ≡ length (crossing (flow_network net.now demand) flow.side)) }
-    ensures ticks { (cut : List ℕ) → IsCut (flow_network net.now demand) cut → RoseByAtMost (visit_bound (length net.now.links) (length cut)) steps.old steps.new }
+    ensures as_many { IfOk result (CrossesAsOften net.now demand) }
+    ensures ticks { AreFewVisits net.now demand steps.old steps.new }
 {
     let mut residual = Residual::start(alloc, net, demand)?;
     let mut search = Search::new(alloc, net.nodes.len())?;
     let mut value = 0;
-    while grow(net, wiring, &mut residual, &mut search, steps) {
+    while augment(net, wiring, &mut residual, &mut search, steps) {
         value += 1;
     }
-    let paths = split(alloc, net, &wiring.from, residual, value)?;
+    let paths = decompose(alloc, net, &wiring.from, residual, value)?;
     let Search { reached, .. } = search;
     let side = ItemList::of(reached);
     Ok(Flow { paths, side })

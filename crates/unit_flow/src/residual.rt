@@ -1,11 +1,9 @@
 //! Residual networks.
-ghost use Rattle.std.specs.Prelude.{◌≡◌, ◌<◌, ℕ, false, IfOk, IfSome, length, slice_index, slice_set};
+ghost use Rattle.std.specs.Prelude.{◌≡◌, ◌<◌, IfOk, IfSome, length, slice_index, slice_set};
 ghost use Rattle.counted_steps.specs.Steps.{RoseBy};
-ghost use Rattle.net_model.specs.Flows.{flow_network};
-ghost use Rattle.unit_flow.specs.Residual.{AreStates, is_used, passage};
+ghost use Rattle.unit_flow.specs.Residual.{HasStates, IsUnused, is_used, passage};
 
 use counted_steps::Steps;
-use link_chains::{head, tail};
 use net_model::{Demand, Net};
 use std::alloc::{AllocError, Global};
 use std::marker::Model;
@@ -43,8 +41,8 @@ impl Residual {
         requires sink { demand.sink < length net.now.sinks }
         requires pattern { demand.pattern < length net.now.patterns }
         ensures demand { IfOk result (λ residual. residual.demand ≡ demand) }
-        ensures states { IfOk result (λ residual. AreStates (flow_network net.now demand) residual.states) }
-        ensures unused { IfOk result (λ residual. (link : ℕ) → is_used residual.states link ≡ false) }
+        ensures states { IfOk result (HasStates net.now demand) }
+        ensures unused { IfOk result IsUnused }
     {
         let mut states = vec![in alloc; LinkState::Free; net.links.len()]?;
         for link in net.patterns.at(demand.pattern as usize).links.as_slice() {
@@ -86,7 +84,7 @@ impl Residual {
         ensures ticks { RoseBy 1 steps.old steps.new }
     {
         steps.tick();
-        let (tail, head) = (tail(net, link), head(net, link));
+        let (tail, head) = (net.tail(link), net.head(link));
         match self.states[link as usize] {
             LinkState::Free if from == tail => Some(head),
             LinkState::Used if from == head => Some(tail),

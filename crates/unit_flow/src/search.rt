@@ -1,12 +1,9 @@
 //! The search for the nodes that the source reaches.
-ghost use Rattle.std.specs.Prelude.{◌≡◌, ◌<◌, ◌+◌, ◌*◌, ℕ, true, false, IfOk, Some, length, slice_index, slice_set};
+ghost use Rattle.std.specs.Prelude.{◌≡◌, ◌<◌, ◌+◌, ◌*◌, true, false, IfOk, length, slice_set};
 ghost use Rattle.counted_steps.specs.Steps.{RoseBy, RoseByAtMost};
-ghost use Rattle.link_chains.specs.Chains.{end_of};
 ghost use Rattle.link_chains.specs.Wiring.{IsWiring};
-ghost use Rattle.net_model.specs.Flows.{flow_network, is_on};
-ghost use Rattle.unit_flow.specs.Reaching.{IsReached};
-ghost use Rattle.unit_flow.specs.Residual.{passage};
-ghost use Rattle.unit_flow.specs.Searching.{HasPlaces, IsLonger, IsQueue, LeadsOn, links_at, node_at};
+ghost use Rattle.net_model.specs.Flows.{is_on};
+ghost use Rattle.unit_flow.specs.Searching.{AllPassed, HasPassed, HasPlaces, HasReached, IsLonger, IsQueueIn, has_sink, links_looked_at};
 
 use crate::residual::Residual;
 use counted_steps::Steps;
@@ -50,7 +47,7 @@ impl Search {
     // Reaches the source, and nothing else.
     fn begin(&mut self, net: &Net, residual: &Residual)
         requires { HasPlaces (length net.now.nodes) self.old }
-        ensures queue { IsQueue (flow_network net.now residual.now.demand) residual.now.states self.new }
+        ensures queue { IsQueueIn net.now residual.now self.new }
         ensures done { self.new.done ≡ 0 }
         ensures one { self.new.queued ≡ 1 }
     {
@@ -90,11 +87,11 @@ impl Search {
         requires states { length residual.now.states ≡ length net.now.links }
         requires link { link < length net.now.links }
         requires sink { is_on self.old.reached.items sink ≡ false }
-        requires queue { IsQueue (flow_network net.now residual.now.demand) residual.now.states self.old }
+        requires queue { IsQueueIn net.now residual.now self.old }
         requires more { self.old.done < self.old.queued }
-        ensures queue { IsQueue (flow_network net.now residual.now.demand) residual.now.states self.new }
+        ensures queue { IsQueueIn net.now residual.now self.new }
         ensures longer { IsLonger self.old self.new }
-        ensures passed { (next : ℕ) → passage net.now.links residual.now.states link (node_at self.old self.old.done) ≡ Some next → is_on self.new.reached.items next ≡ true }
+        ensures passed { HasPassed net.now residual.now link self.old self.new }
         ensures sink { is_on self.new.reached.items sink ≡ result }
         ensures ticks { RoseBy 1 steps.old steps.new }
     {
@@ -122,13 +119,13 @@ impl Search {
         requires wiring { IsWiring net.now.links (length net.now.nodes) wiring.now }
         requires states { length residual.now.states ≡ length net.now.links }
         requires sink { is_on self.old.reached.items sink ≡ false }
-        requires queue { IsQueue (flow_network net.now residual.now.demand) residual.now.states self.old }
+        requires queue { IsQueueIn net.now residual.now self.old }
         requires more { self.old.done < self.old.queued }
-        ensures queue { IsQueue (flow_network net.now residual.now.demand) residual.now.states self.new }
+        ensures queue { IsQueueIn net.now residual.now self.new }
         ensures longer { IsLonger self.old self.new }
-        ensures passed { result ≡ false → LeadsOn net.now.links residual.now.states (end_of net.now.links heads) (node_at self.old self.old.done) (length net.now.links) self.new.reached.items }
+        ensures passed { result ≡ false → AllPassed net.now residual.now heads self.old self.new }
         ensures sink { is_on self.new.reached.items sink ≡ result }
-        ensures ticks { RoseByAtMost (links_at (end_of net.now.links heads) (length net.now.links) (node_at self.old self.old.done) (length net.now.links)) steps.old steps.new }
+        ensures ticks { RoseByAtMost (links_looked_at net.now heads self.old) steps.old steps.new }
     {
         let chains = wiring.chains(heads);
         let count = net.links.len() as u32;
@@ -155,9 +152,9 @@ impl Search {
         requires states { length residual.now.states ≡ length net.now.links }
         requires sink { residual.now.demand.sink < length net.now.sinks }
         requires places { HasPlaces (length net.now.nodes) self.old }
-        ensures queue { IsQueue (flow_network net.now residual.now.demand) residual.now.states self.new }
-        ensures sink { is_on self.new.reached.items (slice_index net.now.sinks residual.now.demand.sink) ≡ result }
-        ensures reached { result ≡ false → IsReached (flow_network net.now residual.now.demand) residual.now.states self.new.reached.items }
+        ensures queue { IsQueueIn net.now residual.now self.new }
+        ensures sink { has_sink net.now residual.now self.new ≡ result }
+        ensures reached { result ≡ false → HasReached net.now residual.now self.new }
         ensures ticks { RoseByAtMost (2 * length net.now.links) steps.old steps.new }
     {
         let sink = residual.sink(net);

@@ -3,6 +3,7 @@ ghost use Rattle.std.specs.Prelude.{◌≡◌, ◌<◌, ◌≤◌, ◌-◌, ◌+
 ghost use Rattle.lif_outside.specs.Counts.{one_more};
 ghost use Rattle.lif_outside.specs.Files.{SameFiles};
 ghost use Rattle.lif_outside.specs.Memory.{keep_of, contents, SetsFile};
+ghost use Rattle.lif_outside.specs.Picks.{place_of};
 
 use super::{Call, Fail};
 use crate::Failed;
@@ -78,4 +79,14 @@ pub fn add_bytes(file: &mut Vec<u8>, bytes: &[u8], keep: Option<usize>) -> Resul
 {
     let kept = keep.unwrap_or(bytes.len()).min(bytes.len());
     file.extend_from_slice(&bytes[..kept])
+}
+
+// The place of the pair that a take gives, of so many that fly.
+pub fn place_of(picks: &[u32], take: u64, flying: usize) -> usize
+    requires { 0 < flying }
+    ensures value { result ≡ place_of picks.now take flying }
+    ensures within { result < flying }
+{
+    let pick = picks.get(take as usize).map_or(0, |pick| *pick as usize);
+    pick.min(flying - 1)
 }

@@ -1,5 +1,6 @@
 -- What the command `send` does.
-use Rattle.top_base.specs.Accepting.{IsCodeOf, RefusesCode, code_limit}
+use Rattle.code_file.specs.Limits.{code_limit}
+use Rattle.top_base.specs.Accepting.{IsCodeOf, RefusesCode}
 use Rattle.top_base.specs.Acting.{Due, Runs}
 use Rattle.top_base.specs.Performs.{Behaviour, by_files}
 use Rattle.top_base.specs.Words.{Send}

@@ -7,6 +7,7 @@ use Rattle.gf_tables.specs.declared.kind.FieldKind.{FieldKind}
 use Rattle.lif_compiler.specs.Compiled.{IsCompiled}
 use Rattle.lif_compiler.specs.Refused.{IsRateOver, IsZeroRate}
 use Rattle.lif_outside.specs.Runs.{Written}
+use Rattle.net_model.specs.Limits.{highest_rate}
 use Rattle.net_model.specs.Demands.{demand_count}
 use Rattle.net_model.specs.declared.net.Net.{Net}
 use Rattle.node_program.specs.Code.{choice_of}
@@ -32,14 +33,14 @@ pub record IsMade (given : Compile) (net : Net) (files : List Written) (line : L
   pub files_are : files ≡ (given.code, bytes_of code) ∷ (given.report, report_of net compiled.least certs) ∷ []
   pub line_is : line ≡ compiled_line code.rate field (demand_count net)
 
--- a network that a code is made of: a field serves its demands, and its rate is 1 to 32
+-- a network that a code is made of: a field serves its demands, and its rate is at least 1 and not too high
 pub record IsGood (net : Net) (line : List ℕ) : Type 0 where
   pub field : FieldKind
   pub served : IsServedBy net field
   pub rate : ℕ
   pub is_rate : IsRate net rate
   pub some : 1 ≤ rate
-  pub few : rate ≤ 32
+  pub few : rate ≤ highest_rate
   pub line_is : line ≡ compiled_line rate field (demand_count net)
 
 -- a network that none is made of, by the status and the line: there are too many demands, or the rate is 0 or above 32

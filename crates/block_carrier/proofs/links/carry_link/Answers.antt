@@ -6,7 +6,8 @@ use Rattle.std.proofs.lemmas.List.Elements.{All-from_get_or}
 use Rattle.field_rows.specs.Bytes.{elements_of}
 use Rattle.node_program.proofs.LiveLaws.{length-operands, operands_of_link}
 use Rattle.node_program.specs.Operands.{IsOperand}
-use Rattle.node_program.specs.Value.{operands_at, leaves_source}
+use Rattle.net_model.specs.Walks.{leaves_source}
+use Rattle.node_program.specs.Value.{operands_at}
 use Rattle.node_program.specs.declared.Operand.{Operand}
 use Rattle.block_carrier.proofs.BlockLaws.{row_at-block_elements}
 use Rattle.block_carrier.proofs.CarriedLaws.{value_from-sum}
@@ -48,34 +49,34 @@ at-requires c = omega (arith, length-operands c.args.code.now.code.draft)
 pub sum_operands-requires-clause-elements : goal.sum_operands-requires-clause-elements
 sum_operands-requires-clause-elements c = λ k d within. (valid (goal.at.sum_operands-requires-clause-elements c).After-split_at_mut-row k d within).coefficient
 
-pub sum_operands-requires-else-leaves_source-clause-elements : goal.sum_operands-requires-else-leaves_source-clause-elements
-sum_operands-requires-else-leaves_source-clause-elements c =
-    λ k d within. (valid (goal.at.sum_operands-requires-else-leaves_source-clause-elements c).After-split_at_mut-row k d within).coefficient
+pub sum_operands-requires-else-leaves-clause-elements : goal.sum_operands-requires-else-leaves-clause-elements
+sum_operands-requires-else-leaves-clause-elements c =
+    λ k d within. (valid (goal.at.sum_operands-requires-else-leaves-clause-elements c).After-split_at_mut-row k d within).coefficient
 
 pub sum_operands-requires-clause-places : goal.sum_operands-requires-clause-places
 sum_operands-requires-clause-places c =
-    let leaves : leaves_source c.args.code.now.net c.args.link ≡ true = rw c.at-2.ensures (eq-eqb _ _ c.if-leaves_source.true) in
+    let leaves : leaves_source c.args.code.now.net c.args.link ≡ true = sym c.leaves_source-leaves.ensures ∙ c.if-leaves.true in
     λ k d within. row_lies_within c.args.block.now c.args.code.now.rate (get_or c.as_slice-operands.result.now k d).from c.requires.block
     ((valid (goal.at.sum_operands-requires-clause-places c).After-split_at_mut-row k d within).source_row leaves)
 
-pub sum_operands-requires-else-leaves_source-clause-places : goal.sum_operands-requires-else-leaves_source-clause-places
-sum_operands-requires-else-leaves_source-clause-places c =
-    let inner : leaves_source c.args.code.now.net c.args.link ≡ false = rw c.at-2.ensures (ne_eqb _ _ c.if-leaves_source.false) in
+pub sum_operands-requires-else-leaves-clause-places : goal.sum_operands-requires-else-leaves-clause-places
+sum_operands-requires-else-leaves-clause-places c =
+    let inner : leaves_source c.args.code.now.net c.args.link ≡ false = sym c.leaves_source-leaves.ensures ∙ c.if-leaves.false in
     λ k d within. row_lies_within c.split_at_mut-before.result.0.now c.args.link (get_or c.as_slice-operands.result.now k d).from c.split_at_mut-before.ensures.front_len
-    ((valid (goal.at.sum_operands-requires-else-leaves_source-clause-places c).After-split_at_mut-row k d within).earlier_link inner)
+    ((valid (goal.at.sum_operands-requires-else-leaves-clause-places c).After-split_at_mut-row k d within).earlier_link inner)
 
-pub returns-then-leaves_source-clause-others : goal.returns-then-leaves_source-clause-others
-returns-then-leaves_source-clause-others c =
-    others (goal.at.returns-then-leaves_source-clause-others c).After-split_at_mut-row c.sum_operands.new.row c.sum_operands.ensures.width
+pub returns-then-leaves-clause-others : goal.returns-then-leaves-clause-others
+returns-then-leaves-clause-others c =
+    others (goal.at.returns-then-leaves-clause-others c).After-split_at_mut-row c.sum_operands.new.row c.sum_operands.ensures.width
 
-pub returns-else-leaves_source-clause-others : goal.returns-else-leaves_source-clause-others
-returns-else-leaves_source-clause-others c =
-    others (goal.at.returns-else-leaves_source-clause-others c).After-split_at_mut-row c.sum_operands-else-leaves_source.new.row c.sum_operands-else-leaves_source.ensures.width
+pub returns-else-leaves-clause-others : goal.returns-else-leaves-clause-others
+returns-else-leaves-clause-others c =
+    others (goal.at.returns-else-leaves-clause-others c).After-split_at_mut-row c.sum_operands-else-leaves.new.row c.sum_operands-else-leaves.ensures.width
 
-pub returns-then-leaves_source-clause-sum : goal.returns-then-leaves_source-clause-sum
-returns-then-leaves_source-clause-sum c =
-    let here = (goal.at.returns-then-leaves_source-clause-sum c).After-split_at_mut-row in
-    let leaves : leaves_source c.args.code.now.net c.args.link ≡ true = rw c.at-2.ensures (eq-eqb _ _ c.if-leaves_source.true) in
+pub returns-then-leaves-clause-sum : goal.returns-then-leaves-clause-sum
+returns-then-leaves-clause-sum c =
+    let here = (goal.at.returns-then-leaves-clause-sum c).After-split_at_mut-row in
+    let leaves : leaves_source c.args.code.now.net c.args.link ≡ true = sym c.leaves_source-leaves.ensures ∙ c.if-leaves.true in
     ap (elements_of c.args.code.now.field) (row_of-at c.split_at_mut-before.result.0.now c.sum_operands.new.row c.split_at_mut-row.result.1.now c.args.link
     c.split_at_mut-before.ensures.front_len c.sum_operands.ensures.width)
     ∙ c.sum_operands.ensures.sum
@@ -83,12 +84,12 @@ returns-then-leaves_source-clause-sum c =
     (is_block here) (listed here)
     (λ operand is. rw leaves (sym (row_at-block_elements c.args.code.now c.args.block.now operand.from (is.source_row leaves))))
 
-pub returns-else-leaves_source-clause-sum : goal.returns-else-leaves_source-clause-sum
-returns-else-leaves_source-clause-sum c =
-    let here = (goal.at.returns-else-leaves_source-clause-sum c).After-split_at_mut-row in
-    let inner : leaves_source c.args.code.now.net c.args.link ≡ false = rw c.at-2.ensures (ne_eqb _ _ c.if-leaves_source.false) in
+pub returns-else-leaves-clause-sum : goal.returns-else-leaves-clause-sum
+returns-else-leaves-clause-sum c =
+    let here = (goal.at.returns-else-leaves-clause-sum c).After-split_at_mut-row in
+    let inner : leaves_source c.args.code.now.net c.args.link ≡ false = sym c.leaves_source-leaves.ensures ∙ c.if-leaves.false in
     let before = c.split_at_mut-before.result.0.now in
-    let row = c.sum_operands-else-leaves_source in
+    let row = c.sum_operands-else-leaves in
     ap (elements_of c.args.code.now.field) (row_of-at before row.new.row c.split_at_mut-row.result.1.now c.args.link
     c.split_at_mut-before.ensures.front_len row.ensures.width)
     ∙ row.ensures.sum

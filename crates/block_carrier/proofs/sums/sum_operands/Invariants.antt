@@ -1,6 +1,6 @@
 use Rattle.std.proofs.Common.{◌≡◌, length, map, take}
 use Rattle.field_rows.specs.Bytes.{elements_of}
-use Rattle.block_carrier.specs.Carried.{row_bytes}
+use Rattle.generation_frame.specs.Blocks.{row_bytes}
 use Rattle.block_carrier.specs.LinkRows.{sum_of_rows}
 use Rattle.block_carrier.proofs.sums.sum_operands.Given as goal
 

@@ -1,26 +1,24 @@
-use Rattle.std.proofs.Common.{◌≡◌, ℕ, not, List, [], ◌∷◌, Ok}
+use Rattle.std.proofs.Common.{◌≡◌, ℕ, List, Ok}
 use Rattle.std.proofs.lemmas.Result.{err_from_is_err_and}
-use Rattle.node_program.specs.Code.{leads_into}
-use Rattle.code_file.specs.declared.refusal.CodeRefusal.TheVariants.{NotRising, BadOperand}
-use Rattle.code_file.specs.Reading.{Rest, Reading, number_at, is_above_last}
+use Rattle.code_file.specs.Reading.{Rest, Reading, decoder_link_at}
 use Rattle.code_file.specs.Gives.{Fails, left_of}
 use Rattle.code_file.proofs.Loop.{goes_on, ends, is_done}
 use Rattle.code_file.proofs.decoders.read_links.Goals as goal
 
 pub returns-in_err-one : goal.returns-in_err-one
 returns-in_err-one c =
-    let part : List (ℕ) → Rest → Reading (ℕ) = λ earlier at. number_at at (λ n. (not (is_above_last earlier n), NotRising at.at) ∷ (not (leads_into c.args.front.now.links c.args.sink n), BadOperand at.at) ∷ []) in
+    let part : List (ℕ) → Rest → Reading (ℕ) = decoder_link_at c.args.front.now.links c.args.sink in
     let p = err_from_is_err_and c.from_residual-in_err-one.result c.from_residual-in_err-one.ensures.1 in
     let fails : Fails c.in_err-one.field-0.0 (part c.loop.all.items (left_of c.loop.rest)) = rw (← c.deref.ensures.value) (c.in_err-one.ensures) in
     rw (p.1, p.2) (ends part c.args.front.now.rate c.loop.counter c.loop.all.items (left_of c.loop.rest) _ c.in_err-one.field-0.0 c.loop-test.true fails c.loop.invariant)
 
 pub loop-preserved : goal.loop-preserved
 loop-preserved c =
-    let part : List (ℕ) → Rest → Reading (ℕ) = λ earlier at. number_at at (λ n. (not (is_above_last earlier n), NotRising at.at) ∷ (not (leads_into c.args.front.now.links c.args.sink n), BadOperand at.at) ∷ []) in
+    let part : List (ℕ) → Rest → Reading (ℕ) = decoder_link_at c.args.front.now.links c.args.sink in
     let read : part c.loop.all.items (left_of c.loop.rest) ≡ Ok (c.in_ok-one.one, left_of c.in_ok-one.after) = rw (← c.deref.ensures.value) (c.in_ok-one.ensures) in
     rw c.in_ok-push.ensures.items (goes_on part c.args.front.now.rate c.loop.counter c.loop.all.items (left_of c.loop.rest) _ c.in_ok-one.one (left_of c.in_ok-one.after) c.loop-test.true read c.loop.invariant)
 
 pub returns : goal.returns
 returns c =
-    let part : List (ℕ) → Rest → Reading (ℕ) = λ earlier at. number_at at (λ n. (not (is_above_last earlier n), NotRising at.at) ∷ (not (leads_into c.args.front.now.links c.args.sink n), BadOperand at.at) ∷ []) in
+    let part : List (ℕ) → Rest → Reading (ℕ) = decoder_link_at c.args.front.now.links c.args.sink in
     is_done part c.args.front.now.rate c.loop.counter c.loop.all.items (left_of c.loop.rest) _ c.loop-test.false c.loop.invariant

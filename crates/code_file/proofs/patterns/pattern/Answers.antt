@@ -15,14 +15,14 @@ pub returns-in_err-count-clause-gives : goal.returns-in_err-count-clause-gives
 unfolding pattern_at
 returns-in_err-count-clause-gives c = λ earlier same.
     let p = err_from_is_err_and c.from_residual-in_err-count.result c.from_residual-in_err-count.ensures.1 in
-    rw (p.1, p.2) (λ other. rw (named_pattern (left_of c.args.rest) earlier c.args.names.now same, c.in_ok-name.ensures.gives, c.in_err-count.ensures other) refl)
+    rw (p.1, p.2) (λ other. rw (named_pattern (left_of c.args.rest) earlier c.args.names.now same, c.in_ok-name.ensures.gives, c.in_err-count.ensures.gives other) refl)
 
 pub returns-in_err-failed-clause-gives : goal.returns-in_err-failed-clause-gives
 unfolding pattern_at
 returns-in_err-failed-clause-gives c = λ earlier same.
     let p = err_from_is_err_and c.from_residual-in_err-failed.result c.from_residual-in_err-failed.ensures.1 in
-    rw (p.1, p.2) (λ other. rw (named_pattern (left_of c.args.rest) earlier c.args.names.now same, c.in_ok-name.ensures.gives, c.in_ok-count.ensures, c.in_err-failed.ensures other) refl)
+    rw (p.1, p.2) (λ other. rw (named_pattern (left_of c.args.rest) earlier c.args.names.now same, c.in_ok-name.ensures.gives, c.in_ok-count.ensures.gives, c.in_err-failed.ensures other) refl)
 
 pub returns-clause-gives : goal.returns-clause-gives
 unfolding pattern_at
-returns-clause-gives c = λ earlier same. rw (named_pattern (left_of c.args.rest) earlier c.args.names.now same, c.in_ok-name.ensures.gives, c.in_ok-count.ensures, c.in_ok-failed.ensures, c.of-links.ensures) refl
+returns-clause-gives c = λ earlier same. rw (named_pattern (left_of c.args.rest) earlier c.args.names.now same, c.in_ok-name.ensures.gives, c.in_ok-count.ensures.gives, c.in_ok-failed.ensures, c.of-links.ensures) refl

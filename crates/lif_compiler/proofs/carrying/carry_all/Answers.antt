@@ -18,7 +18,7 @@ loop-pattern-preserved g c =
     record {
       behind = shape_more pattern old now c.carry_unless.new.vectors so_far.behind;
       made = λ kind of_kind.
-          carried_more kind F.number c.args.operands.now c.args.link c.args.net.now.patterns leaves pattern old now c.carry_unless.new.vectors inside (so_far.made kind of_kind)
+          carried_more kind F.number c.args.operands.now c.args.link c.args.net.now pattern old now c.carry_unless.new.vectors inside (so_far.made kind of_kind)
           (carried_same kind F.number c.args.operands.now c.args.link c.is_failed-is_failed.result _ c.leaves_source-leaves.result leaves _ _ c.carry_unless.new.vectors
           c.is_failed-is_failed.ensures c.leaves_source-leaves.ensures (get_or_default now pattern c.index-vectors-pattern.result (record { columns = 0; rows = [] }) within) (c.carry_unless.ensures.carried kind of_kind));
       kept = kept_more (IsMatrix F.is_element) pattern now c.carry_unless.new.vectors within c.carry_unless.ensures.kept so_far.kept;

@@ -2,8 +2,7 @@ use Rattle.std.proofs.Common.{ℕ, ◌<◌, slice_index_or}
 use Rattle.field_vectors.specs.Grid.{IsMatrix}
 use Rattle.gf_tables.specs.Kind.{IsOfKind}
 use Rattle.gf_tables.specs.declared.kind.FieldKind.{FieldKind}
-use Rattle.node_program.specs.Value.{leaves_source}
-use Rattle.lif_compiler.specs.Steps.{AreCarried}
+use Rattle.lif_compiler.specs.Steps.{AreCarriedTo}
 use Rattle.lif_compiler.proofs.CarrySteps.{HasShape}
 use Rattle.lif_compiler.proofs.carrying.carry_all.Given as goal
 
@@ -14,6 +13,6 @@ invariant-loop-pattern g l =
     record {
       behind : HasShape l.pattern l.initial.vectors l.vectors;
       made : (kind : FieldKind) → IsOfKind kind F.SIZE F.BYTES F.MARK F.product
-          → AreCarried kind F.number l.net.patterns (leaves_source l.net l.link) l.operands l.link l.pattern l.initial.vectors l.vectors;
+          → AreCarriedTo kind F.number l.net l.link l.operands l.pattern l.initial.vectors l.vectors;
       kept : (k : ℕ) (none : _) → k < l.pattern → IsMatrix F.is_element (slice_index_or l.vectors k none);
     }

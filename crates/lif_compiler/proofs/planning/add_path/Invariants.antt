@@ -1,5 +1,6 @@
 use Rattle.std.proofs.Common.{◌≡◌}
-use Rattle.lif_compiler.specs.Planning.{Gains, before_place, hops_on_path}
+use Rattle.lif_compiler.specs.Hops.{before_place}
+use Rattle.lif_compiler.specs.Planning.{Gains, hops_on_path}
 use Rattle.lif_compiler.proofs.planning.add_path.Given as goal
 
 -- the hops of the links before this one are added

@@ -1,11 +1,13 @@
-use Rattle.std.proofs.Common.{◌<◌, length, slice_index_or, arith, refl, ap, ◌∙◌}
+use Rattle.std.proofs.Common.{◌<◌, length, slice_index_or, arith, refl, ap, ◌∙◌, sym}
 use Rattle.std.proofs.lemmas.List.{get_or_default}
 use Rattle.std.proofs.lemmas.List.Elements.{All-set}
 use Rattle.std.proofs.lemmas.Option.{slice_get-get_or}
-use Rattle.field_vectors.specs.Grid.{AreMatrices, Grid, row_of}
+use Rattle.field_vectors.specs.Grid.{Grid, row_of}
+use Rattle.lif_compiler.specs.Bases.{HasMatrices}
+use Rattle.lif_compiler.proofs.BasesLaws.{inverses_in-at}
 use Rattle.lif_compiler.specs.declared.hops.Hop.{Hop}
-use Rattle.lif_compiler.proofs.RenewSteps.{apart_before, more_other, renewed_more, renewed_nonzero, widths_more}
-use Rattle.lif_compiler.proofs.TableSteps.{inverses_there, vectors_at}
+use Rattle.lif_compiler.proofs.RenewSteps.{apart_before, inverses_more, renewed_more, renewed_nonzero, widths_more}
+use Rattle.lif_compiler.proofs.TableSteps.{vectors_read}
 use Rattle.lif_compiler.proofs.renewing.renew_all.Goals as goal
 
 pub renew-requires-clause-nonzero : goal.renew-requires-clause-nonzero
@@ -18,10 +20,10 @@ renew-requires-clause-nonzero g c =
     let here = slice_get-get_or hops k none c.loop-hop-test.true in
     let among = c.requires.hops k none c.loop-hop-test.true in
     let renewed = c.loop-hop.invariant.renewed in
-    let vectors = vectors_at c.args.vectors.now hop.demand (length c.args.vectors.now) c.index-vectors-demand.result c.requires.some_pattern refl c.index-vectors-demand.is in
+    let vectors = vectors_read c.args.vectors.now hop.demand (length c.args.vectors.now) c.index-vectors-demand.result c.requires.some_pattern refl c.index-vectors-demand.is in
     renewed_nonzero F.zero F.add F.mul _ _ _ _ _ (c.requires.nonzero k hop here)
     (c.row.ensures.value ∙ ap (λ (m : Grid g.row.F.Denot). row_of m c.args.link) vectors)
-    (inverses_there _ c.loop-hop.bases hop.demand _ (omega (arith, among.0, c.loop-hop.auto.bases)) ∙ c.loop-hop.invariant.inverses hop.demand (apart_before hops k hop c.requires.once here))
+    (sym (inverses_in-at c.loop-hop.bases hop.demand c.index-bases-demand.result (omega (arith, among.0, c.loop-hop.auto.bases))) ∙ c.loop-hop.invariant.inverses hop.demand (apart_before hops k hop c.requires.once here))
 
 pub loop-hop-preserved : goal.loop-hop-preserved
 loop-hop-preserved g c =
@@ -32,15 +34,15 @@ loop-hop-preserved g c =
     let here = slice_get-get_or hops k none c.loop-hop-test.true in
     let among = c.requires.hops k none c.loop-hop-test.true in
     let so_far = c.loop-hop.invariant in
-    let vectors = vectors_at c.args.vectors.now hop.demand (length c.args.vectors.now) c.index-vectors-demand.result c.requires.some_pattern refl c.index-vectors-demand.is in
+    let vectors = vectors_read c.args.vectors.now hop.demand (length c.args.vectors.now) c.index-vectors-demand.result c.requires.some_pattern refl c.index-vectors-demand.is in
     let row = c.row.ensures.value ∙ ap (λ (m : Grid g.row.F.Denot). row_of m c.args.link) vectors in
     let within : hop.demand < length c.loop-hop.bases = omega (arith, among.0, c.loop-hop.auto.bases) in
     let basis = slice_index_or c.loop-hop.bases hop.demand c.index-bases-demand.result in
     let is = get_or_default c.loop-hop.bases hop.demand c.index-bases-demand.result basis within in
     record {
-      renewed = renewed_more hops k hop c.requires.once here c.args.bases.now c.loop-hop.bases basis c.renew.new.basis within is _ _ c.args.link c.args.vectors.now c.row.result.now
+      renewed = renewed_more hops k hop c.requires.once here c.args.bases.now c.loop-hop.bases basis c.renew.new.basis within is c.args.link c.args.vectors.now c.row.result.now
           so_far.renewed c.in_ok-renew.ensures.frontier c.in_ok-renew.ensures.vectors row;
-      widths = widths_more hops k hop c.requires.once here c.args.bases.now c.loop-hop.bases basis c.renew.new.basis within is (λ x. x.frontier) c.args.rate c.args.link so_far.widths c.in_ok-renew.ensures.frontier;
-      matrices = All-set (λ x. AreMatrices g.F.Field.is_element x.vectors x.inverses) c.loop-hop.bases hop.demand c.renew.new.basis c.in_ok-renew.ensures.matrices so_far.matrices;
-      inverses = more_other hops k hop c.requires.once here c.args.bases.now c.loop-hop.bases basis c.renew.new.basis within is _ _ so_far.inverses;
+      widths = widths_more hops k hop c.requires.once here c.args.bases.now c.loop-hop.bases basis c.renew.new.basis within is c.args.rate c.args.link so_far.widths c.in_ok-renew.ensures.frontier;
+      matrices = All-set HasMatrices c.loop-hop.bases hop.demand c.renew.new.basis c.in_ok-renew.ensures.matrices so_far.matrices;
+      inverses = inverses_more hops k hop c.requires.once here c.args.bases.now c.loop-hop.bases basis c.renew.new.basis within is so_far.inverses;
     }

@@ -1,7 +1,5 @@
-use Rattle.std.proofs.Common.{◌≡◌, ap, arith, length, length-append}
-use Rattle.std.specs.Prelude.{None, replicate}
-use Rattle.field_vectors.specs.Elements.{identity_of}
-use Rattle.field_vectors.specs.Grid.{AreMatrices}
+use Rattle.std.proofs.Common.{ap, arith, length, length-append}
+use Rattle.lif_compiler.specs.Bases.{HasMatrices, HasNoLinks, HasUnitVectors}
 use Rattle.lif_compiler.proofs.StartSteps.{All-more}
 use Rattle.lif_compiler.proofs.starting.unit_bases.Goals as goal
 
@@ -16,7 +14,7 @@ loop-preserved g c =
     let pushed = c.in_ok-push.ensures.items in
     record {
       count = omega (arith, simp length-append at (ap length pushed), so_far.count);
-      frontiers = All-more (λ b. b.frontier ≡ replicate c.args.rate None) old new basis pushed so_far.frontiers made.frontier;
-      vectors = All-more (λ b. b.vectors.rows ≡ identity_of F.zero F.one c.args.rate) old new basis pushed so_far.vectors made.vectors;
-      matrices = All-more (λ b. AreMatrices F.is_element b.vectors b.inverses) old new basis pushed so_far.matrices made.matrices;
+      frontiers = All-more (HasNoLinks c.args.rate) old new basis pushed so_far.frontiers made.frontier;
+      vectors = All-more (HasUnitVectors c.args.rate) old new basis pushed so_far.vectors made.vectors;
+      matrices = All-more HasMatrices old new basis pushed so_far.matrices made.matrices;
     }

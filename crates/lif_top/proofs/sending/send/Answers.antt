@@ -1,4 +1,5 @@
-use Rattle.top_base.specs.Accepting.{IsCodeOf, RefusesCode, code_limit}
+use Rattle.code_file.specs.Limits.{code_limit}
+use Rattle.top_base.specs.Accepting.{IsCodeOf, RefusesCode}
 use Rattle.top_base.proofs.ActingLaws.{runs_had, runs_lost}
 use Rattle.top_base.specs.Given.{given_in}
 use Rattle.lif_top.specs.Send.Runs.{Sends}

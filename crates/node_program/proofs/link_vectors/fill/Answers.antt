@@ -2,7 +2,7 @@ use Rattle.std.proofs.Common.{◌+◌, ◌<◌, length, Bool, List, sym, subst, 
 use Rattle.field_vectors.specs.Grid.{Grid}
 use Rattle.node_program.proofs.VectorSteps.{failed_before, carried_before}
 use Rattle.node_program.specs.Carried.{IsCarried}
-use Rattle.node_program.specs.Value.{leaves_source}
+use Rattle.net_model.specs.Walks.{leaves_source}
 use Rattle.node_program.specs.Vectors.{AreVectorsBefore}
 use Rattle.node_program.specs.declared.Operand.{Operand}
 use Rattle.node_program.proofs.link_vectors.fill.Goals as goal

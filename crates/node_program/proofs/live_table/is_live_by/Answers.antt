@@ -6,7 +6,7 @@ use Rattle.std.proofs.lemmas.List.Folds.{list_any_more}
 use Rattle.node_program.specs.CodeValue.{is_live_in, reads_live_in, live_table}
 use Rattle.node_program.proofs.LiveLaws.{is_live_in-failed, is_live_in-some, is_live_in-none, length-live_table, get_or-live_table}
 use Rattle.node_program.specs.Operands.{IsOperand}
-use Rattle.node_program.specs.Value.{leaves_source}
+use Rattle.net_model.specs.Walks.{leaves_source}
 use Rattle.node_program.specs.declared.Operand.{Operand}
 use Rattle.node_program.specs.declared.code.Code.{Code}
 use Rattle.node_program.proofs.live_table.is_live_by.Goals as goal

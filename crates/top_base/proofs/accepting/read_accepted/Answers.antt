@@ -1,7 +1,8 @@
 use Rattle.std.proofs.Common.{sym, subst, ap, ◌∙◌}
 use Rattle.lif_outside.proofs.CallLaws.{calls_weaker}
 use Rattle.code_file.specs.Items.{bytes_of}
-use Rattle.top_base.specs.Accepting.{IsCodeOf, RefusesCode, RefusesCodeOrLosesIt, code_limit}
+use Rattle.code_file.specs.Limits.{code_limit}
+use Rattle.top_base.specs.Accepting.{IsCodeOf, RefusesCode, RefusesCodeOrLosesIt}
 use Rattle.top_base.proofs.AcceptingLaws.{code_input}
 use Rattle.top_base.proofs.Exits.{if_err}
 use Rattle.top_base.proofs.InputLaws.{lost_bytes}

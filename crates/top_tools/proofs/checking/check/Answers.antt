@@ -1,5 +1,6 @@
 use Rattle.std.proofs.Common.{inl, ap, ◌∙◌, List, ℕ}
-use Rattle.top_base.specs.Accepting.{IsCodeOf, RefusesCode, code_limit}
+use Rattle.code_file.specs.Limits.{code_limit}
+use Rattle.top_base.specs.Accepting.{IsCodeOf, RefusesCode}
 use Rattle.top_base.proofs.InspectingLaws.{inspects_had, inspects_lost}
 use Rattle.top_base.specs.Lines.{accepted_line}
 use Rattle.top_base.specs.declared.outcome.Outcome.{Outcome}

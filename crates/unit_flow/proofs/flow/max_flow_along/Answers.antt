@@ -1,7 +1,7 @@
 use Rattle.std.proofs.Common.{◌<◌, ◌+◌, ◌∙◌, ℕ, List, length, sym, subst, arith}
 use Rattle.net_model.specs.Flows.{flow_network}
 use Rattle.net_model.specs.declared.Demand.{Demand}
-use Rattle.unit_flow.specs.Carrying.{IsCarried}
+use Rattle.unit_flow.specs.Conservation.{IsConserved}
 use Rattle.unit_flow.specs.Searching.{HasPlaces}
 use Rattle.unit_flow.specs.declared.residual.LinkState.{LinkState}
 use Rattle.unit_flow.proofs.FlowSteps.{flow_found, flowing_few, flowing_next, flowing_start, flowing_ticks}
@@ -13,56 +13,56 @@ loop-value-init g c =
     flowing_start c.args.net.now c.args.demand c.in_ok-residual.residual c.in_ok-search.search c.args.steps.now c.requires.sink c.in_ok-residual.ensures.demand c.in_ok-residual.ensures.states c.in_ok-residual.ensures.unused
     (subst Places c.len.ensures c.in_ok-search.ensures)
 
-pub grow-requires-clause-states : goal.grow-requires-clause-states
-grow-requires-clause-states g c = c.loop-value.invariant.carried.are_states.each_link
+pub augment-requires-clause-states : goal.augment-requires-clause-states
+augment-requires-clause-states g c = c.loop-value.invariant.conserved.are_states.each_link
 
-pub grow-requires-clause-sink : goal.grow-requires-clause-sink
-grow-requires-clause-sink g c =
+pub augment-requires-clause-sink : goal.augment-requires-clause-sink
+augment-requires-clause-sink g c =
     let Within : Demand → Type 0 = λ demand. demand.sink < length c.args.net.now.sinks in
     subst Within (sym c.loop-value.invariant.kept) c.requires.sink
 
-pub grow-requires-clause-places : goal.grow-requires-clause-places
-grow-requires-clause-places g c = c.loop-value.invariant.places
+pub augment-requires-clause-places : goal.augment-requires-clause-places
+augment-requires-clause-places g c = c.loop-value.invariant.places
 
 pub loop-value-preserved : goal.loop-value-preserved
 loop-value-preserved g c =
-    flowing_next c.args.net.now c.args.demand c.loop-value.residual c.grow.new.residual c.loop-value.search c.grow.new.search c.loop-value.value c.args.steps.now c.loop-value.steps c.grow.new.steps c.loop-value.invariant
-    c.grow.ensures.demand (c.grow.ensures.more c.loop-value-test.true) c.grow.ensures.places c.grow.ensures.ticks
+    flowing_next c.args.net.now c.args.demand c.loop-value.residual c.augment.new.residual c.loop-value.search c.augment.new.search c.loop-value.value c.args.steps.now c.loop-value.steps c.augment.new.steps c.loop-value.invariant
+    c.augment.ensures.demand (c.augment.ensures.more c.loop-value-test.true) c.augment.ensures.places c.augment.ensures.ticks
 
 pub overflow_add-value : goal.overflow_add-value
 overflow_add-value g c =
-    omega (arith, c.args.net.now.network.few_links, flowing_few c.args.net.now c.args.demand c.loop-value.residual.states c.loop-value.value c.loop-value.invariant.carried)
+    omega (arith, c.args.net.now.network.few_links, flowing_few c.args.net.now c.args.demand c.loop-value.residual.states c.loop-value.value c.loop-value.invariant.conserved)
 
 pub loop-value-smaller : goal.loop-value-smaller
 loop-value-smaller g c =
-    let next = flowing_next c.args.net.now c.args.demand c.loop-value.residual c.grow.new.residual c.loop-value.search c.grow.new.search c.loop-value.value c.args.steps.now c.loop-value.steps c.grow.new.steps
-    c.loop-value.invariant c.grow.ensures.demand (c.grow.ensures.more c.loop-value-test.true) c.grow.ensures.places c.grow.ensures.ticks in
-    omega (arith, flowing_few c.args.net.now c.args.demand c.grow.new.residual.states (c.loop-value.value + 1) next.carried)
+    let next = flowing_next c.args.net.now c.args.demand c.loop-value.residual c.augment.new.residual c.loop-value.search c.augment.new.search c.loop-value.value c.args.steps.now c.loop-value.steps c.augment.new.steps
+    c.loop-value.invariant c.augment.ensures.demand (c.augment.ensures.more c.loop-value-test.true) c.augment.ensures.places c.augment.ensures.ticks in
+    omega (arith, flowing_few c.args.net.now c.args.demand c.augment.new.residual.states (c.loop-value.value + 1) next.conserved)
 
-pub split-requires-clause-sink : goal.split-requires-clause-sink
-split-requires-clause-sink g c =
+pub decompose-requires-clause-sink : goal.decompose-requires-clause-sink
+decompose-requires-clause-sink g c =
     let Within : Demand → Type 0 = λ demand. demand.sink < length c.args.net.now.sinks in
-    subst Within (sym (c.grow.ensures.demand ∙ c.loop-value.invariant.kept)) c.requires.sink
+    subst Within (sym (c.augment.ensures.demand ∙ c.loop-value.invariant.kept)) c.requires.sink
 
-pub split-requires-clause-carried : goal.split-requires-clause-carried
-split-requires-clause-carried g c =
-    let Carried : List LinkState → Type 0 = λ states. IsCarried (flow_network c.args.net.now c.args.demand) states c.loop-value.value in
-    let Wanted : Demand → Type 0 = λ demand. IsCarried (flow_network c.args.net.now demand) c.grow.new.residual.states c.loop-value.value in
-    subst Wanted (sym (c.grow.ensures.demand ∙ c.loop-value.invariant.kept)) (subst Carried (sym (c.grow.ensures.same c.loop-value-test.false)) c.loop-value.invariant.carried)
+pub decompose-requires-clause-conserved : goal.decompose-requires-clause-conserved
+decompose-requires-clause-conserved g c =
+    let Conserved : List LinkState → Type 0 = λ states. IsConserved (flow_network c.args.net.now c.args.demand) states c.loop-value.value in
+    let Wanted : Demand → Type 0 = λ demand. IsConserved (flow_network c.args.net.now demand) c.augment.new.residual.states c.loop-value.value in
+    subst Wanted (sym (c.augment.ensures.demand ∙ c.loop-value.invariant.kept)) (subst Conserved (sym (c.augment.ensures.same c.loop-value-test.false)) c.loop-value.invariant.conserved)
 
 pub returns-in_err-paths-clause-ticks : goal.returns-in_err-paths-clause-ticks
 returns-in_err-paths-clause-ticks g c =
-    flowing_ticks c.args.net.now c.args.demand c.loop-value.residual c.loop-value.search c.loop-value.value c.args.steps.now c.loop-value.steps c.grow.new.steps c.requires.sink c.loop-value.invariant c.grow.ensures.ticks
+    flowing_ticks c.args.net.now c.args.demand c.loop-value.residual c.loop-value.search c.loop-value.value c.args.steps.now c.loop-value.steps c.augment.new.steps c.requires.sink c.loop-value.invariant c.augment.ensures.ticks
 
 pub returns : goal.returns
 returns g c =
-    let found = flow_found c.args.net.now c.args.demand c.loop-value.residual c.grow.new.residual c.loop-value.search c.loop-value.value c.args.steps.now c.loop-value.steps c.in_ok-paths.paths c.of-side.result
-    c.grow.new.search.reached.items c.requires.sink c.loop-value.invariant c.grow.ensures.demand (c.grow.ensures.same c.loop-value-test.false) (c.grow.ensures.reached c.loop-value-test.false)
-    (c.grow.ensures.away c.loop-value-test.false) c.in_ok-paths.ensures c.of-side.ensures in
+    let found = flow_found c.args.net.now c.args.demand c.loop-value.residual c.augment.new.residual c.loop-value.search c.loop-value.value c.args.steps.now c.loop-value.steps c.in_ok-paths.paths c.of-side.result
+    c.augment.new.search.reached.items c.requires.sink c.loop-value.invariant c.augment.ensures.demand (c.augment.ensures.same c.loop-value-test.false) (c.augment.ensures.reached c.loop-value-test.false)
+    (c.augment.ensures.away c.loop-value-test.false) c.in_ok-paths.ensures c.of-side.ensures in
     record {
       greatest = found.greatest;
       rising = found.rising;
       side = found.least;
       as_many = found.as_many;
-      ticks = flowing_ticks c.args.net.now c.args.demand c.loop-value.residual c.loop-value.search c.loop-value.value c.args.steps.now c.loop-value.steps c.grow.new.steps c.requires.sink c.loop-value.invariant c.grow.ensures.ticks;
+      ticks = flowing_ticks c.args.net.now c.args.demand c.loop-value.residual c.loop-value.search c.loop-value.value c.args.steps.now c.loop-value.steps c.augment.new.steps c.requires.sink c.loop-value.invariant c.augment.ensures.ticks;
     }

@@ -2,7 +2,7 @@ use Rattle.std.proofs.Common.{◌-◌, length}
 use Rattle.unit_flow.proofs.FlowSteps.{IsFlowing}
 use Rattle.unit_flow.proofs.flow.max_flow_along.Given as goal
 
--- so many units are carried
+-- the used links are a flow of so many units
 abbrev pub invariant-loop-value : goal.invariant-loop-value
 invariant-loop-value g l = IsFlowing l.net l.fn.demand l.residual l.search l.value l.initial.steps l.steps
 

@@ -29,7 +29,7 @@ returns c =
     let Decoded : Code → Type 0 = λ of. block_elements of into ≡ decoded_rows of (c.args.sink * length of.net.patterns + inside.pattern) rows in
     let decoded : Decoded code = subst Decoded c.code-code.ensures.value
     (c.decode_rows.ensures.value
-    ∙ ap (λ (n : ℕ). decoded_rows c.code-code.result.now (c.args.sink * n + inside.pattern) c.deref.result.now) c.len.ensures
+    ∙ ap (λ (n : ℕ). decoded_rows c.code-code.result.now n c.deref.result.now) c.number_of-demand.ensures.value
     ∙ ap (λ (rows : List ℕ). decoded_rows c.code-code.result.now (c.args.sink * length c.code-code.result.now.net.patterns + inside.pattern) rows) c.deref.ensures.value) in
     decoded-carried code inside.pattern c.args.sink (decoded_block code inside.pattern rows) rows into accepted (subst Sinks (sym seen) c.requires.sink) kept.within
     (kept.block has) (kept.carried has) is_into decoded

@@ -3,7 +3,7 @@ use Rattle.counted_steps.specs.Steps.{RoseByAtMost}
 use Rattle.counted_steps.proofs.StepsLaws.{at_most_from_less, at_most_then}
 use Rattle.net_model.specs.Flows.{flow_network, is_on}
 use Rattle.net_model.specs.Walks.{head_of, tail_of}
-use Rattle.unit_flow.proofs.CarryingLaws.{IsFlowNetwork-flow_network}
+use Rattle.unit_flow.proofs.ConservationLaws.{IsFlowNetwork-flow_network}
 use Rattle.unit_flow.specs.Searching.{LeadsOn, ends_at, links_at, node_at}
 use Rattle.unit_flow.proofs.ReachSteps.{IsReached-searched, ends_of-le, searched_more, searched_none, ticks_most}
 use Rattle.unit_flow.proofs.SearchSteps.{node_stays}

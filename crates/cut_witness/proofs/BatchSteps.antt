@@ -1,0 +1,65 @@
+-- The certificates of batches.
+use Rattle.std.specs.Prelude.{◌≡◌, ◌<◌, ◌≤◌, ℕ, zero, suc, ◌+◌, ◌*◌, ◌/◌, List, [], Some, ◌∷◌, ◌++◌, length, slice_get}
+use Rattle.std.proofs.Common.{sym, ◌∙◌, ap, subst, arith}
+use Rattle.std.proofs.Math.Nat.{div-eq_of_lt-le, div-le_of_le-mul, mul-le-mul}
+use Rattle.std.proofs.lemmas.List.{length-append}
+use Rattle.net_model.specs.Demands.{demand_count}
+use Rattle.net_model.specs.declared.net.Net.{Net}
+use Rattle.failure_patterns.specs.Demands.{demand_of}
+use Rattle.cut_witness.specs.Certificate.{AreCertificates, AreCertificatesFrom, IsCertificate}
+use Rattle.cut_witness.proofs.CertificateLaws.{AreCertificatesFrom-append}
+use Rattle.cut_witness.specs.declared.cert.Cert.{Cert}
+
+-- there are none at first
+pub none_yet : (net : Net) (first : ℕ) → AreCertificatesFrom net first []
+none_yet net first = record { at = λ place cert found. cc }
+
+-- that of one demand
+one_alone : (net : Net) (number : ℕ) (cert : Cert) → IsCertificate net cert → cert.demand ≡ demand_of net number → AreCertificatesFrom net number (cert ∷ [])
+one_alone net number cert is same = record { at = λ place one found. first place one found }
+  where
+    first : (place : ℕ) (one : Cert) → slice_get (cert ∷ []) place ≡ Some one → IsCertificate net one × (one.demand ≡ demand_of net (number + place))
+    first zero one found =
+        let this : cert ≡ one = cc in
+        let here : number ≡ number + 0 = omega arith in
+        let Is : Cert → Type 0 = λ some. IsCertificate net some × (some.demand ≡ demand_of net (number + 0)) in
+        subst Is this (is, same ∙ ap (demand_of net) here)
+    first (suc place) one found = absurd cc
+
+-- the certificates from one number on and below another
+pub record AreBetween (net : Net) (from to : ℕ) (certs : List Cert) : Type 0 where
+  pub count : from + length certs ≡ to
+  pub are : AreCertificatesFrom net from certs
+
+-- the certificate of one more demand
+pub one_more : (net : Net) (from number : ℕ) (certs more : List Cert) (cert : Cert) → AreBetween net from number certs → IsCertificate net cert → cert.demand ≡ demand_of net number → more ≡ certs ++ cert ∷ []
+    → AreBetween net from (number + 1) more
+one_more net from number certs more cert are is same added = record {
+  count = omega (arith, are.count, ap length added, length-append certs (cert ∷ []));
+  are = subst (AreCertificatesFrom net from) (sym added) (AreCertificatesFrom-append net from number certs (cert ∷ []) are.count are.are (one_alone net number cert is same));
+}
+
+-- the certificates of one more batch
+pub batch_more : (net : Net) (from to : ℕ) (certs made more : List Cert) → AreBetween net 0 from certs → from + length made ≡ to → AreCertificatesFrom net from made → more ≡ certs ++ made → AreBetween net 0 to more
+batch_more net from to certs made more are count are_made joined = record {
+  count = omega (arith, are.count, count, ap length joined, length-append certs made);
+  are = subst (AreCertificatesFrom net 0) (sym joined) (AreCertificatesFrom-append net 0 from certs made are.count are.are are_made);
+}
+
+-- where a batch starts, by the number of all demands
+pub start_of : (start batch batches count all : ℕ) → start ≡ batch * count / batches → count ≡ all → start ≡ batch * all / batches
+start_of start batch batches count all is same = is ∙ ap (λ demands. batch * demands / batches) same
+
+-- no batch goes past the last demand
+pub batch_within : (batch batches count : ℕ) → batch ≤ batches → batch * count / batches ≤ count
+batch_within batch batches count within = let below : count ≤ count = omega arith in div-le_of_le-mul batches (mul-le-mul within below)
+
+-- the last batch ends with the last demand
+batch_last : (batches count : ℕ) → 0 < batches → batches * count / batches ≡ count
+batch_last batches count some = div-eq_of_lt-le batches (omega arith) (omega arith)
+
+-- after the last batch there are those of all demands
+pub all_batches : (net : Net) (batches batch : ℕ) (certs : List Cert) → 0 < batches → batch ≡ batches → AreBetween net 0 (batch * demand_count net / batches) certs → AreCertificates net certs
+all_batches net batches batch certs some last are =
+    let whole : 0 + length certs ≡ demand_count net = are.count ∙ ap (λ j. j * demand_count net / batches) last ∙ batch_last batches (demand_count net) some in
+    record { each_demand = omega arith; are = are.are }

@@ -1,6 +1,0 @@
-use Rattle.cut_witness.proofs.RunSteps.{AreBetween}
-use Rattle.cut_witness.proofs.runs.certify_run.Given as goal
-
--- the certificates of the demands so far
-abbrev pub invariant-loop-number : goal.invariant-loop-number
-invariant-loop-number g l = AreBetween l.net l.from l.number l.certs.items

@@ -1,0 +1,106 @@
+//! The demands of a network, cut into batches.
+ghost use Rattle.std.specs.Prelude.{◌≡◌, ◌<◌, ◌≤◌, ◌+◌, ◌*◌, ◌/◌, IfOk, length};
+ghost use Rattle.failure_patterns.specs.UsedField.{pair_demands};
+ghost use Rattle.cut_witness.specs.Certificate.{AreCertificates, AreCertificatesFrom, IsCertificate, IsDemand};
+ghost use Rattle.link_chains.specs.Wiring.{IsWiring};
+ghost use Rattle.net_model.specs.Demands.{demand_count};
+ghost use Rattle.unit_flow.specs.Visits.{AreFewVisits};
+
+use crate::Cert;
+use crate::crossing::cut_of;
+use counted_steps::Steps;
+use failure_patterns::{demand_at, demands};
+use lif_outside::Gate;
+use link_chains::Wiring;
+use net_model::{Demand, Net};
+use std::alloc::{AllocError, Global};
+use std::marker::Brand;
+use std::sync::ledger::{Blank, Ledger};
+use unit_flow::{Flow, max_flow_along};
+
+/// The certificate of a demand, where the chains of the network's links are given.
+pub fn certify_along<L: Ledger>(
+    alloc: Global,
+    net: &Net,
+    wiring: &Wiring,
+    demand: Demand,
+    steps: &mut Steps<L>,
+) -> Result<Cert, AllocError>
+    requires wiring { IsWiring net.now.links (length net.now.nodes) wiring.now }
+    requires demand { IsDemand net.now demand }
+    ensures certificate { IfOk result (IsCertificate net.now) }
+    ensures demand { IfOk result (λ cert. cert.demand ≡ demand) }
+    ensures ticks { AreFewVisits net.now demand steps.old steps.new }
+{
+    let Flow { paths, side } = max_flow_along(alloc, net, wiring, demand, steps)?;
+    let cut = cut_of(alloc, net, demand, &side)?;
+    let value = cut.len() as u32;
+    Ok(Cert {
+        demand,
+        value,
+        paths,
+        side,
+        cut,
+    })
+}
+
+/// The certificates of all demands, in so many batches.
+pub fn certify_batches<G: Gate>(
+    alloc: Global,
+    net: &Net,
+    wiring: &Wiring,
+    batches: u32,
+    gate: &G,
+) -> Result<Vec<Cert>, AllocError>
+    requires wiring { IsWiring net.now.links (length net.now.nodes) wiring.now }
+    requires some { 0 < batches }
+    requires few { demand_count net.now ≤ pair_demands }
+    ensures { IfOk result (λ certs. AreCertificates net.now certs.items) }
+{
+    let count = demands(net);
+    let mut certs = Vec::with_capacity(alloc, count as usize)?;
+    for batch in 0..batches {
+        gate.enter(batch);
+        let from = batch_start(batch, batches, count);
+        let to = batch_start(batch + 1, batches, count);
+        let mut made = certify_batch::<Brand>(alloc, net, wiring, from, to, Blank::new(1))?;
+        certs.append(&mut made)?;
+    }
+    Ok(certs)
+}
+
+// The number of the first demand of a batch, among so many demands.
+fn batch_start(batch: u32, batches: u32, count: u64) -> u64
+    requires some { 0 < batches }
+    requires few { count ≤ pair_demands }
+    ensures { result ≡ batch * count / batches }
+{
+    batch as u64 * count / batches as u64
+}
+
+// The certificates of the demands of one batch: from one number on and below another.
+fn certify_batch<L: Ledger>(
+    alloc: Global,
+    net: &Net,
+    wiring: &Wiring,
+    from: u64,
+    to: u64,
+    blank: Blank,
+) -> Result<Vec<Cert>, AllocError>
+    requires wiring { IsWiring net.now.links (length net.now.nodes) wiring.now }
+    requires ordered { from ≤ to }
+    requires within { to ≤ demand_count net.now }
+    requires name { blank.name ≡ L.name }
+    requires parts { blank.parts ≡ L.parts }
+    requires some_part { 0 < blank.parts }
+    ensures count { IfOk result (λ certs. from + length certs.items ≡ to) }
+    ensures certificates { IfOk result (λ certs. AreCertificatesFrom net.now from certs.items) }
+{
+    let mut certs = Vec::with_capacity(alloc, (to - from) as usize)?;
+    let mut steps = Steps::<L>::start(blank);
+    for number in from..to {
+        let cert = certify_along(alloc, net, wiring, demand_at(net, number), &mut steps)?;
+        certs.push(cert)?;
+    }
+    Ok(certs)
+}

@@ -1,0 +1,49 @@
+use Rattle.std.proofs.Common.{◌≡◌, ◌<◌, ◌≤◌, ℕ, List, All, length, map, arith, ap, ◌∙◌, sym, subst}
+use Rattle.std.specs.Prelude.{if◌then◌else◌}
+use Rattle.std.proofs.lemmas.Result.{IfOk-weaker}
+use Rattle.node_program.specs.Value.{leaves_source}
+use Rattle.lif_compiler.specs.Compiled.{marked_kind}
+use Rattle.lif_compiler.specs.Operands.{ArePlaces, AreSources, befores, operands_of}
+use Rattle.lif_compiler.proofs.BasesLaws.{LawsOf}
+use Rattle.lif_compiler.proofs.ChoosingSteps.{All-sources, chosen_by, few_either, few_sources, nonzero_at}
+use Rattle.lif_compiler.proofs.partial_code.PartialCode.choose_operands.Goals as goal
+
+pub table_of-requires-clause-sources : goal.table_of-requires-clause-sources
+table_of-requires-clause-sources g c =
+    let bound : ℕ = if leaves_source c.args.net.now c.args.link then c.args.self.now.rate else length c.args.net.now.links in
+    let Below : ℕ → Type 0 = λ from. from < bound in
+    let P : List ℕ → Type 0 = λ sources. All Below sources in
+    subst P (sym c.deref-2.ensures.value) (All-sources Below (befores c.args.hops.now) c.in_ok-sources.sources.items c.in_ok-sources.ensures c.requires.named)
+
+pub table_of-requires-clause-few_sources : goal.table_of-requires-clause-few_sources
+table_of-requires-clause-few_sources g c =
+    let net = c.args.net.now in
+    let bound : ℕ = if leaves_source net c.args.link then c.args.self.now.rate else length net.links in
+    let Below : ℕ → Type 0 = λ from. from < bound in
+    let few = few_sources (befores c.args.hops.now) c.in_ok-sources.sources.items bound c.in_ok-sources.ensures c.requires.named in
+    let most : bound ≤ 8192 = few_either (leaves_source net c.args.link) c.args.self.now.rate (length net.links) 8192 (omega (arith, c.requires.low_rate)) net.network.few_links in
+    omega (arith, few, most, ap length c.deref-2.ensures.value)
+
+pub choose-requires-clause-nonzero : goal.choose-requires-clause-nonzero
+choose-requires-clause-nonzero g c =
+    let F = g.F.Field in
+    let L = g.met.F.Field in
+    let hops = c.args.hops.now in
+    let Places : List ℕ → List ℕ → Type 0 = ArePlaces (befores hops) in
+    let places = subst (λ sources. Places sources c.deref-3.result.now) (c.deref.ensures.value ∙ sym c.deref-2.ensures.value) (subst (Places c.deref.result.now) (sym c.deref-3.ensures.value) c.in_ok-places.ensures) in
+    let laws : LawsOf F = record { field = L.field; numbering = L.numbering; of_kind = c.requires.field } in
+    nonzero_at laws c.in_ok-table.table (c.in_ok-table.ensures (marked_kind F.MARK) c.requires.field) c.deref-3.result.now places c.requires.own
+
+pub returns : goal.returns
+returns g c =
+    let F = g.F.Field in
+    let L = g.met.F.Field in
+    let hops = c.args.hops.now in
+    let sources = c.deref-2.result.now in
+    let same : c.deref-4.result.now ≡ sources = c.deref-4.ensures.value ∙ sym c.deref-2.ensures.value in
+    let are = subst (AreSources (befores hops)) (sym c.deref-2.ensures.value) c.in_ok-sources.ensures in
+    let laws : LawsOf F = record { field = L.field; numbering = L.numbering; of_kind = c.requires.field } in
+    IfOk-weaker c.operands_with.result _ _
+    (λ operands is. chosen_by laws c.in_ok-table.table (c.in_ok-table.ensures (marked_kind F.MARK) c.requires.field) c.in_ok-coefficients.coefficients.items operands c.choose.ensures.kept are c.in_ok-coefficients.ensures.choice
+    (is ∙ ap (λ (sources : List ℕ). operands_of sources (map F.number c.deref-5.result.now)) same ∙ ap (λ (times : List g.row.F.Denot). operands_of sources (map F.number times)) c.deref-5.ensures.value))
+    c.operands_with.ensures

@@ -1,0 +1,33 @@
+use Rattle.std.proofs.Common.{◌<◌, ◌%◌, ◌∙◌, length, slice_index_or, ap, arith}
+use Rattle.std.proofs.lemmas.Option.{slice_get-get_or, slice_get_within}
+use Rattle.field_vectors.specs.Grid.{Grid}
+use Rattle.lif_compiler.specs.declared.hops.Hop.{Hop}
+use Rattle.lif_compiler.proofs.TableSteps.{inverses_read, products_same, table_more, vectors_read}
+use Rattle.lif_compiler.proofs.partial_code.PartialCode.table_of.Goals as goal
+
+pub loop-row-preserved : goal.loop-row-preserved
+loop-row-preserved g c =
+    let F = g.F.Field in
+    let hops = c.args.hops.now in
+    let row = c.loop-row.row in
+    let none : Hop = record { demand = 0; path = 0; before = 0 } in
+    let hop = slice_index_or hops row none in
+    let within : row < length hops = omega arith in
+    let vectors = c.args.self.now.vectors.items in
+    let among = c.requires.hops row none within in
+    let place : hop.demand % c.len.result < length vectors = omega (arith, c.requires.some_pattern) in
+    table_more F.number _ hops (length c.args.sources.now) row hop c.loop-row.table c.fill_row.new.table c.loop-row.invariant (slice_get-get_or hops row none within)
+    c.fill_row.ensures.columns c.fill_row.ensures.height c.fill_row.ensures.others
+    (λ kind of_kind. c.fill_row.ensures.products kind of_kind
+    ∙ products_same kind F.number c.leaves_source-leaves.result _ c.index-vectors.result.now.columns c.args.self.now.rate c.args.sources.now c.index-vectors.result.now _ c.index.result.now.inverses _ hop.path
+    c.leaves_source-leaves.ensures (ap (λ (m : Grid g.row.F.Denot). m.columns) c.index-vectors.ensures ∙ (c.requires.vectors (hop.demand % c.len.result) c.index-vectors.result.now place).1)
+    (vectors_read vectors hop.demand c.len.result c.index-vectors.result.now c.requires.some_pattern (omega (arith, c.len.ensures)) c.index-vectors.ensures)
+    (inverses_read c.args.self.now.bases.items hop.demand c.index.result.now among.0 c.index.ensures))
+
+pub returns : goal.returns
+returns g c = λ kind of_kind.
+    record {
+      columns = c.loop-row.invariant.same_columns;
+      height = c.loop-row.invariant.height;
+      row = λ k hop there. c.loop-row.invariant.rows k hop (omega (arith, slice_get_within c.args.hops.now k hop there, c.loop-row-test.false)) there kind of_kind;
+    }

@@ -1,0 +1,10 @@
+use Rattle.std.proofs.Common.{◌<◌, length}
+use Rattle.net_model.specs.Walks.{tail_of}
+use Rattle.net_model.proofs.EndLaws.{ends_below}
+use Rattle.net_model.proofs.net.Net.tail.Goals as goal
+
+pub returns-clause-below : goal.returns-clause-below
+returns-clause-below c =
+    let net = c.args.self.now in
+    let below : tail_of net.links c.args.link < length net.nodes = (ends_below net.links (length net.nodes) c.args.link net.network.link_ends c.requires).0 in
+    rw c.at.ensures at below

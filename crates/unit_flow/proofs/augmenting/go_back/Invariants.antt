@@ -1,0 +1,14 @@
+use Rattle.std.proofs.Common.{◌≡◌}
+use Rattle.net_model.specs.Flows.{flow_network}
+use Rattle.unit_flow.proofs.BackSteps.{IsGoingBack, place_of}
+use Rattle.unit_flow.proofs.augmenting.go_back.Given as goal
+
+-- the links up to this node were turned
+abbrev pub invariant-loop-node : goal.invariant-loop-node
+invariant-loop-node l =
+    (l.residual.demand ≡ l.initial.residual.demand)
+    × IsGoingBack (flow_network l.net l.initial.residual.demand) l.initial.residual.states l.search l.residual.states (place_of l.search l.node) l.node
+
+-- the node's place in the queue
+abbrev pub decreases-loop-node : goal.decreases-loop-node
+decreases-loop-node l = place_of l.search l.node
