@@ -36,16 +36,16 @@ impl<'c> Model for Carrier<'c> {
 
     ghost use Rattle.block_carrier.specs.LinkRows.{carried_of, IsCarrier};
 
-    ghost view = { λ c. carried_of c.code.now.code c.pattern c.has_block c.rows.items };
+    ghost view = { λ c. carried_of c.code.now c.pattern c.has_block c.rows.items };
 
-    ghost invariant = { λ c. IsCarrier c.code.now.code c.pattern c.live c.has_block c.rows.items };
+    ghost invariant = { λ c. IsCarrier c.code.now c.pattern c.live c.has_block c.rows.items };
 }
 
 impl<'c> Carrier<'c> {
     /// A carrier of a code under a pattern, without a block yet. It takes all memory that the work needs.
     pub fn open(alloc: Global, code: &'c Checked, pattern: u32) -> Result<Carrier<'c>, AllocError>
-        requires { pattern < length code.now.code.net.patterns }
-        ensures code { IfOk result (λ carrier. carrier.code ≡ code.now.code) }
+        requires { pattern < length code.now.net.patterns }
+        ensures code { IfOk result (λ carrier. carrier.code ≡ code.now) }
         ensures pattern { IfOk result (λ carrier. carrier.pattern ≡ pattern) }
         ensures block { IfOk result (λ carrier. carrier.block ≡ []) }
     {

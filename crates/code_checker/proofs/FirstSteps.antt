@@ -134,10 +134,6 @@ module _ (code : Code) (pattern sink : ℕ) (below : pattern < length code.net.p
     before = identities_all failure.demand (λ demand lower same. omega (arith, sink_place_within code.net demand (omega (arith, lower, is.within)), all)) is.before;
   }
 
--- before the first pattern there is none
-pub first_none : (code : Code) → IsFirstBefore code 0 0 None
-first_none code demand lower which = elim which [ inl before ↦ absurd (omega (arith, before)) | inr here ↦ absurd (omega (arith, here.1)) ]
-
 -- where no demand fails the code is accepted
 pub accepted : (code : Code) → IsFirstBefore code (length code.net.patterns) 0 None → IsAccepted code
 accepted code is = (IsAccepted-identity code).1 (λ demand within. is demand within (inl (pattern_place_within code.net demand within)))

@@ -42,17 +42,6 @@ pub record IsFilled {F : Type 0} (nil : F) (number : F → ℕ) (entries : List 
   pub columns : m.columns ≡ size
   pub entry : (e k : ℕ) → e < size → k < size → (e < i) ⊎ ((e ≡ i) × (k < j)) → number (entry_of nil m e k) ≡ slice_index entries (e * size + k)
 
--- none is filled
-pub filled_none : {F : Type 0} (nil : F) (number : F → ℕ) (entries : List ℕ) (size : ℕ) (m : Grid F) → m ≡ grid_of size size nil
-    → IsFilled nil number entries size 0 0 m
-filled_none {F} nil number entries size m is =
-    let Empty : Grid F → Type 0 = IsFilled nil number entries size 0 0 in
-    subst Empty (sym is) (record {
-      height = length-replicate size (replicate size nil);
-      columns = refl;
-      entry = λ e k below inside which. elim which [ inl first ↦ absurd (omega (arith, first)) | inr here ↦ absurd (omega (arith, here.1)) ];
-    })
-
 -- a whole row is filled
 pub filled_row : {F : Type 0} (nil : F) (number : F → ℕ) (entries : List ℕ) (size i j : ℕ) (m : Grid F) → size ≤ j
     → IsFilled nil number entries size i j m → IsFilled nil number entries size (i + 1) 0 m

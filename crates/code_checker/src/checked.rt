@@ -1,29 +1,39 @@
 //! Codes that were checked, and why one was refused.
+ghost use Rattle.std.specs.Prelude.{◌≡◌};
 ghost use Rattle.node_program.specs.Decoding.{IsAccepted};
 
 use node_program::Code;
+use std::marker::Model;
 
-/// An accepted code.
+/// An accepted code, which contracts see as the code.
 #[derive(Drop)]
 pub struct Checked {
     code: Code,
-    ghost accepted: { IsAccepted code },
+}
+
+impl Model for Checked {
+    ghost use Rattle.node_program.specs.Decoding.{IsAccepted};
+    ghost use Rattle.node_program.specs.declared.code.Code.{Code};
+
+    ghost Value = { Code };
+
+    ghost view = { λ c. c.code };
+
+    ghost invariant = { λ c. IsAccepted c.code };
 }
 
 impl Checked {
-    ghost use Rattle.std.specs.Prelude.{◌≡◌};
-
     // The code, which is accepted.
     pub(crate) fn of(code: Code) -> Checked
         requires { IsAccepted code }
-        ensures { result.code ≡ code }
+        ensures { result ≡ code }
     {
         Checked { code }
     }
 
     /// The code.
     pub fn code(&self) -> &Code
-        ensures value { result.now ≡ self.now.code }
+        ensures value { result.now ≡ self.now }
         ensures accepted { IsAccepted result.now }
     {
         &self.code
@@ -31,7 +41,7 @@ impl Checked {
 
     /// The code, for other use.
     pub fn into_code(self) -> Code
-        ensures value { result ≡ self.code }
+        ensures value { result ≡ self }
         ensures accepted { IsAccepted result }
     {
         self.code

@@ -28,7 +28,7 @@ pub fn check<G: Gate + Sync, R: Threads + Sync>(
     code: Code,
     gate: &G,
 ) -> Result<Checked, Refused>
-    ensures checked { IfOk result (λ checked. checked.code ≡ code) }
+    ensures checked { IfOk result (λ checked. checked ≡ code) }
     ensures accepted { OnOk result (IsAccepted code) }
     ensures returned { IfErr result (λ refused. refused.code ≡ code) }
     ensures refused { IfErr result (λ refused. IsRefusal code refused.why) }

@@ -68,10 +68,6 @@ Takes-then a x b y c p q = record {
   left_fits = q.left_fits;
 }
 
--- the end of a file stays where it is
-pub Takes-end : (rest : Rest) (text : List ℕ) (left : Rest) → Takes rest text left → left.at + length left.bytes ≡ rest.at + length rest.bytes
-Takes-end rest text left takes = omega (arith, takes.place, ap (λ (t : List ℕ). length t) takes.parts, length-append text left.bytes)
-
 -- the value of a step that did not fail
 pub bind_ok : {A B : Type 0} (r : Result A CodeRefusal) (f : A → Result B CodeRefusal) (y : B) → (r >>= f) ≡ Ok y → (x : A) × (r ≡ Ok x) × (f x ≡ Ok y)
 bind_ok (Ok x) f y e = (x, refl, e)

@@ -15,7 +15,7 @@ use Rattle.node_program.specs.declared.code.Code.{Code}
 use Rattle.code_file.specs.Items.{Item, front_items, bytes_of}
 use Rattle.code_file.specs.Reading.{Rest, Reading, ◌>>=◌, Front, Contents, each_at, front_at, operands_at_link, decoder_at, demand_sinks, contents_of, refusal_in, refusal_of}
 use Rattle.code_file.specs.Spelling.{front_of, front_items_in, contents_in, spelling_of, AreContents}
-use Rattle.code_file.proofs.SpellingLaws.{front_items_in-front_of, spelling_of-contents_in}
+use Rattle.code_file.proofs.SpellingLaws.{spelling_of-contents_in}
 use Rattle.code_file.proofs.Readers.{ok_of, IsBytes, Takes, is_memory, bind_ok, bind_not_memory, ok_is}
 use Rattle.code_file.proofs.CodeReaders.{AreContentsRead, front_reader, body_at, body_reader}
 use Rattle.code_file.proofs.ContentsLaws.{IsNetwork-from_read, few_demands-from_read, link_order-from_read, IsFrontRead-from_network, AreContents-from_read, AreContentsRead-from_code}
@@ -142,103 +142,4 @@ code_of contents are =
       code = are.code net refl refl refl refl refl refl;
     }
 
--- the code of contents has them
-pub contents_in-code_of : (contents : Contents) (are : AreContents contents) → contents_in (code_of contents are) ≡ contents
-unfolding code_of
-contents_in-code_of contents are = refl
-
--- contents are spelled as their code
-pub bytes_of-code_of : (contents : Contents) (are : AreContents contents) → bytes_of (code_of contents are) ≡ spelling_of contents
-bytes_of-code_of contents are = sym (spelling_of-contents_in (code_of contents are)) ∙ ap spelling_of (contents_in-code_of contents are)
-
--- contents of a code are read from their spelling
-pub contents_of-spelling_of : (contents : Contents) → AreContents contents → contents_of (spelling_of contents) ≡ Ok contents
-contents_of-spelling_of contents are =
-    ap contents_of (sym (bytes_of-code_of contents are)) ∙ contents_of-bytes_of (code_of contents are) ∙ ap (λ (c : Contents). ok_of c) (contents_in-code_of contents are)
-
--- the file of a code isn't refused
-pub refusal_of-bytes_of : (code : Code) → refusal_of (bytes_of code) ≡ None
-unfolding refusal_of
-refusal_of-bytes_of code = ap (λ (r : Result Contents CodeRefusal). refusal_in r) (contents_of-bytes_of code)
-
--- reading wants no memory
-contents_of-not_memory : (bytes : List ℕ) → is_memory (contents_of bytes) ≡ false
-contents_of-not_memory bytes =
-    subst (λ (r : Result Contents CodeRefusal). is_memory r ≡ false) (contents_of-body bytes)
-    (bind_not_memory (body_at (start_of bytes)) (λ body. end_of body.0 body.1) (body_reader.not_memory (start_of bytes)) (λ body. either (length body.1.bytes == 0) body.0 body.1.at))
-  where
-    either : (b : Bool) (contents : Contents) (at : ℕ) → is_memory (if b then ok_of contents else Err (TrailingBytes at)) ≡ false
-    either true contents at = refl
-    either false contents at = refl
-
--- no file is refused for want of memory
-pub contents_of-out_of_memory : (bytes : List ℕ) → contents_of bytes ≢ Err OutOfMemory
-contents_of-out_of_memory bytes e = true≢false (sym (ap (λ (r : Result Contents CodeRefusal). is_memory r) e) ∙ contents_of-not_memory bytes)
-
--- A file that's no code's is refused, and not for want of memory.
-pub record IsRefused (bytes : List ℕ) : Type 0 where
-  pub refusal : CodeRefusal
-  pub refusal_is : refusal_of bytes ≡ Some refusal
-  pub some_fault : refusal ≢ OutOfMemory
-
--- a file that is no code's is refused
-pub refusal_of-some : (bytes : List ℕ) → IsBytes bytes → ((code : Code) → bytes_of code ≢ bytes) → IsRefused bytes
-unfolding refusal_of
-refusal_of-some bytes fits no_code = either (contents_of bytes) refl
-  where
-    either : (r : Result Contents CodeRefusal) → contents_of bytes ≡ r → IsRefused bytes
-    either (Ok contents) is =
-        let t = AreContents-from_contents_of bytes contents fits is in
-        absurd (no_code (code_of contents t.1) (bytes_of-code_of contents t.1 ∙ sym t.0))
-    either (Err refusal) is = record {
-      refusal = refusal;
-      refusal_is = ap (λ (r : Result Contents CodeRefusal). refusal_in r) is;
-      some_fault = λ e. contents_of-out_of_memory bytes (is ∙ ap (λ (refusal : CodeRefusal). Err refusal) e);
-    }
-
--- a file that isn't refused is that of a code
-pub refusal_of-none : (bytes : List ℕ) → IsBytes bytes → refusal_of bytes ≡ None → (code : Code) × (bytes_of code ≡ bytes)
-unfolding refusal_of
-refusal_of-none bytes fits none = either (contents_of bytes) refl none
-  where
-    either : (r : Result Contents CodeRefusal) → contents_of bytes ≡ r → refusal_in r ≡ None → (code : Code) × (bytes_of code ≡ bytes)
-    either (Ok contents) is none =
-        let t = AreContents-from_contents_of bytes contents fits is in
-        (code_of contents t.1, bytes_of-code_of contents t.1 ∙ sym t.0)
-    either (Err refusal) is none = absurd cc
-
 -- ---- the front alone
-
--- What was read up to the operands was taken from the front of a file, and it's what a network in order and a rate have.
-pub record IsFrontAt (mark : List ℕ) (version : ℕ) (rest : Rest) (front : Front) (left : Rest) : Type 0 where
-  pub takes : Takes rest (concat (front_items_in mark version front)) left
-  pub network : IsNetwork front.nodes front.links front.source front.sinks front.patterns
-  pub some_rate : 1 ≤ front.rate
-  pub low_rate : front.rate ≤ 32
-  pub few_demands : length front.sinks * length front.patterns ≤ 65536
-  pub link_order : IsTrue (are_in_order [] front.links)
-
--- What is read up to the operands is spelled so, each byte of it, and it's what a network in order and a rate have.
-pub IsFrontAt-from_front_at : (mark : List ℕ) (version : ℕ) → length mark ≡ 4 → version < 256 → (rest : Rest) (front : Front) (left : Rest) → IsBytes rest.bytes
-    → front_at mark version rest ≡ Ok (front, left) → IsFrontAt mark version rest front left
-IsFrontAt-from_front_at mark version four small rest front left fits e =
-    let t = (front_reader mark version four small).takes rest front left fits e in
-    record {
-      takes = t.0;
-      network = IsNetwork-from_read front t.1;
-      some_rate = t.1.some_rate;
-      low_rate = t.1.low_rate;
-      few_demands = few_demands-from_read front t.1;
-      link_order = link_order-from_read (length front.nodes) front.links t.1.links;
-    }
-
--- What is spelled up to the operands of a draft is read.
-pub front_at-front_items : (mark : List ℕ) (version : ℕ) → length mark ≡ 4 → version < 256 → (at : ℕ) (more : List ℕ)
-    → {net : Net} {rate : ℕ} {field : FieldKind} {operands : List (List Operand)} → IsDraft net rate field operands
-    → front_at mark version (record { at = at; bytes = concat (front_items mark version net rate field) ++ more })
-    ≡ Ok (front_of net rate field, record { at = at + length (concat (front_items mark version net rate field)); bytes = more })
-front_at-front_items mark version four small at more {net} {rate} {field} draft =
-    let front = front_of net rate field in
-    let read = (front_reader mark version four small).again at more front (IsFrontRead-from_network front net.network draft.some_rate draft.low_rate draft.few_demands draft.link_order) in
-    subst (λ (items : List Item). front_at mark version (record { at = at; bytes = concat items ++ more }) ≡ Ok (front, record { at = at + length (concat items); bytes = more }))
-    (front_items_in-front_of mark version net rate field) read

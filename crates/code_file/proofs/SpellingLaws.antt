@@ -7,11 +7,6 @@ use Rattle.node_program.specs.declared.code.Code.{Code}
 use Rattle.code_file.specs.Items.{Item, front_items, items_of, bytes_of}
 use Rattle.code_file.specs.Spelling.{front_of, contents_in, front_items_in, items_in, spelling_of}
 
--- the items of the front are those of the network, the rate and the field
-pub front_items_in-front_of : (mark : Item) (version : ℕ) (net : Net) (rate : ℕ) (field : FieldKind) → front_items_in mark version (front_of net rate field) ≡ front_items mark version net rate field
-unfolding front_items front_items_in
-front_items_in-front_of mark version net rate field = refl
-
 -- what is said of a code is spelled as the code
 pub spelling_of-contents_in : (code : Code) → spelling_of (contents_in code) ≡ bytes_of code
 unfolding front_items front_items_in items_of items_in bytes_of spelling_of

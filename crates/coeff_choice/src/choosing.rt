@@ -2,7 +2,7 @@
 ghost use Rattle.std.specs.Prelude.{◌≡◌, ◌≢◌, ◌+◌, ◌*◌, ◌^◌, ◌<◌, ◌≤◌, ℕ, true, false, length, slice_index_or, slice_set, replicate, IfOk};
 ghost use Rattle.counted_steps.specs.Steps.{RoseBy, RoseByAtMost};
 ghost use Rattle.field_vectors.specs.Elements.{dot_of};
-ghost use Rattle.field_vectors.specs.Grid.{row_of, entry_of};
+ghost use Rattle.field_vectors.specs.Grid.{row_of, entry_of, IsMatrix};
 ghost use Rattle.coeff_choice.specs.Choice.{HasNonzeroAt, IsChoice, choice_steps};
 ghost use Rattle.coeff_choice.specs.Choosing.{IsChoosing, IsMarked, scaled_plus_unit, forbidden_at};
 
@@ -214,6 +214,7 @@ pub fn choose<F: Field, L: Ledger>(
 ) -> Result<Vec<F>, AllocError>
     requires nonzero { HasNonzeroAt F.zero table.now preds.now }
     requires few { length table.now.rows ≤ F.SIZE }
+    ensures kept { IsMatrix F.is_element table.now }
     ensures choice { IfOk result (λ choice. IsChoice F.is_element F.zero F.add F.mul table.now choice.items) }
     ensures ticks { RoseByAtMost (choice_steps (length table.now.rows) table.now.columns) steps.old steps.new }
 {

@@ -10,10 +10,6 @@ use Rattle.cut_witness.specs.Certificate.{AreCertificates, AreCertificatesFrom, 
 use Rattle.cut_witness.proofs.CertificateLaws.{AreCertificatesFrom-append}
 use Rattle.cut_witness.specs.declared.cert.Cert.{Cert}
 
--- there are none at first
-pub none_yet : (net : Net) (first : ℕ) → AreCertificatesFrom net first []
-none_yet net first = record { at = λ place cert found. cc }
-
 -- that of one demand
 one_alone : (net : Net) (number : ℕ) (cert : Cert) → IsCertificate net cert → cert.demand ≡ demand_of net number → AreCertificatesFrom net number (cert ∷ [])
 one_alone net number cert is same = record { at = λ place one found. first place one found }

@@ -17,10 +17,6 @@ use Rattle.failure_patterns.specs.Rate.{HasLeastCut, IsRate}
 use Rattle.cut_witness.specs.Certificate.{AreCertificates, AreCertificatesFrom, IsCertificate, IsDemand, IsLeastValue}
 use Rattle.cut_witness.specs.declared.cert.Cert.{Cert}
 
--- the demand of each number is one of the network's
-pub IsDemand-demand_of : (net : Net) (number : ℕ) → number < demand_count net → IsDemand net (demand_of net number)
-IsDemand-demand_of net number within = record { sink = sink_place_within net number within; pattern = pattern_place_within net number within }
-
 -- no more links leave a side than there are
 pub few_crossing : (network : FlowNetwork) (side : List Bool) → length (crossing network side) ≤ length network.links
 few_crossing network side =

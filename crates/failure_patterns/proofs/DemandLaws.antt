@@ -67,19 +67,6 @@ demand_of_number net demand pattern =
     rw (div-mul-add demand.sink (length net.patterns) demand.pattern pattern, mod-mul-add demand.sink (length net.patterns) demand.pattern pattern)
     refl
 
--- what holds of the sink of a demand
-sink_test : (net : Net) (demand : ℕ) → demand < demand_count net → is_sink_among (length net.nodes) net.source (sink_of_demand net demand) ≡ true
-sink_test net demand within = passes_at (is_sink_among (length net.nodes) net.source) net.sinks (demand / length net.patterns) 0 net.network.sink_nodes (sink_place_within net demand within)
-
--- the sink of a demand is a node
-pub sink_is_node : (net : Net) (demand : ℕ) → demand < demand_count net → sink_of_demand net demand < length net.nodes
-sink_is_node net demand within = ltb-true _ _ (and_parts _ _ (sink_test net demand within)).0
-
--- the sink of a demand is not the source
-pub sink_is_not_source : (net : Net) (demand : ℕ) → demand < demand_count net → sink_of_demand net demand ≢ net.source
-sink_is_not_source net demand within same =
-    eqb-false _ _ (not-true _ (and_parts _ _ (sink_test net demand within)).1) same
-
 -- there is a demand
 pub some_demand : (net : Net) → 0 < demand_count net
 some_demand net = grind (arith, net.network.some_sink, patterned (length net.links) net.patterns net.network.pattern_links)

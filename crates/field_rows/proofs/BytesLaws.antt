@@ -21,10 +21,6 @@ pub whole_bytes : (field : FieldKind) (n : ℕ) → n % bytes_of_element field �
 whole_bytes Eight n whole = omega arith
 whole_bytes Sixteen n whole = omega arith
 
--- they are as many elements
-pub length-elements_of_whole : (field : FieldKind) (bytes : List ℕ) → length bytes % bytes_of_element field ≡ 0 → length (elements_of field bytes) ≡ length bytes / bytes_of_element field
-length-elements_of_whole field bytes whole = length-elements_of field (length bytes / bytes_of_element field) bytes (whole_bytes field (length bytes) whole)
-
 -- zeros of whole length are elements that are zeros
 pub elements_of-zeros : (field : FieldKind) (n : ℕ) → n % bytes_of_element field ≡ 0 → elements_of field (replicate n 0) ≡ replicate (n / bytes_of_element field) 0
 elements_of-zeros field n whole = ap (λ m. elements_of field (replicate m 0)) (whole_bytes field n whole) ∙ elements_of-zero_row field (n / bytes_of_element field)
@@ -36,12 +32,6 @@ length-pairs_of n bytes even = length-elements_of Sixteen n bytes even
 -- the elements of bytes of whole length give back the bytes
 pub bytes_of_elements-elements_of : (field : FieldKind) (bytes : List ℕ) → AreBytes bytes → length bytes % bytes_of_element field ≡ 0 → bytes_of_elements field (elements_of field bytes) ≡ bytes
 bytes_of_elements-elements_of field bytes h whole = bytes_of_row-elements_of field (length bytes / bytes_of_element field) bytes h (whole_bytes field (length bytes) whole)
-
--- bytes of whole length that are the same elements are the same
-pub elements_of-injective : (field : FieldKind) (xs ys : List ℕ) → AreBytes xs → AreBytes ys → length xs % bytes_of_element field ≡ 0 → length ys % bytes_of_element field ≡ 0
-    → elements_of field xs ≡ elements_of field ys → xs ≡ ys
-elements_of-injective field xs ys h k whole_x whole_y same =
-    sym (bytes_of_elements-elements_of field xs h whole_x) ∙ ap (bytes_of_elements field) same ∙ bytes_of_elements-elements_of field ys k whole_y
 
 -- the number at a place, from its two bytes
 pub get_or-pairs_of : (n j : ℕ) (bytes : List ℕ) → length bytes ≡ 2 * n → get_or (pairs_of bytes) j 0 ≡ 256 * get_or bytes (2 * j) 0 + get_or bytes (2 * j + 1) 0

@@ -41,17 +41,6 @@ unit-behind nought one j a zero below = refl
 unit-behind nought one j a (suc n) below =
     ap₂ (λ (x l : _). x ∷ l) (identity_entry-off nought one j a (λ e. omega arith)) (unit-behind nought one j (a + 1) n (omega arith))
 
--- a row that is two in a row, place by place
-pub append-by_places : {A : Type 0} (d : A) (xs ys row : List A) → length row ≡ length xs + length ys → ((j : ℕ) → j < length xs → get_or row j d ≡ get_or xs j d)
-    → ((j : ℕ) → j < length ys → get_or row (length xs + j) d ≡ get_or ys j d) → row ≡ xs ++ ys
-append-by_places d [] ys row same left right =
-    ext_get_or d row ys (omega arith) (λ j below. let none : 0 + j ≡ j = omega arith in ap (λ k. get_or row k d) (sym none) ∙ right j (omega arith))
-append-by_places d (x ∷ xs) ys [] same left right = absurd (omega arith)
-append-by_places d (x ∷ xs) ys (r ∷ row) same left right =
-    ap₂ (λ (y l : _). y ∷ l) (left 0 (omega arith))
-    (append-by_places d xs ys row (omega arith) (λ j below. left (suc j) (omega arith))
-    (λ j below. let one : suc (length xs) + j ≡ suc (length xs + j) = omega arith in ap (λ k. get_or (r ∷ row) k d) (sym one) ∙ right j below))
-
 module _ {A : Type 0} {P : A → Type 0} {nought one : A} {add mul : A → A → A} {inv : A → A} (F : IsField P nought one add mul inv) where
   -- an element plus zero
   pub add-nought : (x : A) → P x → add x nought ≡ x

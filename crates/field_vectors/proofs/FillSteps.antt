@@ -29,10 +29,6 @@ joined_below-front (suc k) [] ys same within = absurd (omega arith)
 joined_below-front (suc k) (x ∷ xs) [] same within = absurd (omega arith)
 joined_below-front (suc k) (x ∷ xs) (y ∷ ys) same within = ap (λ l. y ∷ l) (joined_below-front k xs ys (omega arith) (omega arith))
 
--- no place is copied yet
-pub fill-none : {A : Type 0} (m : Grid A) (i : ℕ) → m ≡ with_row m i (row_of m i)
-fill-none {A} m i = let make : List (List A) → Grid A = λ rows. record { columns = m.columns; rows = rows } in ap make (sym (set-get_or m.rows i []))
-
 -- one place more
 pub fill-more : {A : Type 0} (nought : A) (old now new : Grid A) (i j : ℕ) (row : List A) (value : A) → i < length old.rows → j < length (row_of old i) → j < length row
     → now ≡ with_row old i (joined_below (λ x y. y) j (row_of old i) row) → value ≡ get_or row j nought → new ≡ with_row now i (set (row_of now i) j value)
@@ -69,37 +65,6 @@ pub record IsFilling {A : Type 0} (nought one : A) (a work : Grid A) (i : ℕ) :
   pub columns : work.columns ≡ length a.rows + length a.rows
   pub filled : (r : ℕ) → r < i → row_of work r ≡ row_of a r ++ unit_of nought one (length a.rows) r
   pub left : (r : ℕ) → i ≤ r → r < length a.rows → row_of work r ≡ replicate (length a.rows + length a.rows) nought
-
--- no row is filled yet
-pub filling-none : {A : Type 0} (nought one : A) (a work : Grid A) (n w : ℕ) → n ≡ length a.rows → w ≡ length a.rows + length a.rows
-    → work ≡ record { columns = w; rows = replicate n (replicate w nought) } → IsFilling nought one a work 0
-filling-none {A} nought one a work n w tall wide made =
-    let rows : work.rows ≡ replicate n (replicate w nought) = ap (λ (m : Grid A). m.rows) made in
-    record {
-      height = ap length rows ∙ length-replicate n (replicate w nought) ∙ tall;
-      columns = ap (λ (m : Grid A). m.columns) made ∙ wide;
-      filled = λ r below. absurd (omega arith);
-      left = λ r from below.
-          ap (λ l. get_or l r []) rows ∙ get_or-replicate n r (replicate w nought) [] (omega arith) ∙ ap (λ k. replicate k nought) wide;
-    }
-
--- one row more
-pub filling-more : {A : Type 0} (nought one : A) (a work new : Grid A) (i : ℕ) → IsFilling nought one a work i → i < length a.rows
-    → new ≡ with_row work i (row_of a i ++ unit_of nought one (length a.rows) i) → IsFilling nought one a new (i + 1)
-filling-more {A} nought one a work new i h below made =
-    let row = row_of a i ++ unit_of nought one (length a.rows) i in
-    let inside : i < length work.rows = omega (arith, h.height) in
-    rw made (record {
-      height = length-set work.rows i row ∙ h.height;
-      columns = h.columns;
-      filled = λ r within.
-          elim (cases_eq r i) [
-            | inl same ↦
-                ap (row_of (with_row work i row)) same ∙ row_of-with_row work i row inside ∙ ap (λ k. row_of a k ++ unit_of nought one (length a.rows) k) (sym same)
-            | inr other ↦ (let before : r < i = omega arith in row_of-with_other work i r row other ∙ h.filled r before)
-          ];
-      left = λ r from within. row_of-with_other work i r row (λ e. omega arith) ∙ h.left r (omega arith) within;
-    })
 
 -- the rows below i hold the places of another matrix from its size on
 pub record IsHalving {A : Type 0} (work half : Grid A) (i : ℕ) : Type 0 where

@@ -43,10 +43,6 @@ pub dot_of-before : {A : Type 0} (nought : A) (add mul : A → A → A) (k : ℕ
     → dot_of nought add mul (drop k xs) (drop k ys) ≡ add (mul (get_or xs k d) (get_or ys k e)) (dot_of nought add mul (drop (k + 1) xs) (drop (k + 1) ys))
 dot_of-before nought add mul k xs ys d e within inside = rw (drop_more xs k d within, drop_more ys k e inside) refl
 
--- the product of the rows from their ends on
-pub dot_of-behind : {A : Type 0} (nought : A) (add mul : A → A → A) (k : ℕ) (xs ys : List A) → length xs ≤ k → dot_of nought add mul (drop k xs) (drop k ys) ≡ nought
-dot_of-behind nought add mul k xs ys all = rw (drop_all k xs all) refl
-
 -- one place more, from what the loop reads and writes
 pub joined_below-written : {X Y : Type 0} (f : X → Y → X) (k : ℕ) (xs : List X) (ys : List Y) (now : List X) (x : X) (y : Y) (z : X) → k < length xs → k < length ys
     → now ≡ joined_below f k xs ys → x ≡ get_or now k x → y ≡ get_or ys k y → z ≡ f x y → set now k z ≡ joined_below f (k + 1) xs ys

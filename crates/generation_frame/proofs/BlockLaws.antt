@@ -19,16 +19,3 @@ pub length-block : (rate : ℕ) (piece : List ℕ) → 1 ≤ rate → length pie
 length-block rate piece some fits =
     let zeros = replicate {A = ℕ} (capacity rate - length piece) 0 in
     omega (arith, length-append piece zeros, length-replicate {A = ℕ} (capacity rate - length piece) 0)
-
--- a block of bytes has bytes
-pub block-bytes : (rate : ℕ) (piece : List ℕ) → All (λ byte. byte < 256) piece → All (λ byte. byte < 256) (block_of rate piece)
-block-bytes rate piece bytes =
-    let P : ℕ → Type 0 = λ byte. byte < 256 in
-    let n = length piece in
-    let zeros = replicate {A = ℕ} (capacity rate - length piece) 0 in
-    let body = piece ++ zeros in
-    let whole = All-append P piece zeros bytes (All-replicate P (capacity rate - length piece) 0 (omega arith)) in
-    let one = All-cons P (n % 256) body (omega arith) whole in
-    let two = All-cons P (n / 256 % 256) (n % 256 ∷ body) (omega arith) one in
-    let three = All-cons P (n / 65536 % 256) (n / 256 % 256 ∷ n % 256 ∷ body) (omega arith) two in
-    All-cons P (n / 16777216 % 256) (n / 65536 % 256 ∷ n / 256 % 256 ∷ n % 256 ∷ body) (omega arith) three

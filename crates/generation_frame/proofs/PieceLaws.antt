@@ -13,10 +13,6 @@ use Rattle.generation_frame.specs.Blocks.{capacity, block_count, piece_of, piece
 pub length-piece_of : (file : List ℕ) (rate generation : ℕ) → length (piece_of file rate generation) ≤ capacity rate
 length-piece_of file rate generation = omega (arith, length-take (capacity rate) (drop (generation * capacity rate) file))
 
--- the pieces before the first generation, and before the next one
-pub pieces_before-zero : (file : List ℕ) (rate : ℕ) → pieces_before file rate 0 ≡ []
-pieces_before-zero file rate = refl
-
 pub pieces_before-more : (file : List ℕ) (rate generations : ℕ)
     → pieces_before file rate (generations + 1) ≡ pieces_before file rate generations ++ (if nat_lt 0 (length (piece_of file rate generations)) then piece_of file rate generations ∷ [] else [])
 pieces_before-more file rate generations = filter_of_map_range_with_len_more (λ piece. nat_lt 0 (length piece)) (piece_of file rate) 0 generations generations (omega arith)

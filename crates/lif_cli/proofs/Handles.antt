@@ -20,10 +20,6 @@ same_or_none false old = inl refl
 pub then_same : {X : Type 0} {old mid new : Option X} → SameOrNone old mid → new ≡ mid → SameOrNone old new
 then_same {old = old} first same = subst (SameOrNone old) (sym same) first
 
-pub then_none : {X : Type 0} {old mid new : Option X} → SameOrNone old mid → SameOrNone mid new → SameOrNone old new
-then_none first (inl same) = then_same first same
-then_none first (inr none) = inr none
-
 -- none stays none
 pub none_stays : {X : Type 0} {old new : Option X} → old ≡ None → SameOrNone old new → new ≡ None
 none_stays none (inl same) = same ∙ none

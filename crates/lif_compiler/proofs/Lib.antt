@@ -1,4 +1,3 @@
-pub mod CompiledLaws
 pub mod RefusedLaws
 pub mod RatingLaws
 pub mod InOrderLaws

@@ -57,17 +57,6 @@ rising-operands_of (from ∷ sources) (one ∷ times) rising =
     cond_both (one == 0) (operands_of sources times) (record { from = from; times = one } ∷ operands_of sources times)
     (λ operands. is_rising (map (λ (o : Operand). o.from) operands) ≡ true) (λ _. rest) (λ _. and_from _ _ (froms_above from sources times parts.0) rest)
 
--- what holds of each source with its coefficient, where that isn't zero, holds of the operands
-pub All-operands_of_at : (P : Operand → Type 0) (sources times : List ℕ)
-    → ((k : ℕ) → k < length sources → get_or times k 0 ≢ 0 → P (record { from = get_or sources k 0; times = get_or times k 0 })) → All P (operands_of sources times)
-All-operands_of_at P [] times each = All-nil P
-All-operands_of_at P (from ∷ sources) [] each = All-nil P
-All-operands_of_at P (from ∷ sources) (one ∷ times) each =
-    let rest = All-operands_of_at P sources times (λ k below nonzero. each (suc k) (omega arith) nonzero) in
-    let first : Operand = record { from = from; times = one } in
-    cond_both (one == 0) (operands_of sources times) (first ∷ operands_of sources times) (All P)
-    (λ _. rest) (λ no. All-cons P first (operands_of sources times) (each zero (omega arith) (eqb-false one 0 no)) rest)
-
 -- what holds of all sources and of all coefficients holds of those of the operands, whose coefficients aren't zero
 pub All-operands_of : (Q R : ℕ → Type 0) (sources times : List ℕ) → All Q sources → All R times → All (λ (o : Operand). Q o.from × R o.times × (0 < o.times)) (operands_of sources times)
 All-operands_of Q R [] times froms coefficients = All-nil (λ (o : Operand). Q o.from × R o.times × (0 < o.times))

@@ -44,7 +44,6 @@ impl<F: Field> PartialCode<F> {
         let sources = sources_of(alloc, hops)?;
         let places = places_of(alloc, hops, &sources)?;
         let table = self.table_of(alloc, net, link, &sources, hops, steps)?;
-        let _rows = table.rows();
         let coefficients = choose(alloc, &table, &places, steps)?;
         operands_with(alloc, &sources, &coefficients)
     }

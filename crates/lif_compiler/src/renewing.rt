@@ -32,8 +32,6 @@ fn renew<F: Field>(
     ensures matrices { OnOk result (HasMatrices basis.new) }
 {
     basis.renew(alloc, path, link, vector)?;
-    let _rows = basis.vectors.rows();
-    let _inverses = basis.inverses.rows();
     Ok(())
 }
 
@@ -63,7 +61,6 @@ pub fn renew_all<F: Field>(
     for hop in hops {
         let demand = hop.demand as usize;
         let vectors = &vectors[demand % vectors.len()];
-        let _columns = vectors.columns();
         renew(alloc, &mut bases[demand], hop.path, link, vectors.row(link))?;
     }
     Ok(())

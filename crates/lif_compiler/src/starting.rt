@@ -42,8 +42,6 @@ fn unit_basis<F: Field>(alloc: Global, rate: u32) -> Result<Basis<F>, AllocError
     ensures matrices { IfOk result HasMatrices }
 {
     let basis = Basis::start(alloc, rate)?;
-    let _rows = basis.vectors.rows();
-    let _inverses = basis.inverses.rows();
     Ok(basis)
 }
 

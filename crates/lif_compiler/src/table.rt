@@ -34,8 +34,6 @@ fn product<F: Field, L: Ledger>(
     ensures value { (kind : FieldKind) → IsOfKind kind F.SIZE F.BYTES F.MARK F.product →
         F.number result ≡ product_by kind F.number leaves vectors.now inverses.now path from }
 {
-    let _rows = inverses.rows();
-    let _columns = vectors.columns();
     if leaves {
         inverses.at(path, from)
     } else {
@@ -101,8 +99,6 @@ impl<F: Field> PartialCode<F> {
             let demand = hop.demand as usize;
             let vectors = &self.vectors[demand % self.vectors.len()];
             let inverses = &self.bases[demand].inverses;
-            let _columns = vectors.columns();
-            let _rows = inverses.rows();
             fill_row(
                 &mut table, row as u32, leaves, sources, vectors, inverses, hop.path, steps,
             );

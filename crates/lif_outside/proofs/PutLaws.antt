@@ -19,14 +19,6 @@ pub says_part-once : (line : List ℕ) (result : Result Unit Failed) → OnErr r
 says_part-once line (Ok done) = tt
 says_part-once line (Err why) = record { front = []; piece = line; rest = []; puts_are = refl; done = refl; part = append-nil line }
 
-pub says-once : (line : List ℕ) (result : Result Unit Failed) → Says line (put_event line result ∷ [])
-says-once line (Ok done) = inl (says_all-once line (Ok done))
-says-once line (Err why) = inr (says_part-once line (Err why))
-
--- no put
-pub says_all-none : SaysAll [] []
-says_all-none = record { done = refl; all = refl }
-
 -- what was said by puts, and then by more
 pub bytes_said-append : (first later : List Put) → bytes_said (first ++ later) ≡ bytes_said first ++ bytes_said later
 bytes_said-append [] later = refl
@@ -67,11 +59,6 @@ says_part-append a b first later one other = record {
       ap (λ front. front ++ behind) (bytes_said-append first other.front) ∙ append_assoc (bytes_said first) (bytes_said other.front) behind ∙ ap (λ front. front ++ (bytes_said other.front ++ behind)) one.all ∙ ap (λ rest. a ++ rest) other.part;
 }
 
--- one text, and then another as far as it could be put
-pub says-append : (a b : List ℕ) (first later : List Put) → SaysAll a first → Says b later → Says (a ++ b) (first ++ later)
-says-append a b first later one (inl all) = inl (says_all-append a b first later one all)
-says-append a b first later one (inr part) = inr (says_part-append a b first later one part)
-
 -- the puts of two lists are those of the first, and then those of the other
 pub grow-split : (first later : List Put) (a c : List ℕ) → Grow (first ++ later) a c → (b : List ℕ) × Grow first a b × Grow later b c
 grow-split [] later a c h = (a, refl, h)
@@ -104,10 +91,6 @@ says_part-grow text puts old new says h =
     let kept = length front + min parts.2.0 (length says.piece) in
     let part : front ++ take parts.2.0 says.piece ≡ take kept text = take-behind front says.piece says.rest parts.2.0 ∙ ap (take kept) says.part in
     (kept, parts.2.1 ∙ ap (λ bytes. bytes ++ take parts.2.0 says.piece) (grow_done says.front old parts.0 says.done parts.1) ∙ append_assoc old front (take parts.2.0 says.piece) ∙ ap (λ bytes. old ++ bytes) part)
-
--- whether a put failed
-pub says_all-unfailed : (text : List ℕ) (puts : List Put) → SaysAll text puts → list_any is_failed_put puts ≡ false
-says_all-unfailed text puts says = says.done
 
 pub says_part-failed : (text : List ℕ) (puts : List Put) → SaysPart text puts → list_any is_failed_put puts ≡ true
 says_part-failed text puts says = ap (list_any is_failed_put) says.puts_are ∙ failed_behind says.front _ says.done

@@ -185,10 +185,6 @@ bytes_appended-append path (created other ∷ first) later = bytes_appended-appe
 bytes_appended-append path (create_failed other ∷ first) later = bytes_appended-append path first later
 bytes_appended-append path (append_failed other came ∷ first) later = bytes_appended-append path first later
 
--- what one append adds
-pub bytes_appended-one : (path bytes : List ℕ) → bytes_appended path (appended path bytes ∷ []) ≡ bytes
-bytes_appended-one path bytes = ap (λ test. (if test then bytes else []) ++ []) ((bytes_eq-Decides path path).1 refl) ∙ append-nil bytes
-
 -- a file that was read keeps every path
 pub whole_keeps : (path place : List ℕ) (limit : ℕ) (bytes : List ℕ) (events : List Event) → ReadsWhole path limit bytes events → AllByRecursion (KeepsPath place) events
 whole_keeps path place limit bytes events whole =

@@ -85,13 +85,6 @@ failed_keeps place event keeps = keeps
 pub stops_keep : (place : List ℕ) (these events : List Event) → StopsWithin these events → AllByRecursion (KeepsPath place) these → AllByRecursion (KeepsPath place) events
 stops_keep place = stops_all (KeepsPath place) (failed_keeps place)
 
--- some calls and then others keep a path that both keep
-pub then_keeps : (P Q : List Event → Type 0) (place : List ℕ) (events : List Event) → Then P Q events
-    → ((first : List Event) → P first → AllByRecursion (KeepsPath place) first) → ((later : List Event) → Q later → AllByRecursion (KeepsPath place) later)
-    → AllByRecursion (KeepsPath place) events
-then_keeps P Q place events parts one other =
-    subst (AllByRecursion (KeepsPath place)) (sym parts.events_are) (all_append (KeepsPath place) parts.first parts.later (one parts.first parts.holds_first) (other parts.later parts.holds_later))
-
 -- an empty file stays empty
 creates_stay : (paths : List (List ℕ)) (place : List ℕ) (b : Option (List ℕ)) → HappenAt place (creates_of paths) (Some []) b → b ≡ Some []
 creates_stay [] place b h = h

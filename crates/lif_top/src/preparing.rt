@@ -46,9 +46,9 @@ fn take_memory<'c>(
     pattern: u32,
     outputs: Vec<String>,
 ) -> Result<Prepared<'c>, AllocError>
-    requires pattern { pattern < length code.now.code.net.patterns }
-    requires outputs { vec_len outputs ≡ length code.now.code.net.sinks }
-    ensures at_work { IfOk result (λ ready. ready.delivery.carrier.code ≡ code.now.code) }
+    requires pattern { pattern < length code.now.net.patterns }
+    requires outputs { vec_len outputs ≡ length code.now.net.sinks }
+    ensures at_work { IfOk result (λ ready. ready.delivery.carrier.code ≡ code.now) }
     ensures pattern { IfOk result (λ ready. ready.delivery.carrier.pattern ≡ pattern) }
     ensures outputs { IfOk result (λ ready. ready.delivery.outputs ≡ outputs) }
     ensures empty { IfOk result (λ ready. ready.room.items ≡ []) }
@@ -73,8 +73,8 @@ pub fn prepare<'a, 'c>(
     words: &SendWords<'a>,
     code: &'c Checked,
 ) -> Result<Prepared<'c>, Outcome<'a>>
-    ensures ready { IfOk result (IsReady (given_in words.now) code.now.code) }
-    ensures refused { IfErr result (λ outcome. RunsCode (given_in words.now) code.now.code outcome.status outcome.line []) }
+    ensures ready { IfOk result (IsReady (given_in words.now) code.now) }
+    ensures refused { IfErr result (λ outcome. RunsCode (given_in words.now) code.now outcome.status outcome.line []) }
 {
     let net = &code.code().net;
     let Some(pattern) = pattern_named(net, words.pattern.as_bytes()) else {

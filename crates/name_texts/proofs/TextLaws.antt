@@ -50,9 +50,6 @@ module _ {X : Type 0} (name : X → List ℕ) (short : (item : X) → length (na
 pub links_text-short : (net : Net) (links : List ℕ) → length (links_text net links) ≤ 33 * length links
 links_text-short net links = with_spaces-short (link_name net) (link_name-short net) links
 
-pub link_lines-short : (net : Net) (links : List ℕ) → length (on_lines (map (link_name net) links)) ≤ 33 * length links
-link_lines-short net links = on_lines-short (link_name net) (link_name-short net) links
-
 pub side_text-short : (net : Net) (side : List Bool) → length (side_text net side) ≤ 33 * length net.nodes
 side_text-short net side =
     let nodes = range_with_len 0 (length net.nodes) in

@@ -7,7 +7,7 @@ use Rattle.std.proofs.lemmas.List.{ext_get_or, length-append}
 use Rattle.std.proofs.lemmas.List.Elements.{All-filter, All-head, All-tail, filter-append}
 use Rattle.std.proofs.lemmas.List.FromFn.{length-range_with_len, get_or-range_with_len}
 use Rattle.net_model.specs.Flows.{FlowNetwork, IsFlow, IsGreatestFlow, IsCut, IsLeastCut, IsSide, IsLeastCrossed, IsLeastSide, is_on, leaves, crossing}
-use Rattle.net_model.proofs.ListLaws.{are_distinct-filter, is_among-filter, is_among-range_with_len, is_rising-filter, is_rising-range_with_len, length-le_from_is_among, is_among-from_length, same_truth}
+use Rattle.net_model.proofs.ListLaws.{are_distinct-filter, is_among-filter, is_among-range_with_len, is_rising-filter, length-le_from_is_among, is_among-from_length, same_truth}
 use Rattle.net_model.specs.Lists.{are_distinct, is_among, is_rising}
 use Rattle.net_model.specs.Walks.{IsWalk, head_of, tail_of}
 
@@ -25,10 +25,6 @@ crossing-leaves network side link =
       λ among. let parts = and_parts (leaves network side link) (is_among (range_with_len 0 (length network.links)) link) (sym both ∙ among) in (ltb-true _ _ (sym of_range ∙ parts.1), parts.0),
       λ is. both ∙ and_from _ _ is.1 (of_range ∙ lt-ltb _ _ is.0),
     )
-
--- the links of a crossing rise
-pub is_rising-crossing : (network : FlowNetwork) (side : List Bool) → is_rising (crossing network side) ≡ true
-is_rising-crossing network side = is_rising-filter (leaves network side) (range_with_len 0 (length network.links)) (is_rising-range_with_len 0 (length network.links))
 
 -- a walk of links that didn't fail from a node on a side to one off it has a link that leaves the side
 walk_leaves : (network : FlowNetwork) (side : List Bool) (walk : List ℕ) (last : ℕ) → suc last ≡ length walk → IsWalk network.links walk → All (λ link. is_among network.failed link ≡ false) walk
@@ -109,10 +105,6 @@ module _ (network : FlowNetwork) (paths : List (List ℕ)) (side : List Bool) (f
 -- two least cuts have as many links
 pub IsLeastCut-same_size : (network : FlowNetwork) (cut other : List ℕ) → IsLeastCut network cut → IsLeastCut network other → length cut ≡ length other
 IsLeastCut-same_size network cut other is other_is = omega (arith, is.least other other_is.is_cut, other_is.least cut is.is_cut)
-
--- two greatest flows have as many paths
-pub IsGreatestFlow-size : (network : FlowNetwork) (paths others : List (List ℕ)) → IsGreatestFlow network paths → IsGreatestFlow network others → length paths ≡ length others
-IsGreatestFlow-size network paths others is other_is = omega (arith, is.greatest others other_is.flow, other_is.greatest paths is.flow)
 
 -- a network has one least side
 pub IsLeastSide-unique : (network : FlowNetwork) (side other : List Bool) → IsLeastSide network side → IsLeastSide network other → side ≡ other

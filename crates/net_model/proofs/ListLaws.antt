@@ -94,15 +94,6 @@ is_rising-filter test (x ∷ xs) rising =
     let above = list_all-from_AllPass (nat_lt x) (filter test xs) (All-filter test (λ y. nat_lt x y ≡ true) xs (AllPass-from_list_all (nat_lt x) xs parts.0)) in
     cond_both (test x) (x ∷ filter test xs) (filter test xs) (λ l. is_rising l ≡ true) (λ _. and_from _ _ above rest) (λ _. rest)
 
--- numbers that are counted up rise
-pub is_rising-range_with_len : (first count : ℕ) → is_rising (range_with_len first count) ≡ true
-is_rising-range_with_len first zero = refl
-is_rising-range_with_len first (suc count) =
-    and_from _ _
-    (list_all-from_AllPass (nat_lt first) (range_with_len (first + 1) count) (λ k d within. let inside : k < count = rw length-range_with_len at within in
-    lt-ltb _ _ (omega (arith, get_or-range_with_len (first + 1) count k d inside))))
-    (is_rising-range_with_len (first + 1) count)
-
 -- distinct numbers that are all among others are at most as many as those
 pub length-le_from_is_among : (xs ys : List ℕ) → are_distinct nat_eq xs ≡ true → ((number : ℕ) → is_among xs number ≡ true → is_among ys number ≡ true) → length xs ≤ length ys
 length-le_from_is_among xs ys apart each =

@@ -18,9 +18,3 @@ pub node_name : (names : List (List ℕ)) (node : ℕ) → node < length names �
 node_name [] node within all = absurd (omega arith)
 node_name (name ∷ names) zero within all = (and_parts _ _ all).0
 node_name (name ∷ names) (suc node) within all = node_name names node (omega arith) (and_parts _ _ all).1
-
--- each sink's node has a name
-pub sink_named : (net : Net) (sink : ℕ) → sink < length net.sinks → IsName (unwrap_or (slice_get net.nodes (slice_index net.sinks sink)) [])
-sink_named net sink within =
-    let test = passes_at (is_sink_among (length net.nodes) net.source) net.sinks sink 0 net.network.sink_nodes within in
-    node_name net.nodes (slice_index net.sinks sink) (ltb-true _ _ (and_parts _ _ test).0) (and_parts _ _ net.network.node_names).0

@@ -38,6 +38,3 @@ module _ {X : Type 0} (f : X → List ℕ) (all front : List X) (last : X) (text
   pub lines_dropped : map f all ≡ slice_split (λ byte. byte == 10) text → all ≡ front ++ last ∷ [] → (length (f last) == 0) ≡ true → map f front ≡ lines_of text
   lines_dropped whole parts empty =
       sym (end_dropped (map f front) (f last) empty) ∙ ap without_empty_end (sym (map_push f front last) ∙ ap (map f) (sym parts) ∙ whole)
-
-pub no_lines : {X : Type 0} (f : X → List ℕ) (all : List X) (text : List ℕ) → map f all ≡ slice_split (λ byte. byte == 10) text → all ≡ [] → map f all ≡ lines_of text
-no_lines f all text whole none = ap (map f) none ∙ ap without_empty_end (ap (map f) (sym none) ∙ whole)

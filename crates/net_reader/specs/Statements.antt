@@ -52,14 +52,6 @@ statement_of first words =
     else if bytes_eq first (codes "pattern") then pattern_of words
     else None
 
--- the names in a statement
-abbrev pub names_in : Statement → List (List ℕ)
-names_in (field_is bits) = []
-names_in (source_is node) = node ∷ []
-names_in (sink_is node) = node ∷ []
-names_in (link_is name tail head) = name ∷ tail ∷ head ∷ []
-names_in (pattern_is name links) = name ∷ links
-
 -- the names of nodes in a statement, in order
 abbrev pub nodes_in : Statement → List (List ℕ)
 nodes_in (source_is node) = node ∷ []

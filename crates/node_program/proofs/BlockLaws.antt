@@ -28,10 +28,6 @@ IsBlock-rows field rate width rows same wide h =
       elements = AreRows-elements field (width_of rows) rows fits;
     }
 
--- the block of the unit vectors is the identity
-pub unit_block-identity : (rate : ℕ) → unit_block rate ≡ identity rate
-unit_block-identity rate = refl
-
 -- the width of the identity
 pub width_of-identity : (size : ℕ) → width_of (identity size) ≡ size
 width_of-identity zero = refl

@@ -104,10 +104,3 @@ pub operands_of_draft : {net : Net} {rate : ℕ} {field : FieldKind} {operands :
 operands_of_draft {net} {rate} {field} {operands} draft link =
     fitting_operands net rate field link draft.link_order (slice_get net.links link) (operands_at operands link) refl
     (operands_fit net rate field net.links operands link draft.link_operands)
-
--- an operand of a link that doesn't leave the source names a link of lower number
-pub operand_before : {net : Net} {rate : ℕ} {field : FieldKind} {operands : List (List Operand)} → IsDraft net rate field operands
-    → (link : ℕ) → leaves_source net link ≡ false → All (λ operand. operand.from < link) (operands_at operands link)
-operand_before {net} {rate} {field} {operands} draft link inner =
-    All-weaker (IsOperand net rate field link) (λ operand. operand.from < link) (λ operand is. is.earlier_link inner)
-    (operands_at operands link) (operands_of_draft draft link)

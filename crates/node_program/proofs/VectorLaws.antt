@@ -88,13 +88,6 @@ pub value-vector : {net : Net} {rate : ℕ} {field : FieldKind} {operands : List
     → value net field operands failed block link ≡ combination field (width_of block) (global_vector net field operands failed rate link) block
 value-vector draft is failed link = value_within-vector draft is failed (suc link) link
 
--- the vector of a link that isn't live is zero
-pub global_vector-dead : {net : Net} {rate : ℕ} {field : FieldKind} {operands : List (List Operand)} → IsDraft net rate field operands
-    → (failed : List ℕ) (link : ℕ) → is_live net operands failed link ≡ false
-    → global_vector net field operands failed rate link ≡ zero_row rate
-global_vector-dead {net} {rate} {field} {operands} draft failed link dead =
-    value-dead draft failed (unit_block rate) link dead ∙ ap zero_row (width_of-identity rate)
-
 -- either of two rows is either of two others
 either_same : (test : Bool) (x y z : List ℕ) → (test ≡ true → x ≡ z) → (if test then x else y) ≡ (if test then z else y)
 either_same true x y z first = first refl

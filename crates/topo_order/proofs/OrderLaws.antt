@@ -133,12 +133,6 @@ order_from-step links placed x room found =
     let left : length links - length placed ≡ suc more = omega (arith, length-append placed (x ∷ [])) in
     ap (λ n. order_from links n placed) left ∙ ap (λ next. option_map_or (λ link. order_from links more (placed ++ link ∷ [])) next placed) found
 
--- the order, with all links placed
-pub order_from-whole : (links : List Link) (placed : List ℕ) → length placed ≡ length links → order_from links (length links - length placed) placed ≡ placed
-order_from-whole links placed whole =
-    let none : length links - length placed ≡ 0 = omega arith in
-    ap (λ n. order_from links n placed) none
-
 -- links placed one after another stay so
 pub IsPlaced-order_from : (links : List Link) (more : ℕ) (placed : List ℕ) → IsPlaced links placed → IsPlaced links (order_from links more placed)
 IsPlaced-order_from links zero placed sound = sound
@@ -326,10 +320,6 @@ length-order_of links acyclic = elim (order_end links (length links) []) [
   | inr whole ↦ omega (arith, whole)
 ]
 
--- each of them once
-pub is_among-order_of : (links : List Link) → IsAcyclic links → (l : ℕ) → l < length links → is_among (order_of links) l ≡ true
-is_among-order_of links acyclic l within = is_among-whole links (order_of links) (IsPlaced-order_of links) (length-order_of links acyclic) l within
-
 pub IsDistinct-order_of : (links : List Link) → IsDistinct nat_eq (order_of links)
 IsDistinct-order_of links = (IsPlaced-order_of links).distinct
 
@@ -338,10 +328,6 @@ pub order_of-after : (links : List Link) (place l : ℕ) → place < length (ord
     → is_among (take place (order_of links)) l ≡ true
 order_of-after links place l inside within leads =
     reached_at links (take place (order_of links)) (tail_of links (slice_index (order_of links) place)) ((IsPlaced-order_of links).after place inside) l within leads
-
--- a network has an order of all its links exactly where it has no cycle
-pub IsAcyclic-order_of : (links : List Link) → length (order_of links) ≡ length links → IsAcyclic links
-IsAcyclic-order_of links whole = IsAcyclic-from_whole links (order_of links) (IsPlaced-order_of links) whole
 
 -- the order has numbers of links alone
 pub order_below : (links : List Link) → All (λ link. link < length links) (order_of links)

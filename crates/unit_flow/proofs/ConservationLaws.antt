@@ -52,10 +52,6 @@ get_set_other (first ∷ states) (suc link) (suc other) state apart = get_set_ot
 pub is_used-set_same : (states : List LinkState) (link : ℕ) (state : LinkState) → link < length states → is_used (slice_set states link state) link ≡ is_used_state state
 is_used-set_same states link state within = ap (λ one. option_map_or is_used_state one false) (get_set_same states link state within)
 
--- and so with free
-pub is_free-set_same : (states : List LinkState) (link : ℕ) (state : LinkState) → link < length states → is_free (slice_set states link state) link ≡ is_free_state state
-is_free-set_same states link state within = ap (λ one. option_map_or is_free_state one false) (get_set_same states link state within)
-
 -- and failed
 pub is_failed-set_same : (states : List LinkState) (link : ℕ) (state : LinkState) → link < length states → is_failed (slice_set states link state) link ≡ is_failed_state state
 is_failed-set_same states link state within = ap (λ one. option_map_or is_failed_state one false) (get_set_same states link state within)

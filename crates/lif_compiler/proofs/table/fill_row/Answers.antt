@@ -12,7 +12,7 @@ loop-column-preserved g c =
     let Entry : ℕ → ℕ → Type 0 = λ column entry. (kind : FieldKind) → IsOfKind kind F.SIZE F.BYTES F.MARK F.product
     → entry ≡ dot kind (source_vector c.args.leaves c.args.vectors.now.columns (numbers_at F.number c.args.vectors.now) (slice_index c.args.sources.now column)) (numbers_at F.number c.args.inverses.now c.args.path) in
     filled_more F.number c.args.row Entry c.loop-column.column c.args.table.now c.loop-column.table c.set.new.self c.product-entry.result
-    c.requires.row (omega (arith, c.requires.columns, c.loop-column-test.true)) c.loop-column.invariant c.set.ensures c.product-entry.ensures.value
+    c.requires.row (omega (arith, c.requires.columns, c.loop-column-test.true)) c.loop-column.invariant c.set.ensures.value c.product-entry.ensures.value
 
 pub returns-clause-products : goal.returns-clause-products
 returns-clause-products g c = λ kind of_kind.

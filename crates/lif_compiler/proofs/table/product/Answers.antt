@@ -7,7 +7,7 @@ returns-then-leaves-clause-value g c = λ kind of_kind.
     let L = g.met.F.Field in
     ap g.F.Field.number c.at.ensures.value
     ∙ unit_product L.field L.numbering kind of_kind c.args.leaves c.args.vectors.now.columns c.args.vectors.now c.args.inverses.now c.args.path c.args.from
-    c.if-leaves.true c.rows-rows.ensures.kept c.requires.path c.requires.width (c.requires.row c.if-leaves.true)
+    c.if-leaves.true c.at.ensures.kept c.requires.path c.requires.width (c.requires.row c.if-leaves.true)
 
 pub returns-else-leaves-clause-value : goal.returns-else-leaves-clause-value
 returns-else-leaves-clause-value g c = λ kind of_kind.

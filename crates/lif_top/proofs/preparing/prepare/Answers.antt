@@ -10,25 +10,25 @@ use Rattle.lif_top.proofs.preparing.prepare.Goals as goal
 
 pub returns-in_default-clause-refused : goal.returns-in_default-clause-refused
 returns-in_default-clause-refused c =
-    let named = named_in c.args.words.now c.args.code.now.code c.code.result.now c.as_bytes.result.now c.pattern_named.result c.code.ensures.value c.as_bytes.ensures.value c.pattern_named.ensures in
+    let named = named_in c.args.words.now c.args.code.now c.code.result.now c.as_bytes.result.now c.pattern_named.result c.code.ensures.value c.as_bytes.ensures.value c.pattern_named.ensures in
     (subst IsNone (sym (named ∙ c.in_default.is)) refl, c.unknown_pattern.ensures, refl)
 
 pub returns-in-Some-shared_path-clause-refused : goal.returns-in-Some-shared_path-clause-refused
 returns-in-Some-shared_path-clause-refused c =
     let words = c.args.words.now in
     let path = c.before.before.in-Some-shared_path.path in
-    let named = named_in words c.args.code.now.code c.code.result.now c.as_bytes.result.now c.pattern_named.result c.code.ensures.value c.as_bytes.ensures.value c.pattern_named.ensures in
-    let outputs = ap (map string_bytes) c.deref.ensures.value ∙ outputs_in words c.args.code.now.code c.code.result.now _ c.code.ensures.value c.in_ok-outputs.ensures.paths in
-    let shared : shared_of (given_in words) c.args.code.now.code ≡ Some path.now =
+    let named = named_in words c.args.code.now c.code.result.now c.as_bytes.result.now c.pattern_named.result c.code.ensures.value c.as_bytes.ensures.value c.pattern_named.ensures in
+    let outputs = ap (map string_bytes) c.deref.ensures.value ∙ outputs_in words c.args.code.now c.code.result.now _ c.code.ensures.value c.in_ok-outputs.ensures.paths in
+    let shared : shared_of (given_in words) c.args.code.now ≡ Some path.now =
     sym (sym (ap (option_map (λ one. one.now)) c.in-Some-shared_path.is) ∙ c.shared_path.ensures ∙ ap (shared_path (words.code.now ∷ words.source.now ∷ [])) outputs) in
     (path.now, subst IsSome (sym (named ∙ c.in-Some.is)) refl, shared, c.same_path.ensures, refl)
 
 pub returns-clause-ready : goal.returns-clause-ready
 returns-clause-ready c =
     let words = c.args.words.now in
-    let named = named_in words c.args.code.now.code c.code.result.now c.as_bytes.result.now c.pattern_named.result c.code.ensures.value c.as_bytes.ensures.value c.pattern_named.ensures in
-    let paths = outputs_in words c.args.code.now.code c.code.result.now _ c.code.ensures.value c.in_ok-outputs.ensures.paths in
-    let apart : shared_of (given_in words) c.args.code.now.code ≡ None =
+    let named = named_in words c.args.code.now c.code.result.now c.as_bytes.result.now c.pattern_named.result c.code.ensures.value c.as_bytes.ensures.value c.pattern_named.ensures in
+    let paths = outputs_in words c.args.code.now c.code.result.now _ c.code.ensures.value c.in_ok-outputs.ensures.paths in
+    let apart : shared_of (given_in words) c.args.code.now ≡ None =
     sym (sym (ap (option_map (λ one. one.now)) c.in_default-shared_path.is) ∙ c.shared_path.ensures
     ∙ ap (shared_path (words.code.now ∷ words.source.now ∷ [])) (ap (map string_bytes) c.deref.ensures.value ∙ paths)) in
     let taken = c.in_ok-take_memory.ensures in

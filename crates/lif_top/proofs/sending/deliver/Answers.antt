@@ -20,7 +20,7 @@ use Rattle.lif_top.proofs.sending.deliver.Goals as goal
 pub returns-in-Err : goal.returns-in-Err
 returns-in-Err g c =
     let send = given_in c.args.words.now in
-    let code = c.args.code.now.code in
+    let code = c.args.code.now in
     let refusal = c.in-Err.refusal in
     calls_then g.met.S.Store.more_calls _ _ _ c.in-Ok.ensures.created c.in-Err.ensures.refused
     (λ first later one other. subst (λ outcome. RunsCode send code outcome.status outcome.line (first ++ later)) (sym c.into.ensures)
@@ -38,7 +38,7 @@ carry_source-requires-clause-made g c = λ path there.
 pub returns-in-Ok-carry_source : goal.returns-in-Ok-carry_source
 returns-in-Ok-carry_source g c =
     let send = given_in c.args.words.now in
-    let code = c.args.code.now.code in
+    let code = c.args.code.now in
     let counts = c.in-Ok-carry_source.counts in
     let source = c.in-Ok-read_whole.source.items in
     let paths = paths_of c.args.ready.delivery in
@@ -57,7 +57,7 @@ returns-in-Ok-carry_source g c =
 pub returns : goal.returns
 returns g c =
     let send = given_in c.args.words.now in
-    let code = c.args.code.now.code in
+    let code = c.args.code.now in
     let source = c.in-Ok-read_whole.source.items in
     let outcome = c.write_fault-in-Err-carry_source in
     let paths = paths_of c.args.ready.delivery in

@@ -8,7 +8,7 @@ use Rattle.lif_top.proofs.sending.send.Goals as goal
 pub returns-in-Ok : goal.returns-in-Ok
 returns-in-Ok g c =
     let send = given_in c.args.words.now in
-    runs_had code_limit IsCodeOf RefusesCode send.code g.met.S.Store.more_calls (Sends send) c.in-Ok.checked.code c.send_through.result c.in-Ok.ensures.had c.send_through.ensures
+    runs_had code_limit IsCodeOf RefusesCode send.code g.met.S.Store.more_calls (Sends send) c.in-Ok.checked c.send_through.result c.in-Ok.ensures.had c.send_through.ensures
 
 pub returns-in-Err : goal.returns-in-Err
 returns-in-Err g c =

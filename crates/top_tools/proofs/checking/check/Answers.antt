@@ -13,7 +13,7 @@ done line = record { status = Done; line = line }
 
 pub returns-in-Ok : goal.returns-in-Ok
 returns-in-Ok g c =
-    inspects_had code_limit IsCodeOf RefusesCode IsChecked c.args.path.now c.in-Ok.checked.code (done c.accepted.result) c.in-Ok.ensures.had
+    inspects_had code_limit IsCodeOf RefusesCode IsChecked c.args.path.now c.in-Ok.checked (done c.accepted.result) c.in-Ok.ensures.had
     (inl (ap done (c.accepted.ensures ∙ ap accepted_line c.code.ensures.value)))
 
 pub returns-in-Err : goal.returns-in-Err

@@ -3,6 +3,7 @@ use Rattle.std.proofs.lemmas.List.{take_at}
 use Rattle.std.proofs.lemmas.List.Elements.{All-from_get_or}
 use Rattle.node_program.specs.CodeValue.{is_live_in}
 use Rattle.node_program.specs.declared.code.Code.{Code}
+use Rattle.node_program.specs.Decoding.{IsAccepted}
 use Rattle.block_carrier.specs.Carried.{Carried}
 use Rattle.block_carrier.proofs.CarriedLaws.{AreLinkRows-written, AreCarried-written, AreCarried-dead}
 use Rattle.block_carrier.proofs.DecodedLaws.{decoded_block-first}
@@ -75,35 +76,36 @@ rows_left c =
     (c.loop-link.auto.rows ∙ ap (length {A = ℕ}) c.as_mut_slice-rows.ensures.value ∙ sym c.self.inside.rows.ok.0)
 
 -- the block is one of the carrier's code
-is_block_inside : (c : After-as_mut_slice-rows) → IsBlockOf c.self.inside.code.now.code c.args.block.now
+is_block_inside : (c : After-as_mut_slice-rows) → IsBlockOf c.self.inside.code.now c.args.block.now
 is_block_inside c = subst (λ (code : Code). IsBlockOf code c.args.block.now) c.code-code.ensures.value (is_block c)
 
 -- links that have the rows that they carry of the block are all links, where they are as many as the table has
 all_carried : (c : After-as_mut_slice-rows) (link : ℕ) (rows : List ℕ) → length c.self.inside.live ≤ link
     → AreCarried c.code-code.result.now c.args.self.now.pattern c.args.block.now link rows
-    → AreCarried c.self.inside.code.now.code c.self.inside.pattern c.args.block.now (length c.self.inside.code.now.code.net.links) rows
+    → AreCarried c.self.inside.code.now c.self.inside.pattern c.args.block.now (length c.self.inside.code.now.net.links) rows
 all_carried c link rows all carried =
     let Carried : Code → ℕ → Type 0 = λ code pattern. AreCarried code pattern c.args.block.now link rows in
     let At : Code → Type 0 = λ code. Carried code c.args.self.now.pattern in
-    let inside = subst (Carried c.self.inside.code.now.code) (sym (same_pattern c)) (subst At c.code-code.ensures.value carried) in
+    let inside = subst (Carried c.self.inside.code.now) (sym (same_pattern c)) (subst At c.code-code.ensures.value carried) in
     λ e within. inside e (omega (arith, within, all, c.self.invariant.table.count))
 
 -- the rows of links that aren't live are zeros
 all_kept : (c : After-as_mut_slice-rows) (rows : List ℕ) → AreLinkRows c.code-code.result.now c.args.self.now.pattern rows
-    → AreLinkRows c.self.inside.code.now.code c.self.inside.pattern rows
+    → AreLinkRows c.self.inside.code.now c.self.inside.pattern rows
 all_kept c rows kept =
     let Kept : Code → ℕ → Type 0 = λ code pattern. AreLinkRows code pattern rows in
     let At : Code → Type 0 = λ code. Kept code c.args.self.now.pattern in
-    subst (Kept c.self.inside.code.now.code) (sym (same_pattern c)) (subst At c.code-code.ensures.value kept)
+    subst (Kept c.self.inside.code.now) (sym (same_pattern c)) (subst At c.code-code.ensures.value kept)
 
 pub invariant_of-self : goal.invariant_of-self
 invariant_of-self c =
     let here = (goal.at.invariant_of-self c).After-as_mut_slice-rows in
     let inside = c.self.inside in
-    let code = inside.code.now.code in
+    let code = inside.code.now in
+    let accepted : IsAccepted code = subst IsAccepted c.code-code.ensures.value c.code-code.ensures.accepted in
     let all : length inside.live ≤ c.loop-link.link = omega (arith, c.loop-link-test.false, c.len-link-end.ensures) in
     subst (IsCarrier code inside.pattern inside.live true) (sym (rows_left (goal.at.invariant_of-self c).After-loop-link))
-    (IsCarrier-carried code inside.pattern inside.live c.args.block.now c.loop-link.rows inside.code.now.accepted c.self.invariant.within c.self.invariant.table
+    (IsCarrier-carried code inside.pattern inside.live c.args.block.now c.loop-link.rows accepted c.self.invariant.within c.self.invariant.table
     (all_kept here c.loop-link.rows c.loop-link.invariant.kept) (is_block_inside here)
     (all_carried here c.loop-link.link c.loop-link.rows all c.loop-link.invariant.carried))
 
@@ -111,8 +113,9 @@ pub returns-clause-block : goal.returns-clause-block
 returns-clause-block c =
     let here = (goal.at.returns-clause-block c).After-as_mut_slice-rows in
     let inside = c.self.inside in
-    let code = inside.code.now.code in
+    let code = inside.code.now in
+    let accepted : IsAccepted code = subst IsAccepted c.code-code.ensures.value c.code-code.ensures.accepted in
     let all : length inside.live ≤ c.loop-link.link = omega (arith, c.loop-link-test.false, c.len-link-end.ensures) in
     ap (decoded_block code inside.pattern) (rows_left (goal.at.returns-clause-block c).After-loop-link)
-    ∙ decoded_block-first code inside.pattern c.args.block.now c.loop-link.rows inside.code.now.accepted c.self.invariant.within (is_block_inside here)
+    ∙ decoded_block-first code inside.pattern c.args.block.now c.loop-link.rows accepted c.self.invariant.within (is_block_inside here)
     (all_carried here c.loop-link.link c.loop-link.rows all c.loop-link.invariant.carried)

@@ -1,6 +1,7 @@
 use Rattle.std.proofs.Common.{ℕ, List, Bool, true, ◌≡◌, ◌<◌, ◌+◌, ◌*◌, length, sym, ap, ◌∙◌, subst}
 use Rattle.std.proofs.lemmas.List.Elements.{All-from_get_or}
 use Rattle.node_program.specs.declared.code.Code.{Code}
+use Rattle.node_program.specs.Decoding.{IsAccepted}
 use Rattle.block_carrier.specs.Carried.{Carried, HasBlock, block_elements}
 use Rattle.block_carrier.proofs.DecodedLaws.{decoded-carried}
 use Rattle.block_carrier.proofs.CarrierLaws.{has_block}
@@ -10,7 +11,8 @@ use Rattle.block_carrier.proofs.carrier.Carrier.decode.Goals as goal
 pub returns : goal.returns
 returns c =
     let inside = c.self.inside in
-    let code = inside.code.now.code in
+    let code = inside.code.now in
+    let accepted : IsAccepted code = subst IsAccepted c.code-code.ensures.value c.code-code.ensures.accepted in
     let rows = inside.rows.items in
     let into = c.decode_rows.new.into in
     let kept = c.self.invariant in
@@ -29,6 +31,6 @@ returns c =
     (c.decode_rows.ensures.value
     ∙ ap (λ (n : ℕ). decoded_rows c.code-code.result.now n c.deref.result.now) c.number_of-demand.ensures.value
     ∙ ap (λ (rows : List ℕ). decoded_rows c.code-code.result.now (c.args.sink * length c.code-code.result.now.net.patterns + inside.pattern) rows) c.deref.ensures.value) in
-    decoded-carried code inside.pattern c.args.sink (decoded_block code inside.pattern rows) rows into inside.code.now.accepted (subst Sinks (sym seen) c.requires.sink) kept.within
+    decoded-carried code inside.pattern c.args.sink (decoded_block code inside.pattern rows) rows into accepted (subst Sinks (sym seen) c.requires.sink) kept.within
     (kept.block has) (kept.carried has) is_into decoded
     ∙ block

@@ -7,7 +7,7 @@ use Rattle.block_carrier.proofs.carrier.Carrier.open.Goals as goal
 pub invariant_of-result : goal.invariant_of-result
 invariant_of-result c =
     let Table : Code → Type 0 = λ code. IsLiveTable code c.args.pattern c.in_ok-live.live in
-    IsCarrier-opened c.args.code.now.code c.args.pattern (c.len.result * 1024) c.in_ok-live.live c.in_ok-rows.rows.items c.requires
+    IsCarrier-opened c.args.code.now c.args.pattern (c.len.result * 1024) c.in_ok-live.live c.in_ok-rows.rows.items c.requires
     (subst Table c.code.ensures.value (record {
       count = c.in_ok-live.ensures.count;
       entries = c.in_ok-live.ensures.entries;

@@ -44,6 +44,6 @@ returns g c =
     let are = subst (AreSources (befores hops)) (sym c.deref-2.ensures.value) c.in_ok-sources.ensures in
     let laws : LawsOf F = record { field = L.field; numbering = L.numbering; of_kind = c.requires.field } in
     IfOk-weaker c.operands_with.result _ _
-    (λ operands is. chosen_by laws c.in_ok-table.table (c.in_ok-table.ensures (marked_kind F.MARK) c.requires.field) c.in_ok-coefficients.coefficients.items operands c.rows-rows.ensures.kept are c.in_ok-coefficients.ensures.choice
+    (λ operands is. chosen_by laws c.in_ok-table.table (c.in_ok-table.ensures (marked_kind F.MARK) c.requires.field) c.in_ok-coefficients.coefficients.items operands c.choose.ensures.kept are c.in_ok-coefficients.ensures.choice
     (is ∙ ap (λ (sources : List ℕ). operands_of sources (map F.number c.deref-5.result.now)) same ∙ ap (λ (times : List g.row.F.Denot). operands_of sources (map F.number times)) c.deref-5.ensures.value))
     c.operands_with.ensures
