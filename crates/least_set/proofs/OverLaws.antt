@@ -1,0 +1,133 @@
+-- The words over the words of a set: what they say after a change, and that they lead to the least number.
+use Rattle.std.specs.Prelude.{◌≡◌, ◌≢◌, ◌<◌, ◌≤◌, ◌*◌, ◌+◌, ◌/◌, ◌%◌, ◌^◌, ◌==◌, ℕ, zero, suc, List, [], ◌∷◌, ◌++◌, length, take, drop, slice_index_or, min, bit_or}
+use Rattle.std.specs.Int.{bit_at, w64}
+use Rattle.std.proofs.Common.{refl, sym, ap, subst, ◌∙◌, arith, inl, inr}
+use Rattle.std.proofs.lemmas.Bool.{cases_Bool, eqb-false, eqb-true}
+use Rattle.std.proofs.lemmas.List.{append-nil, take_all}
+use Rattle.std.proofs.lemmas.Nat.Bits.{bit_at_set_other, bit_at_set_same}
+use Rattle.std.proofs.Math.ListN.{drop_of_length-le}
+use Rattle.least_set.specs.Members.{Members, bit_of, has, SameElsewhere, SetsBit, ClearsBit, IsFirstBit, IsLeast, IsOver, Tells}
+use Rattle.least_set.proofs.WordLaws.{no_bit, some_from_bit}
+
+-- a list that was changed in place, and is as long as it was
+pub put_back : (count : ℕ) (old new : List ℕ) → count ≡ length old → length new ≡ length old → take count (new ++ drop (length new) old) ≡ new
+put_back count old new is same =
+    ap (λ rest. take count (new ++ rest)) (drop_of_length-le old {i = length new} (omega (arith, same))) ∙ ap (take count) (append-nil new) ∙ take_all count new (omega (arith, is, same))
+
+-- one of a number that isn't 0, and of 0
+pub min_some : (n : ℕ) → n ≢ 0 → 1 ≡ min 1 n
+min_some n some = omega (arith, some)
+
+some_from_min : (n : ℕ) → min 1 n ≡ 1 → n ≢ 0
+some_from_min n e none = omega (arith, e, none)
+
+none_from_min : (n : ℕ) → min 1 n ≡ 0 → n ≡ 0
+none_from_min n e = omega (arith, e)
+
+module _ (lower lower' : List ℕ) (bit bit' : ℕ → ℕ) (word : ℕ) (tells : Tells lower bit) (elsewhere : SameElsewhere word lower lower')
+    (others : (other : ℕ) → other ≢ word → bit' other ≡ bit other) where
+  at_other : (other : ℕ) → other ≢ word → bit' other ≡ min 1 (slice_index_or lower' other 0)
+  at_other other apart = others other apart ∙ tells other ∙ ap (min 1) (sym (elsewhere other apart))
+
+  at_all : bit' word ≡ min 1 (slice_index_or lower' word 0) → Tells lower' bit'
+  at_all here w = elim (cases_Bool (w == word)) [
+    | inl same ↦ subst (λ x. bit' x ≡ min 1 (slice_index_or lower' x 0)) (sym (eqb-true w word same)) here
+    | inr differs ↦ at_other w (eqb-false w word differs)
+  ]
+
+  -- a word has a bit, and the level above tells so
+  pub tells_some : slice_index_or lower' word 0 ≢ 0 → bit' word ≡ 1 → Tells lower' bit'
+  tells_some some set = at_all (set ∙ min_some _ some)
+
+  -- a word has no bit left, and the level above tells so
+  pub tells_none : slice_index_or lower' word 0 ≡ 0 → bit' word ≡ 0 → Tells lower' bit'
+  tells_none none cleared = at_all (cleared ∙ ap (min 1) (sym none))
+
+-- what a level above tells of a word
+pub some_told : (words : List ℕ) (bit : ℕ → ℕ) (word : ℕ) → Tells words bit → bit word ≡ 1 → slice_index_or words word 0 ≢ 0
+some_told words bit word tells set = some_from_min _ (sym (tells word) ∙ set)
+
+pub none_told : (words : List ℕ) (bit : ℕ → ℕ) (word : ℕ) → Tells words bit → bit word ≡ 0 → slice_index_or words word 0 ≡ 0
+none_told words bit word tells cleared = none_from_min _ (sym (tells word) ∙ cleared)
+
+-- a word that isn't 0 is there
+pub within_some : (words : List ℕ) (word : ℕ) → slice_index_or words word 0 ≢ 0 → word < length words
+within_some [] word some = absurd (some refl)
+within_some (x ∷ words) zero some = omega arith
+within_some (x ∷ words) (suc word) some = omega (arith, within_some words word some)
+
+-- where the word over all is 0 the set is empty
+pub none_over : (words over_words : List ℕ) (over_all : ℕ) → IsOver words over_words over_all → over_all ≡ 0 → (number : ℕ) → bit_of words number ≡ 0
+none_over words over_words over_all over none number =
+    let word = number / 64 in
+    let above : slice_index_or over_words (word / 64) 0 ≡ 0 = none_told over_words (bit_at over_all) (word / 64) over.second (no_bit over_all (word / 64) none) in
+    no_bit _ (number % 64) (none_told words (bit_of over_words) word over.first (no_bit _ (word % 64) above))
+
+-- the first bit of each level leads to the least number
+pub is_least : (words over_words : List ℕ) (over_all top word number : ℕ) → IsOver words over_words over_all
+    → ((i : ℕ) → i < top → bit_at over_all i ≡ 0) → IsFirstBit top word over_words → IsFirstBit word number words
+    → IsLeast number (record { words = words })
+is_least words over_words over_all top word number over before first second = record {
+  within = second.set;
+  least = λ other less. elim (cases_Bool (other / 64 == word)) [
+    | inl same ↦ second.before other (eqb-true _ _ same) less
+    | inr differs ↦
+        let apart : other / 64 ≢ word = eqb-false _ _ differs in
+        let earlier : other / 64 < word = omega (arith, less, second.place, apart) in
+        no_bit _ (other % 64) (none_told words (bit_of over_words) (other / 64) over.first (earlier_word (other / 64) earlier))
+  ];
+}
+  where
+    earlier_word : (w : ℕ) → w < word → bit_of over_words w ≡ 0
+    earlier_word w less = elim (cases_Bool (w / 64 == top)) [
+      | inl same ↦ first.before w (eqb-true _ _ same) less
+      | inr differs ↦
+          let apart : w / 64 ≢ top = eqb-false _ _ differs in
+          let above : w / 64 < top = omega (arith, less, first.place, apart) in
+          no_bit _ (w % 64) (none_told over_words (bit_at over_all) (w / 64) over.second (before (w / 64) above))
+    ]
+
+-- a number was added
+pub over_insert : (words words' over_words over_words' : List ℕ) (over_all number : ℕ) → IsOver words over_words over_all → number < 64 * length words
+    → SetsBit number words words' → SameElsewhere (number / 64) words words' → SetsBit (number / 64) over_words over_words' → SameElsewhere (number / 64 / 64) over_words over_words'
+    → IsOver words' over_words' (bit_or over_all (1 * 2 ^ (number / 64 / 64) % 2 ^ 64))
+over_insert words words' over_words over_words' over_all number over below sets rest sets_over rest_over =
+    let few = over.few in
+    let low : number / 64 / 64 < 64 = omega (arith, below, few) in
+    record {
+      first = tells_some words words' (bit_of over_words) (bit_of over_words') (number / 64) over.first rest sets_over.others (some_from_bit _ (number % 64) sets.here) sets_over.here;
+      second = tells_some over_words over_words' (bit_at over_all) (bit_at (bit_or over_all (1 * 2 ^ (number / 64 / 64) % 2 ^ 64))) (number / 64 / 64) over.second rest_over
+          (λ other apart. bit_at_set_other w64 over_all (number / 64 / 64) low other apart) (some_from_bit _ (number / 64 % 64) sets_over.here) (bit_at_set_same w64 over_all (number / 64 / 64) low);
+      room = omega (arith, over.room, sets.long, sets_over.long);
+      few = omega (arith, over.few, sets.long);
+      few_over = omega (arith, over.few_over, sets_over.long);
+    }
+
+-- a number was taken from a word that has others, and from one that had it alone
+pub over_kept : (words words' over_words : List ℕ) (over_all word : ℕ) → IsOver words over_words over_all → length words' ≡ length words
+    → SameElsewhere word words words' → bit_of over_words word ≡ 1 → slice_index_or words' word 0 ≢ 0 → IsOver words' over_words over_all
+over_kept words words' over_words over_all word over long rest set some = record {
+  first = tells_some words words' (bit_of over_words) (bit_of over_words) word over.first rest (λ other apart. refl) some set;
+  second = over.second;
+  room = omega (arith, over.room, long);
+  few = omega (arith, over.few, long);
+  few_over = over.few_over;
+}
+
+pub over_left : (words words' over_words over_words' : List ℕ) (over_all over_all' word : ℕ) → IsOver words over_words over_all → length words' ≡ length words
+    → SameElsewhere word words words' → ClearsBit word over_words over_words' → Tells over_words' (bit_at over_all') → slice_index_or words' word 0 ≡ 0 → IsOver words' over_words' over_all'
+over_left words words' over_words over_words' over_all over_all' word over long rest clears tells none = record {
+  first = tells_none words words' (bit_of over_words) (bit_of over_words') word over.first rest clears.others none clears.here;
+  second = tells;
+  room = omega (arith, over.room, long, clears.long);
+  few = omega (arith, over.few, long);
+  few_over = omega (arith, over.few_over, clears.long);
+}
+
+-- both lists were changed in place
+pub in_place : (count : ℕ) (words words' : List ℕ) (count_over : ℕ) (over_words over_words' : List ℕ) (over_all : ℕ)
+    → count ≡ length words → length words' ≡ length words → count_over ≡ length over_words → length over_words' ≡ length over_words → IsOver words' over_words' over_all
+    → IsOver (take count (words' ++ drop (length words') words)) (take count_over (over_words' ++ drop (length over_words') over_words)) over_all
+in_place count words words' count_over over_words over_words' over_all is long is_over long_over over =
+    subst (λ ws. IsOver ws (take count_over (over_words' ++ drop (length over_words') over_words)) over_all) (sym (put_back count words words' is long))
+    (subst (λ ws. IsOver words' ws over_all) (sym (put_back count_over over_words over_words' is_over long_over)) over)
