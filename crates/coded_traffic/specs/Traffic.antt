@@ -1,0 +1,102 @@
+-- The traffic of a code under a pattern: what its live links carry of numbered blocks, piece after piece.
+use Rattle.std.specs.Prelude.{ℕ, ◌-◌, ◌*◌, Bool, if◌then◌else◌, List, [], length, map, take, drop, filter, flat_map, slice_index_or}
+use Rattle.std.specs.List.{range_with_len}
+use Rattle.gf_tables.specs.declared.kind.FieldKind.{FieldKind}
+use Rattle.gf_tables.specs.declared.kind.FieldKind.TheVariants.{Eight, Sixteen}
+use Rattle.linear_algebra.specs.Elements.{elements_of, bytes_of_row}
+use Rattle.linear_algebra.specs.Rows.{combination}
+use Rattle.lif_outside.specs.declared.links.Flight.{Flight}
+use Rattle.generation_frame.specs.Frames.{frame_of}
+use Rattle.generation_frame.specs.declared.frame.Packet.{Packet}
+use Rattle.net_model.specs.Walks.{leaves_source}
+use Rattle.node_program.specs.CodeValue.{value_in, is_live_in, reads_live_in}
+use Rattle.node_program.specs.Value.{operands_at}
+use Rattle.node_program.specs.declared.Operand.{Operand}
+use Rattle.node_program.specs.declared.code.Code.{Code}
+use Rattle.block_carrier.specs.Carried.{block_elements}
+use Rattle.block_carrier.specs.LinkRows.{row_of}
+
+-- the pieces of a row, and their bytes
+abbrev pub pieces : ℕ
+pieces = 8
+
+abbrev pub piece_bytes : ℕ
+piece_bytes = 128
+
+-- a piece of a row
+abbrev pub piece_of_row : List ℕ → ℕ → List ℕ
+piece_of_row row piece = take piece_bytes (drop (piece * piece_bytes) row)
+
+-- how many elements a piece has
+abbrev pub piece_width : FieldKind → ℕ
+piece_width Eight = 128
+piece_width Sixteen = 64
+
+-- what a link carries of a piece of a block under a pattern: that piece of its value
+abbrev pub payload_in : Code → ℕ → List ℕ → ℕ → ℕ → List ℕ
+payload_in code pattern block piece link =
+    piece_of_row (bytes_of_row code.field (value_in code pattern (block_elements code block) link)) piece
+
+-- what stands for an operand of a link, of a piece: at the source that of a row of the block, and else the payload
+-- of the operand's link
+abbrev pub operand_payload : Code → List ℕ → ℕ → (ℕ → List ℕ) → ℕ → Operand → List ℕ
+operand_payload code block piece payloads link operand =
+    if leaves_source code.net link
+    then piece_of_row (row_of block operand.from) piece
+    else payloads operand.from
+
+-- the sum over operands of the coefficient times what stands for the operand
+abbrev pub sum_of : FieldKind → List Operand → (Operand → List ℕ) → List ℕ
+sum_of field operands payload =
+    bytes_of_row field (combination field (piece_width field) (map (λ operand. operand.times) operands)
+    (map (λ operand. elements_of field (payload operand)) operands))
+
+-- the operands of a link that are source rows or live links
+abbrev pub live_operands : Code → ℕ → ℕ → List Operand
+live_operands code pattern link =
+    filter (reads_live_in code pattern link) (operands_at code.operands link)
+
+-- a link, a generation and a piece
+pub record Key : Type 0 where
+  pub link : ℕ
+  pub generation : ℕ
+  pub piece : ℕ
+
+-- blocks with the numbers of their generations, from the first on
+pub record Window : Type 0 where
+  pub first : ℕ
+  pub blocks : List (List ℕ)
+
+-- the block of a generation
+abbrev pub block_at : Window → ℕ → List ℕ
+block_at window generation = slice_index_or window.blocks (generation - window.first) []
+
+-- the packet of a key, and its pair of link and frame
+abbrev pub packet_of : Code → ℕ → Window → Key → Packet
+packet_of code pattern window key =
+    record {
+      link = key.link;
+      generation = key.generation;
+      piece = key.piece;
+      payload = payload_in code pattern (block_at window key.generation) key.piece key.link;
+    }
+
+abbrev pub pair_of : Code → ℕ → Window → Key → Flight
+pair_of code pattern window key =
+    record { link = key.link; frame = frame_of (packet_of code pattern window key) }
+
+-- the live links, in order
+abbrev pub live_links_of : Code → ℕ → List ℕ
+live_links_of code pattern =
+    filter (is_live_in code pattern) (range_with_len 0 (length code.net.links))
+
+-- the keys of the traffic: each generation, each live link, each piece
+abbrev pub keys_of : Code → ℕ → Window → List Key
+keys_of code pattern window =
+    flat_map (λ generation. flat_map (λ link. map
+    (λ piece. record { link = link; generation = generation; piece = piece }) (range_with_len 0 pieces))
+    (live_links_of code pattern)) (range_with_len window.first (length window.blocks))
+
+-- the traffic
+abbrev pub traffic_of : Code → ℕ → Window → List Flight
+traffic_of code pattern window = map (pair_of code pattern window) (keys_of code pattern window)
