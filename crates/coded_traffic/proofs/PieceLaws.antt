@@ -1,12 +1,11 @@
 -- Pieces of rows, as bytes and as elements, and sums of them.
-use Rattle.std.specs.Prelude.{◌≡◌, ◌<◌, ◌≤◌, ◌*◌, ◌+◌, ◌-◌, ◌/◌, ℕ, List, [], ◌∷◌, length, map, take, drop, All}
+use Rattle.std.specs.Prelude.{◌≡◌, ◌<◌, ◌≤◌, ◌*◌, ◌-◌, ℕ, List, [], ◌∷◌, length, map, take, drop}
 use Rattle.std.proofs.Common.{refl, sym, ap, subst, ◌∙◌, arith}
 use Rattle.std.proofs.lemmas.List.{drop-replicate, length-drop, length-take-le, take-replicate}
 use Rattle.std.proofs.lemmas.List.Elements.{All-drop, All-take}
 use Rattle.gf_tables.specs.Product.{bytes_of_element, size_of}
 use Rattle.gf_tables.specs.declared.kind.FieldKind.{FieldKind}
 use Rattle.gf_tables.specs.declared.kind.FieldKind.TheVariants.{Eight, Sixteen}
-use Rattle.generation_frame.specs.Blocks.{row_bytes}
 use Rattle.linear_algebra.specs.Elements.{elements_of, bytes_of_row}
 use Rattle.linear_algebra.specs.Rows.{combination, zero_row, AreRows}
 use Rattle.linear_algebra.proofs.CombinationLaws.{take-combination, drop-combination}
@@ -68,11 +67,13 @@ AreRows-piece field piece [] low are = tt
 AreRows-piece field piece (row ∷ rows) low are =
     let begin = piece * piece_width field in
     let left : piece_width field ≤ length (drop begin row) =
-        subst (λ n. piece_width field ≤ n) (sym (length-drop begin row ∙ ap (λ n. n - begin) are.0.width)) (within_row field piece low) in
-    (record {
-      width = length-take-le (piece_width field) (drop begin row) left;
-      elements = All-take (λ element. element < size_of field) (piece_width field) (drop begin row) (All-drop (λ element. element < size_of field) begin row are.0.elements);
-    }, AreRows-piece field piece rows low are.1)
+    subst (λ n. piece_width field ≤ n) (sym (length-drop begin row ∙ ap (λ n. n - begin) are.0.width)) (within_row field piece low) in (
+      record {
+        width = length-take-le (piece_width field) (drop begin row) left;
+        elements = All-take (λ element. element < size_of field) (piece_width field) (drop begin row) (All-drop (λ element. element < size_of field) begin row are.0.elements);
+      },
+      AreRows-piece field piece rows low are.1,
+    )
 
 -- a piece of a row of zeros
 pub elements_in-zero_row : (field : FieldKind) (piece : ℕ) → piece < 8 → elements_in field piece (zero_row (row_width field)) ≡ zero_row (piece_width field)

@@ -1,6 +1,6 @@
 -- A link's payload by the payloads of what it reads.
-use Rattle.std.specs.Prelude.{◌≡◌, ◌<◌, ◌*◌, ◌||◌, ℕ, Bool, true, false, cond, if◌then◌else◌, List, [], ◌∷◌, length, map, take, drop, filter, All}
-use Rattle.std.proofs.Common.{refl, sym, ap, subst, ◌∙◌, arith, inl, inr}
+use Rattle.std.specs.Prelude.{◌≡◌, ◌<◌, ◌*◌, ℕ, Bool, true, false, cond, if◌then◌else◌, List, [], ◌∷◌, length, map, take, drop, filter, All}
+use Rattle.std.proofs.Common.{refl, sym, ap, subst, ◌∙◌, inl, inr}
 use Rattle.std.proofs.lemmas.Bool.{cases_Bool, or_parts, true≢false}
 use Rattle.std.proofs.lemmas.List.Elements.{All-map, All-weaker, All-head, All-tail, recursion_from_All}
 use Rattle.std.proofs.lemmas.Simd.{map-map}
@@ -13,7 +13,7 @@ use Rattle.linear_algebra.proofs.RowLaws.{scale_row-zero_row, zero_row-add_rows}
 use Rattle.net_model.specs.Failed.{failed_links, is_failed_in}
 use Rattle.net_model.specs.Walks.{leaves_source}
 use Rattle.node_program.proofs.LiveLaws.{is_live_in-failed}
-use Rattle.node_program.proofs.ValueLaws.{IsRow-row_at, IsRow-value, coefficients-elements, either_row, map-agree, value-dead, value-equation}
+use Rattle.node_program.proofs.ValueLaws.{IsRow-row_at, IsRow-value, either_row, map-agree, value-dead, value-equation}
 use Rattle.node_program.proofs.OperandLaws.{operands_of_draft}
 use Rattle.node_program.specs.Operands.{IsOperand}
 use Rattle.node_program.specs.CodeValue.{is_live_in, reads_live_in, value_in}
@@ -24,7 +24,7 @@ use Rattle.block_carrier.proofs.BlockLaws.{IsBlock-block_elements, row_at-block_
 use Rattle.block_carrier.specs.Carried.{block_elements}
 use Rattle.block_carrier.specs.LinkRows.{IsBlockOf, row_of, row_width}
 use Rattle.coded_traffic.proofs.PieceLaws.{AreRows-piece, elements_in, elements_in-zero_row, elements_in-combination, elements_of-piece, elements_of-piece_of_row, piece_of_row-bytes}
-use Rattle.coded_traffic.specs.Traffic.{live_operands, operand_payload, payload_in, piece_bytes, piece_of_row, piece_width, sum_of}
+use Rattle.coded_traffic.specs.Traffic.{live_operands, operand_payload, payload_in, piece_of_row, piece_width, sum_of}
 
 -- rows of which those that don't pass a test are zeros add nothing
 combination-passing : {X : Type 0} (field : FieldKind) (width : ℕ) (test : X → Bool) (times : X → ℕ) (row : X → List ℕ) (xs : List X)
@@ -44,7 +44,7 @@ combination-passing field width test times row (x ∷ xs) small wide zeros =
         let more = combination field width (map times xs) (map row xs) in
         let long : length more ≡ width = length-combination field width (map times xs) (map row xs) wide.1 in
         let nothing : scale_row field (times x) (row x) ≡ zero_row (length more) =
-            ap (scale_row field (times x)) none ∙ scale_row-zero_row field (times x) width (All-head (λ x. times x < size_of field) x xs small) ∙ ap zero_row (sym long) in
+        ap (scale_row field (times x)) none ∙ scale_row-zero_row field (times x) width (All-head (λ x. times x < size_of field) x xs small) ∙ ap zero_row (sym long) in
         rest ∙ sym (ap (λ row. add_rows row more) nothing ∙ zero_row-add_rows more)
 
 module _ (code : Code) (pattern : ℕ) (block : List ℕ) (is : IsBlockOf code block) (piece : ℕ) (low : piece < 8) (link : ℕ) where
@@ -67,13 +67,13 @@ module _ (code : Code) (pattern : ℕ) (block : List ℕ) (is : IsBlockOf code b
   rows : AreRows code.field (row_width code.field) (map row operands)
   rows =
       let as_wide : AreRows code.field (width_of (block_elements code block)) (map row operands) =
-          recursion_from_All (IsRow code.field (width_of (block_elements code block))) _
-            (All-map (IsRow code.field (width_of (block_elements code block))) row operands
-              (All-weaker Is (λ operand. IsRow code.field (width_of (block_elements code block)) (row operand))
-                (λ operand is_operand. either_row code.field (width_of (block_elements code block)) (leaves_source code.net link) _ _
-                  (λ leaves. IsRow-row_at (IsBlock-block_elements code block is) operand.from (is_operand.source_row leaves))
-                  (IsRow-value code.code.draft (IsBlock-block_elements code block is) (failed_links code.net.patterns pattern) operand.from))
-                operands all)) in
+      recursion_from_All (IsRow code.field (width_of (block_elements code block))) _
+      (All-map (IsRow code.field (width_of (block_elements code block))) row operands
+      (All-weaker Is (λ operand. IsRow code.field (width_of (block_elements code block)) (row operand))
+      (λ operand is_operand. either_row code.field (width_of (block_elements code block)) (leaves_source code.net link) _ _
+      (λ leaves. IsRow-row_at (IsBlock-block_elements code block is) operand.from (is_operand.source_row leaves))
+      (IsRow-value code.code.draft (IsBlock-block_elements code block is) (failed_links code.net.patterns pattern) operand.from))
+      operands all)) in
       subst (λ n. AreRows code.field n (map row operands)) wide as_wide
 
   -- the elements of what stands for an operand are those of the piece of its row
@@ -114,14 +114,14 @@ module _ (code : Code) (pattern : ℕ) (block : List ℕ) (is : IsBlockOf code b
   element_rows =
       map-agree element_row (λ operand. elements_in code.field piece (row operand)) Is elements_of-operand operands all
       ∙ sym (ap (map (take (piece_width code.field))) (map-map (drop (piece * piece_width code.field)) row operands)
-        ∙ map-map (take (piece_width code.field)) (λ operand. drop (piece * piece_width code.field) (row operand)) operands)
+      ∙ map-map (take (piece_width code.field)) (λ operand. drop (piece * piece_width code.field) (row operand)) operands)
 
   -- those of operands that aren't live are zeros
   zeros : All (λ operand. reads_live_in code pattern link operand ≡ false → element_row operand ≡ zero_row (piece_width code.field)) operands
   zeros =
       All-weaker Is (λ operand. reads_live_in code pattern link operand ≡ false → element_row operand ≡ zero_row (piece_width code.field))
-        (λ operand is_operand dead. elements_of-operand operand is_operand ∙ ap (elements_in code.field piece) (dead_row operand dead) ∙ elements_in-zero_row code.field piece low)
-        operands all
+      (λ operand is_operand dead. elements_of-operand operand is_operand ∙ ap (elements_in code.field piece) (dead_row operand dead) ∙ elements_in-zero_row code.field piece low)
+      operands all
 
   -- the payload of a live link is the sum over its live operands of what stands for them
   pub payload-sum : is_live_in code pattern link ≡ true
@@ -135,7 +135,7 @@ module _ (code : Code) (pattern : ℕ) (block : List ℕ) (is : IsBlockOf code b
         | inr whole ↦ whole
       ] in
       let are : AreRows field (piece_width field) (map element_row operands) =
-          subst (AreRows field (piece_width field)) (sym element_rows) (AreRows-piece field piece (map row operands) low rows) in
+      subst (AreRows field (piece_width field)) (sym element_rows) (AreRows-piece field piece (map row operands) low rows) in
       piece_of_row-bytes field piece (value_in code pattern (block_elements code block) link)
       ∙ ap (λ (v : List ℕ). bytes_of_row field (elements_in field piece v)) (value-sum whole)
       ∙ ap (bytes_of_row field) (elements_in-combination field piece times (map row operands) low rows)

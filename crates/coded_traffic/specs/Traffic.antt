@@ -1,5 +1,5 @@
 -- The traffic of a code under a pattern: what its live links carry of numbered blocks, piece after piece.
-use Rattle.std.specs.Prelude.{ℕ, ◌-◌, ◌*◌, Bool, if◌then◌else◌, List, [], length, map, take, drop, filter, flat_map, slice_index_or}
+use Rattle.std.specs.Prelude.{ℕ, ◌-◌, ◌*◌, if◌then◌else◌, List, [], length, map, take, drop, filter, flat_map, slice_index_or}
 use Rattle.std.specs.List.{range_with_len}
 use Rattle.gf_tables.specs.declared.kind.FieldKind.{FieldKind}
 use Rattle.gf_tables.specs.declared.kind.FieldKind.TheVariants.{Eight, Sixteen}
