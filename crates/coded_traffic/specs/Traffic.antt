@@ -1,5 +1,5 @@
 -- The traffic of a code under a pattern: what its live links carry of numbered blocks, piece after piece.
-use Rattle.std.specs.Prelude.{ℕ, ◌-◌, ◌*◌, if◌then◌else◌, List, [], length, map, take, drop, filter, flat_map, slice_index_or}
+use Rattle.std.specs.Prelude.{Bool, List, [], drop, filter, flat_map, if◌then◌else◌, length, map, slice_index_or, take, true, ℕ, ◌&&◌, ◌*◌, ◌+◌, ◌-◌, ◌<◌, ◌==◌, ◌≡◌, ◌≤◌}
 use Rattle.std.specs.List.{range_with_len}
 use Rattle.gf_tables.specs.declared.kind.FieldKind.{FieldKind}
 use Rattle.gf_tables.specs.declared.kind.FieldKind.TheVariants.{Eight, Sixteen}
@@ -96,6 +96,19 @@ keys_of code pattern window =
     flat_map (λ generation. flat_map (λ link. map
     (λ piece. record { link = link; generation = generation; piece = piece }) (range_with_len 0 pieces))
     (live_links_of code pattern)) (range_with_len window.first (length window.blocks))
+
+-- a key of the traffic
+pub record IsKey (code : Code) (pattern : ℕ) (window : Window) (key : Key) : Type 0 where
+  pub begun : window.first ≤ key.generation
+  pub numbered : key.generation < window.first + length window.blocks
+  pub of_link : key.link < length code.net.links
+  pub live : is_live_in code pattern key.link ≡ true
+  pub of_piece : key.piece < pieces
+
+-- whether two keys are one
+abbrev pub is_same_key : Key → Key → Bool
+is_same_key one other =
+    (one.link == other.link) && (one.generation == other.generation) && (one.piece == other.piece)
 
 -- the traffic
 abbrev pub traffic_of : Code → ℕ → Window → List Flight

@@ -1,12 +1,12 @@
 -- The words over the words of a set: what they say after a change, and that they lead to the least number.
-use Rattle.std.specs.Prelude.{◌≡◌, ◌≢◌, ◌<◌, ◌≤◌, ◌*◌, ◌+◌, ◌/◌, ◌%◌, ◌^◌, ◌==◌, ℕ, zero, suc, List, [], ◌∷◌, ◌++◌, length, take, drop, slice_index_or, min, bit_or}
+use Rattle.std.specs.Prelude.{◌≡◌, ◌≢◌, ◌<◌, ◌*◌, ◌/◌, ◌%◌, ◌^◌, ◌==◌, ℕ, zero, suc, List, [], ◌∷◌, ◌++◌, length, take, drop, slice_index_or, min, bit_or}
 use Rattle.std.specs.Int.{bit_at, w64}
 use Rattle.std.proofs.Common.{refl, sym, ap, subst, ◌∙◌, arith, inl, inr}
 use Rattle.std.proofs.lemmas.Bool.{cases_Bool, eqb-false, eqb-true}
 use Rattle.std.proofs.lemmas.List.{append-nil, take_all}
 use Rattle.std.proofs.lemmas.Nat.Bits.{bit_at_set_other, bit_at_set_same}
 use Rattle.std.proofs.Math.ListN.{drop_of_length-le}
-use Rattle.least_set.specs.Members.{Members, bit_of, has, SameElsewhere, SetsBit, ClearsBit, IsFirstBit, IsLeast, IsOver, Tells}
+use Rattle.least_set.specs.Members.{bit_of, SameElsewhere, SetsBit, ClearsBit, IsFirstBit, IsLeast, IsOver, Tells}
 use Rattle.least_set.proofs.WordLaws.{no_bit, some_from_bit}
 
 -- a list that was changed in place, and is as long as it was
@@ -55,13 +55,6 @@ pub within_some : (words : List ℕ) (word : ℕ) → slice_index_or words word 
 within_some [] word some = absurd (some refl)
 within_some (x ∷ words) zero some = omega arith
 within_some (x ∷ words) (suc word) some = omega (arith, within_some words word some)
-
--- where the word over all is 0 the set is empty
-pub none_over : (words over_words : List ℕ) (over_all : ℕ) → IsOver words over_words over_all → over_all ≡ 0 → (number : ℕ) → bit_of words number ≡ 0
-none_over words over_words over_all over none number =
-    let word = number / 64 in
-    let above : slice_index_or over_words (word / 64) 0 ≡ 0 = none_told over_words (bit_at over_all) (word / 64) over.second (no_bit over_all (word / 64) none) in
-    no_bit _ (number % 64) (none_told words (bit_of over_words) word over.first (no_bit _ (word % 64) above))
 
 -- the first bit of each level leads to the least number
 pub is_least : (words over_words : List ℕ) (over_all top word number : ℕ) → IsOver words over_words over_all

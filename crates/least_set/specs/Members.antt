@@ -1,5 +1,5 @@
 -- Sets of numbers as bits in words of 64, and the words that say which of them have any.
-use Rattle.std.specs.Prelude.{◌≡◌, ◌≢◌, ◌<◌, ◌≤◌, ◌*◌, ◌+◌, ◌/◌, ◌%◌, ℕ, List, length, slice_index_or, min}
+use Rattle.std.specs.Prelude.{◌≡◌, ◌≢◌, ◌<◌, ◌≤◌, ◌*◌, ◌/◌, ◌%◌, ℕ, List, length, slice_index_or, min}
 use Rattle.std.specs.Int.{bit_at}
 
 -- a set: the words of its bits

@@ -1,4 +1,4 @@
-use Rattle.std.proofs.Common.{sym, subst, ◌≡◌, ◌<◌, ◌/◌, ◌*◌, length}
+use Rattle.std.proofs.Common.{sym, subst, ◌<◌, ◌/◌, ◌*◌, length}
 use Rattle.least_set.specs.Members.{SameElsewhere, SetsBit, bound}
 use Rattle.least_set.proofs.OverLaws.{in_place, over_insert}
 use Rattle.least_set.proofs.LeastSet.insert.Goals as goal

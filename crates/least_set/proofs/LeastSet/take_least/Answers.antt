@@ -1,8 +1,8 @@
 use Rattle.std.specs.Int.{bit_at}
 use Rattle.std.specs.Prelude.{slice_index_or}
-use Rattle.std.proofs.Common.{refl, sym, ap, subst, ◌∙◌, ◌≡◌, ◌≢◌, ◌<◌, ◌^◌, ◌/◌, ◌*◌, length, ℕ, arith}
+use Rattle.std.proofs.Common.{sym, ap, subst, ◌∙◌, ◌≡◌, ◌≢◌, ◌/◌}
 use Rattle.std.proofs.lemmas.Bool.{eqb-false, eqb-true}
-use Rattle.least_set.specs.Members.{ClearsBit, IsFirstBit, IsLeast, IsOver, SameElsewhere, Tells, bit_of}
+use Rattle.least_set.specs.Members.{ClearsBit, IsFirstBit, IsLeast, IsOver, SameElsewhere}
 use Rattle.least_set.proofs.OverLaws.{in_place, is_least, over_kept, over_left, put_back, some_told, within_some}
 use Rattle.least_set.proofs.LeastSet.take_least.Goals.{else-clear_bit, then-clear_bit}
 use Rattle.least_set.proofs.LeastSet.take_least.Goals as goal

@@ -1,5 +1,5 @@
 use Rattle.std.specs.Prelude.{slice_index_or}
-use Rattle.std.proofs.Common.{refl, sym, ◌∙◌, ◌≡◌, ◌<◌, ◌/◌, ◌%◌, arith}
+use Rattle.std.proofs.Common.{refl, sym, ◌∙◌, ◌<◌, ◌/◌, ◌%◌, arith}
 use Rattle.std.proofs.lemmas.Bool.{eqb-false, eqb-true}
 use Rattle.std.proofs.lemmas.Nat.Bits.{bit_at_clear_same}
 use Rattle.std.specs.Int.{bit_at, w64}
