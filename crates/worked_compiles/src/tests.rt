@@ -14,6 +14,7 @@ use std::alloc::{AllocError, Global};
 use std::process::Abort;
 use std::test;
 use std::thread::Threads;
+use worked_rows::runs::words_of;
 
 /// What is said of three cores between a head end and two edges.
 const THREE_CORES_LINE: &str = "compiled rate 2 field 8 demands 8\n";
@@ -36,14 +37,6 @@ fn compiles<'a>(line: &'a str) -> Said<'a> {
         say_fails: &[],
         line,
     }
-}
-
-fn words_of(alloc: Global, words: &[&str]) -> Result<Vec<String>, AllocError> {
-    let mut owned = Vec::new(alloc);
-    for word in words {
-        owned.push(String::from_str(alloc, word)?)?;
-    }
-    Ok(owned)
 }
 
 // A store where a read gives at most so many bytes and these calls fail, with one file.

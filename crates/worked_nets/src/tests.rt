@@ -9,6 +9,7 @@ use std::alloc::{AllocError, Global};
 use std::process::Abort;
 use std::test;
 use std::thread::Threads;
+use worked_rows::runs::{reads_of, words_of};
 
 // A command on the text at the path `net`, and what it says.
 #[derive(Clone, Copy)]
@@ -81,9 +82,7 @@ fn check<R: Abort + Threads + Sync>(
     if let Some(text) = run.text {
         store.put_file(alloc, "net", text)?;
     }
-    let mut words = Vec::new(alloc);
-    words.push(String::from_str(alloc, run.command)?)?;
-    words.push(String::from_str(alloc, "net")?)?;
+    let words = words_of(alloc, &[run.command, "net"])?;
     let ended = call(rt, alloc, words.as_slice(), &mut store, &mut say);
     assert!(rt; ended == *status);
     assert_eq!(rt; say.bytes(), run.line);
@@ -110,11 +109,6 @@ fn check_puts<R: Abort + Threads + Sync>(
         ..*run
     };
     check(rt, alloc, &second_fails, status)
-}
-
-// How many reads it takes to the end of a text, where each gives at most `most` bytes.
-fn reads_of(length: usize, most: usize) -> u64 {
-    (length.div_ceil(most.max(1)) as u64).saturating_add(1)
 }
 
 // Each read of the text fails in turn, and then the one that isn't made.

@@ -6,6 +6,7 @@ pub mod blocks;
 pub mod files;
 pub mod links;
 pub mod products;
+pub mod runs;
 #[cfg(test)]
 mod tests;
 pub mod texts;

@@ -7,6 +7,8 @@ ghost use Rattle.worked_rows.specs.Butterfly.{butterfly};
 ghost use Rattle.worked_rows.specs.CutButterfly.{cut_butterfly};
 ghost use Rattle.worked_rows.specs.Networks.{of_any_field, two_links, both_links, three_cores};
 
+use std::alloc::{AllocError, Global};
+
 /// One link.
 pub const ONE_LINK_TEXT: &[u8] = b"source s\n\
     sink t\n\
@@ -51,6 +53,21 @@ pub const THREE_CORES_TEXT: &[u8] = b"# two edges, three cores\r\n\
     pattern no-c1 h-c1\r\n\
     pattern no-c2 h-c2\r\n\
     pattern no-c3 h-c3\r\n";
+
+/// Lines of numbers from 0 on, behind others.
+pub fn numbered(
+    alloc: Global,
+    front: &str,
+    before: &str,
+    behind: &str,
+    count: u64,
+) -> Result<String, AllocError> {
+    let mut text = String::from_str(alloc, front)?;
+    for number in 0..count {
+        write!(text, "{before}{number}{behind}")?;
+    }
+    Ok(text)
+}
 
 /// One link, with no line on the field and with each.
 pub fn one_link_is_read()

@@ -21,6 +21,7 @@ use std::process::Abort;
 use std::test;
 use std::thread::Threads;
 use worked_rows::files::ONE_LINK;
+use worked_rows::runs::words_of;
 
 // How a run ends, as tables may hold it.
 #[derive(Clone, Copy)]
@@ -128,14 +129,6 @@ fn letters(alloc: Global, count: usize) -> Result<Vec<u8>, AllocError> {
         bytes.push(b'A' + (place % 26) as u8)?;
     }
     Ok(bytes)
-}
-
-fn words_of(alloc: Global, words: &[&str]) -> Result<Vec<String>, AllocError> {
-    let mut owned = Vec::new(alloc);
-    for word in words {
-        owned.push(String::from_str(alloc, word)?)?;
-    }
-    Ok(owned)
 }
 
 // A file's bytes with others in their place from a byte on.

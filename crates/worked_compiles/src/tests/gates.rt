@@ -1,11 +1,12 @@
 //! Which jobs enter the gate that a command is given.
-use super::{store_with, words_of};
+use super::store_with;
 use lif_outside::{Gate, MemSink};
 use lif_top::{Status, lif};
 use std::alloc::Global;
 use std::sync::atomic::{AtomicU64, Ordering};
 use std::thread::Threads;
 use worked_rows::files::BUTTERFLY;
+use worked_rows::runs::words_of;
 use worked_rows::texts::{BUTTERFLY_TEXT, ONE_LINK_TEXT, THREE_CORES_TEXT, TWO_LINKS_TEXT};
 
 // A gate that counts the entries of each job: those of job 0 are the last digit, those of job 1 the digit before it.

@@ -1,7 +1,7 @@
 //! Networks, by a rule and others: each is compiled, and sources are sent through its code under every pattern.
 mod rule;
 
-use super::{COMPILE, Said, accept, call, compiles, refuse, run, store_of, words_of};
+use super::{COMPILE, Said, accept, call, compiles, refuse, run, store_of};
 use lif_outside::{MemSink, MemStore};
 use lif_top::Status;
 use rule::{Draws, network};
@@ -9,6 +9,8 @@ use std::alloc::{AllocError, Global};
 use std::process::Abort;
 use std::test;
 use std::thread::Threads;
+use worked_rows::runs::words_of;
+use worked_rows::texts::numbered;
 
 /// The place of the rate in a code file.
 const RATE: usize = 6;
@@ -144,21 +146,6 @@ fn networks_from_50_to_74_carry_their_sources(rt: HostRuntime) -> Result<(), tes
 #[test]
 fn networks_from_75_to_99_carry_their_sources(rt: HostRuntime) -> Result<(), test::Fail> {
     check_networks(&rt, rt.alloc(), 75)
-}
-
-// A text with numbered lines behind others.
-pub(super) fn numbered(
-    alloc: Global,
-    front: &str,
-    before: &str,
-    behind: &str,
-    count: u32,
-) -> Result<String, AllocError> {
-    let mut text = String::from_str(alloc, front)?;
-    for number in 1..=count {
-        text.push_str(format!(in alloc; "{before}{number}{behind}")?.as_str())?;
-    }
-    Ok(text)
 }
 
 // What stands before so many patterns of one sink that a field serves, and one more.

@@ -1,11 +1,11 @@
 //! Networks of every rate, and of numbers of demands about those that fields serve.
 use super::accept;
 use super::fields::push_line;
-use super::networks::numbered;
 use std::alloc::{AllocError, Global};
 use std::process::Abort;
 use std::test;
 use std::thread::Threads;
+use worked_rows::texts::numbered;
 
 // A text is compiled to a code of this rate over this field for so many demands, which is accepted then.
 fn accept_of<R: Abort + Threads + Sync>(
@@ -27,7 +27,13 @@ fn accept_of<R: Abort + Threads + Sync>(
 fn every_rate_is_reached(rt: HostRuntime) -> Result<(), test::Fail> {
     let alloc = rt.alloc();
     for rate in 1..=32u32 {
-        let text = numbered(alloc, "source s\nsink t\n", "link l", " s t\n", rate)?;
+        let text = numbered(
+            alloc,
+            "source s\nsink t\n",
+            "link l",
+            " s t\n",
+            u64::from(rate),
+        )?;
         accept_of(&rt, alloc, text.as_bytes(), rate, 8, 1)?;
     }
     Ok(())

@@ -7,11 +7,11 @@ use net_reader::ReadRefusal::{
     RepeatedLink, SecondField, SecondSource, SelfLoop, SinkIsSource, TooMany, UnknownLink,
 };
 use net_reader::{ReadRefusal, What};
-use std::alloc::{AllocError, Global};
+use std::alloc::Global;
 use std::process::Abort;
 use std::test;
 use std::thread::Threads;
-use worked_rows::texts::{BUTTERFLY_TEXT, ONE_LINK_TEXT, THREE_CORES_TEXT};
+use worked_rows::texts::{BUTTERFLY_TEXT, ONE_LINK_TEXT, THREE_CORES_TEXT, numbered};
 
 /// The greatest length of a text.
 const LIMIT: usize = 4_194_304;
@@ -201,21 +201,6 @@ fn texts_of_no_network_are_refused(rt: HostRuntime) -> Result<(), test::Fail> {
         refuse_text(&rt, alloc, text, why, said)?;
     }
     Ok(())
-}
-
-// Lines of numbers from 0 on, behind others.
-pub(super) fn numbered(
-    alloc: Global,
-    front: &str,
-    before: &str,
-    behind: &str,
-    count: u64,
-) -> Result<String, AllocError> {
-    let mut text = String::from_str(alloc, front)?;
-    for number in 0..count {
-        text.push_str(format!(in alloc; "{before}{number}{behind}")?.as_str())?;
-    }
-    Ok(text)
 }
 
 // A text of many lines: what it begins with, what stands in each line before and behind its number, how many there

@@ -1,10 +1,9 @@
 //! Cuts of many sizes, and texts of many lengths.
-use super::orders::numbered;
 use super::{check, joined, well};
 use lif_top::Status;
 use std::alloc::{AllocError, Global};
 use std::test;
-use worked_rows::texts::ONE_LINK_TEXT;
+use worked_rows::texts::{ONE_LINK_TEXT, numbered};
 
 // The report of so many links from the source to the sink.
 fn parallel_report(alloc: Global, links: u64) -> Result<String, AllocError> {

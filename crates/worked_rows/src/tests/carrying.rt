@@ -2,7 +2,8 @@
 ghost use Rattle.std.specs.Prelude.{◌≡◌, ◌<◌, length};
 ghost use Rattle.block_carrier.specs.Carried.{HasBlock};
 
-use super::codes::{TWO_WAYS, checked_of};
+use super::codes::checked_of;
+use crate::files::TWO_WAYS;
 use block_carrier::Carrier;
 use code_checker::Checked;
 use std::alloc::Global;

@@ -6,25 +6,6 @@ use node_program::Code;
 use std::alloc::{AllocError, Global};
 use std::thread::Threads;
 
-/// One row goes straight to the node before the sink, and over another node. The pattern `f` has the link from `s` to
-/// `a`.
-pub(crate) const TWO_WAYS: &[u8] = b"LIFC\x01\x08\x01\
-    \x00\x04\x01s\x01a\x01c\x01t\
-    \x00\x04\
-    \x01u\x00\x00\x00\x01\
-    \x01w\x00\x00\x00\x02\
-    \x01v\x00\x01\x00\x02\
-    \x01z\x00\x02\x00\x03\
-    \x00\x00\
-    \x00\x01\x00\x03\
-    \x00\x01\x01f\x00\x01\x00\x00\
-    \x00\x01\x00\x00\x01\
-    \x00\x01\x00\x00\x01\
-    \x00\x01\x00\x00\x01\
-    \x00\x02\x00\x01\x01\x00\x02\x02\
-    \x00\x03\xf4\
-    \x00\x03\x01";
-
 /// Two rows over the field of 65,536 elements, with coefficients above 255.
 pub(crate) const WIDE_ROWS: &[u8] = b"LIFC\x01\x10\x02\
     \x00\x03\x01s\x01a\x01t\

@@ -2,8 +2,8 @@
 ghost use Rattle.std.specs.Prelude.{◌<◌, length};
 ghost use Rattle.gf_tables.specs.Kind.{IsOfKind};
 
-use super::codes::{TWO_WAYS, WIDE_ROWS, code_of};
-use crate::files::CUT_BUTTERFLY;
+use super::codes::{WIDE_ROWS, code_of};
+use crate::files::{CUT_BUTTERFLY, TWO_WAYS};
 use field_vectors::Matrix;
 use gf_tables::{Field, FieldKind, Gf8, Gf16};
 use node_program::{Code, vectors};

@@ -1,11 +1,12 @@
 //! Every coefficient with every entry.
-use super::{SEND, call, changed, words_of};
+use super::{SEND, call, changed};
 use gf_tables::{FieldKind, product};
 use lif_outside::{MemSink, MemStore};
 use lif_top::{CodeRefusal, Status};
 use std::alloc::{AllocError, Global};
 use std::test;
 use worked_rows::files::ONE_LINK;
+use worked_rows::runs::words_of;
 
 // The places of the coefficient and of the entry in the file of the one link.
 const TIMES: usize = 33;

@@ -1,6 +1,4 @@
 //! Each call on the outside fails in turn, and the program ends as it promises.
-ghost use Rattle.std.specs.Prelude.{◌≤◌};
-
 use super::{CHECK, Ending, NO_OUTPUT, ONE_BYTE, Run, check, letters};
 use lif_outside::{Call, Fail};
 use std::alloc::Global;
@@ -8,6 +6,7 @@ use std::process::Abort;
 use std::test;
 use std::thread::Threads;
 use worked_rows::files::BUTTERFLY;
+use worked_rows::runs::reads_of;
 
 /// The length of the source: four full blocks, and one that isn't.
 const LENGTH: usize = 10_000;
@@ -20,13 +19,6 @@ const CAPACITY: usize = 2044;
 struct End {
     status: Ending,
     kept: [Option<usize>; 2],
-}
-
-/// How many reads it takes to the end of a file, where each gives at most `most` bytes.
-pub(super) fn reads_of(length: usize, most: usize) -> u64
-    requires { 1 ≤ most }
-{
-    (length.div_ceil(most) as u64).saturating_add(1)
 }
 
 // How many bytes of the source stand in each file where this append, counted from 0, fails.
@@ -42,9 +34,7 @@ fn kept_at_append(place: usize, keep: usize) -> [Option<usize>; 2] {
 }
 
 // How `send` ends where this call fails, and what is said is said.
-fn end_of(fail: &Fail, most: usize) -> End
-    requires { 1 ≤ most }
-{
+fn end_of(fail: &Fail, most: usize) -> End {
     let code = reads_of(BUTTERFLY.len(), most);
     let reads = code.saturating_add(reads_of(LENGTH, most));
     let (status, kept) = match (fail.call, fail.nth) {
@@ -77,7 +67,6 @@ fn check_fail<R: Abort + Threads + Sync>(
     most: usize,
     fail: Fail,
 ) -> Result<(), test::Fail> {
-    let most = most.max(1);
     let End {
         status,
         kept: [first, second],

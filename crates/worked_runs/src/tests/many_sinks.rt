@@ -3,12 +3,13 @@ use super::making::{
     inverse_of_rows, product, put_decoder, put_link, put_name, put_number, put_operand,
 };
 use super::refusals::refuse;
-use super::{Ending, SEND, accept, call, words_of};
+use super::{Ending, SEND, accept, call};
 use gf_tables::Gf8;
 use lif_outside::{MemSink, MemStore};
 use lif_top::{CodeRefusal, Status};
 use std::alloc::{AllocError, Global};
 use std::test;
+use worked_rows::runs::words_of;
 
 const MIDDLES: u16 = 23;
 

@@ -1,26 +1,7 @@
 //! Codes with listed patterns, sent under each.
 use super::{CHECK, Ending, NO_OUTPUT, ONE_BYTE, Run, check};
 use std::test;
-use worked_rows::files::BUTTERFLY;
-
-// Two ways from `s` to `c`, of which the pattern `f` cuts the one through `a`, and a link from `c` to the sink that
-// carries three times the row, or the row alone.
-const TWO_WAYS: &[u8] = b"LIFC\x01\x08\x01\
-    \x00\x04\x01s\x01t\x01a\x01c\
-    \x00\x04\
-    \x01u\x00\x00\x00\x02\
-    \x01w\x00\x00\x00\x03\
-    \x01v\x00\x02\x00\x03\
-    \x01z\x00\x03\x00\x01\
-    \x00\x00\
-    \x00\x01\x00\x01\
-    \x00\x01\x01f\x00\x01\x00\x00\
-    \x00\x01\x00\x00\x01\
-    \x00\x01\x00\x00\x01\
-    \x00\x01\x00\x00\x01\
-    \x00\x02\x00\x01\x01\x00\x02\x02\
-    \x00\x03\xf4\
-    \x00\x03\x01";
+use worked_rows::files::{BUTTERFLY, TWO_WAYS};
 
 const TWO_WAYS_BYTE: Run<'static> = Run {
     name: "none of two ways fails",
