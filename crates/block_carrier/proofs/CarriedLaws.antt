@@ -14,13 +14,14 @@ use Rattle.node_program.proofs.OperandLaws.{operands_of_draft}
 use Rattle.node_program.specs.Operands.{IsOperand}
 use Rattle.net_model.specs.Walks.{leaves_source}
 use Rattle.node_program.specs.Value.{row_at, operands_at, width_of, value_from}
-use Rattle.node_program.proofs.ValueLaws.{map-agree, value_from-agree, value-equation, value-dead}
+use Rattle.list_laws.proofs.Maps.{map-agree}
+use Rattle.node_program.proofs.ValueLaws.{value_from-agree, value-equation, value-dead}
 use Rattle.node_program.specs.declared.Operand.{Operand}
 use Rattle.node_program.specs.declared.code.Code.{Code}
-use Rattle.block_carrier.specs.Carried.{block_elements}
-use Rattle.block_carrier.specs.LinkRows.{row_width, row_of, elements_at, sum_of_rows, AreCarried, AreLinkRows, IsBlockOf}
-use Rattle.block_carrier.proofs.RowLaws.{row_lies_within, length-row_of, elements_of-zeros}
-use Rattle.block_carrier.proofs.BlockLaws.{width_of-block_elements}
+use Rattle.coded_traffic.specs.CodeBlocks.{block_elements, row_width, row_of, elements_at, IsBlockOf}
+use Rattle.block_carrier.specs.LinkRows.{sum_of_rows, AreCarried, AreLinkRows}
+use Rattle.coded_traffic.proofs.RowLaws.{row_lies_within, length-row_of, elements_of-zeros}
+use Rattle.coded_traffic.proofs.BlockLaws.{width_of-block_elements}
 
 -- a sum of the rows that the operands of a link read is what it carries where no link fails
 pub value_from-sum : (code : Code) (link : ℕ) (block rows : List ℕ) (operands : List Operand) (values : ℕ → List ℕ) → IsBlockOf code block

@@ -9,7 +9,8 @@ use Rattle.node_program.specs.Decoding.{IsAccepted}
 use Rattle.node_program.specs.declared.code.Code.{Code}
 use Rattle.generation_frame.specs.Blocks.{row_bytes}
 use Rattle.block_carrier.specs.Carried.{HasBlock}
-use Rattle.block_carrier.specs.LinkRows.{AreCarried, IsLiveTable, AreLinkRows, IsBlockOf, decoded_block, carried_of, IsCarrier}
+use Rattle.block_carrier.specs.LinkRows.{AreCarried, IsLiveTable, AreLinkRows, decoded_block, carried_of, IsCarrier}
+use Rattle.coded_traffic.specs.CodeBlocks.{IsBlockOf}
 use Rattle.block_carrier.proofs.DecodedLaws.{decoded_block-first}
 
 -- a carrier without a block, whose rows are all zeros

@@ -18,12 +18,12 @@ use Rattle.node_program.specs.CodeValue.{value_in}
 use Rattle.node_program.specs.Decoding.{IsAccepted, decoding_of}
 use Rattle.node_program.proofs.DecodingLaws.{decoder_of_demand, link_within}
 use Rattle.node_program.specs.Value.{width_of}
-use Rattle.node_program.proofs.ValueLaws.{map-agree}
+use Rattle.list_laws.proofs.Maps.{map-agree}
 use Rattle.node_program.specs.declared.Decoder.{Decoder}
 use Rattle.node_program.specs.declared.code.Code.{Code}
-use Rattle.block_carrier.specs.Carried.{block_elements}
-use Rattle.block_carrier.specs.LinkRows.{row_width, elements_at, sum_of_rows, AreCarried, IsBlockOf, decoded_rows, decoded_block}
-use Rattle.block_carrier.proofs.BlockLaws.{length-block_elements, get_or-block_elements, width_of-block_elements, IsBlock-block_elements, bytes_of-block_elements, block_elements-injective}
+use Rattle.coded_traffic.specs.CodeBlocks.{block_elements, row_width, elements_at, IsBlockOf}
+use Rattle.block_carrier.specs.LinkRows.{sum_of_rows, AreCarried, decoded_rows, decoded_block}
+use Rattle.coded_traffic.proofs.BlockLaws.{length-block_elements, get_or-block_elements, width_of-block_elements, IsBlock-block_elements, bytes_of-block_elements, block_elements-injective}
 
 -- from rows that are carried of a block, each demand's decoder makes the rows of the block
 pub decoded_rows-carried : (code : Code) (demand : ℕ) (block rows : List ℕ) → IsAccepted code → demand < demand_count code.net → IsBlockOf code block

@@ -1,6 +1,5 @@
 -- A code at work on blocks, under a pattern.
 use Rattle.std.specs.Prelude.{◌≡◌, ◌*◌, ℕ, List, length}
-use Rattle.field_rows.specs.Bytes.{element_rows}
 use Rattle.generation_frame.specs.Blocks.{row_bytes}
 use Rattle.node_program.specs.declared.code.Code.{Code}
 
@@ -13,7 +12,3 @@ pub record Carried : Type 0 where
 -- a block was carried
 abbrev pub HasBlock : Carried → Type 0
 HasBlock carried = length carried.block ≡ carried.code.rate * row_bytes
-
--- the rows of elements that a block of a code is
-abbrev pub block_elements : Code → List ℕ → List (List ℕ)
-block_elements code block = element_rows code.field code.rate row_bytes block

@@ -1,29 +1,16 @@
 -- The rows of a code's links, one after another in the order of the links, and what the sinks make of them.
-use Rattle.std.specs.Prelude.{◌≡◌, ◌≢◌, ℕ, ◌*◌, ◌/◌, ◌<◌, Bool, true, false, Some, List, [], length, map, take, drop, slice_get, if◌then◌else◌}
+use Rattle.std.specs.Prelude.{◌≡◌, ◌≢◌, ℕ, ◌*◌, ◌<◌, Bool, true, false, Some, List, [], length, map, slice_get, if◌then◌else◌}
 use Rattle.std.specs.List.{All, concat}
 use Rattle.std.specs.Option.{option_map_or}
-use Rattle.field_rows.specs.Bytes.{elements_of, bytes_of_elements}
-use Rattle.gf_tables.specs.Product.{bytes_of_element}
+use Rattle.field_rows.specs.Bytes.{bytes_of_elements}
 use Rattle.gf_tables.specs.declared.kind.FieldKind.{FieldKind}
-use Rattle.linear_algebra.specs.Elements.{AreBytes}
 use Rattle.linear_algebra.specs.Matrices.{matrix_times}
 use Rattle.linear_algebra.specs.Rows.{combination}
 use Rattle.node_program.specs.CodeValue.{value_in, is_live_in}
 use Rattle.node_program.specs.declared.code.Code.{Code}
 use Rattle.generation_frame.specs.Blocks.{row_bytes}
-use Rattle.block_carrier.specs.Carried.{Carried, block_elements}
-
--- how many elements a row has
-abbrev pub row_width : FieldKind → ℕ
-row_width field = row_bytes / bytes_of_element field
-
--- the row at a place, of rows one after another
-abbrev pub row_of : List ℕ → ℕ → List ℕ
-row_of rows place = take row_bytes (drop (place * row_bytes) rows)
-
--- its elements
-abbrev pub elements_at : FieldKind → List ℕ → ℕ → List ℕ
-elements_at field rows place = elements_of field (row_of rows place)
+use Rattle.block_carrier.specs.Carried.{Carried}
+use Rattle.coded_traffic.specs.CodeBlocks.{IsBlockOf, block_elements, elements_at, row_of, row_width}
 
 -- the sum of the rows at some places, each times its coefficient
 abbrev pub sum_of_rows : FieldKind → List ℕ → List ℕ → List ℕ → List ℕ
@@ -49,11 +36,6 @@ pub record IsLiveTable (code : Code) (pattern : ℕ) (live : List Bool) : Type 0
 pub record AreLinkRows (code : Code) (pattern : ℕ) (rows : List ℕ) : Type 0 where
   pub size : length rows ≡ length code.net.links * row_bytes
   pub dead : (link : ℕ) → link < length code.net.links → is_live_in code pattern link ≡ false → All (λ byte. byte ≡ 0) (row_of rows link)
-
--- bytes that are a block of a code
-pub record IsBlockOf (code : Code) (block : List ℕ) : Type 0 where
-  pub size : length block ≡ code.rate * row_bytes
-  pub bytes : AreBytes block
 
 -- the rows that a demand's decoder makes of those of its links
 abbrev pub decoded_rows : Code → ℕ → List ℕ → List (List ℕ)

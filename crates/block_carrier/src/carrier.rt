@@ -3,7 +3,8 @@ ghost use Rattle.std.specs.Prelude.{◌≡◌, ◌<◌, ◌*◌, [], length, IfO
 ghost use Rattle.field_rows.specs.Bytes.{elements_of};
 ghost use Rattle.node_program.specs.CodeValue.{value_in};
 ghost use Rattle.generation_frame.specs.Blocks.{row_bytes};
-ghost use Rattle.block_carrier.specs.Carried.{HasBlock, block_elements};
+ghost use Rattle.block_carrier.specs.Carried.{HasBlock};
+ghost use Rattle.coded_traffic.specs.CodeBlocks.{block_elements};
 
 use crate::links::{carry_link, decode_rows};
 use crate::sums::row_of;
@@ -85,7 +86,8 @@ impl<'c> Carrier<'c> {
         requires link { link < length self.now.code.net.links }
         ensures length { length result.now ≡ row_bytes }
         ensures value { elements_of self.now.code.field result.now
-            ≡ value_in self.now.code self.now.pattern (block_elements self.now.code self.now.block) link }
+            ≡ value_in self.now.code self.now.pattern
+            (block_elements self.now.code self.now.block) link }
     {
         row_of(&self.rows, link)
     }

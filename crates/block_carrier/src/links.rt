@@ -3,8 +3,8 @@ ghost use Rattle.std.specs.Prelude.{◌≡◌, ◌≢◌, ◌<◌, ◌*◌, ℕ,
 ghost use Rattle.net_model.specs.Demands.{demand_count};
 ghost use Rattle.node_program.specs.Value.{value_from};
 ghost use Rattle.generation_frame.specs.Blocks.{row_bytes};
-ghost use Rattle.block_carrier.specs.Carried.{block_elements};
-ghost use Rattle.block_carrier.specs.LinkRows.{row_of, elements_at, decoded_rows};
+ghost use Rattle.coded_traffic.specs.CodeBlocks.{block_elements, row_of, elements_at};
+ghost use Rattle.block_carrier.specs.LinkRows.{decoded_rows};
 
 use crate::sums::{sum_links, sum_operands};
 use field_rows::RowTables;
@@ -20,7 +20,8 @@ pub(crate) fn carry_link(tables: &RowTables, code: &Code, link: u32, block: &[u8
     ensures count { length rows.new ≡ length rows.old }
     ensures others { (other : ℕ) → other ≢ link → row_of rows.new other ≡ row_of rows.old other }
     ensures sum { elements_at code.now.field rows.new link
-        ≡ value_from code.now.net code.now.field code.now.operands [] (block_elements code.now block.now) (elements_at code.now.field rows.old) link }
+        ≡ value_from code.now.net code.now.field code.now.operands []
+        (block_elements code.now block.now) (elements_at code.now.field rows.old) link }
 {
     let operands = code.operands.at(link as usize).as_slice();
     let leaves = code.net.leaves_source(link);

@@ -4,7 +4,8 @@ ghost use Rattle.gf_tables.specs.Product.{size_of};
 ghost use Rattle.linear_algebra.specs.Rows.{AreElements};
 ghost use Rattle.field_rows.specs.Bytes.{elements_of};
 ghost use Rattle.generation_frame.specs.Blocks.{row_bytes};
-ghost use Rattle.block_carrier.specs.LinkRows.{row_of, sum_of_rows};
+ghost use Rattle.block_carrier.specs.LinkRows.{sum_of_rows};
+ghost use Rattle.coded_traffic.specs.CodeBlocks.{row_of};
 
 use field_rows::RowTables;
 use generation_frame::ROW;
@@ -31,10 +32,12 @@ pub(crate) fn sum_operands(
 )
     requires width { length row.old ≡ row_bytes }
     requires elements { All (λ operand. operand.times < size_of field) operands.now }
-    requires places { All (λ operand. operand.from * row_bytes + row_bytes ≤ length rows.now) operands.now }
+    requires places { All (λ operand. operand.from * row_bytes + row_bytes ≤ length rows.now)
+        operands.now }
     ensures width { length row.new ≡ row_bytes }
     ensures sum { elements_of field row.new
-        ≡ sum_of_rows field (map (λ operand. operand.times) operands.now) rows.now (map (λ operand. operand.from) operands.now) }
+        ≡ sum_of_rows field (map (λ operand. operand.times) operands.now) rows.now
+        (map (λ operand. operand.from) operands.now) }
 {
     row.fill(0);
     for operand in operands {
@@ -56,7 +59,8 @@ pub(crate) fn sum_links(
     requires elements { AreElements field coefficients.now }
     requires places { All (λ link. link * row_bytes + row_bytes ≤ length rows.now) links.now }
     ensures width { length into.new ≡ row_bytes }
-    ensures sum { elements_of field into.new ≡ sum_of_rows field coefficients.now rows.now links.now }
+    ensures sum { elements_of field into.new
+        ≡ sum_of_rows field coefficients.now rows.now links.now }
 {
     into.fill(0);
     for (j, link) in links.iter().enumerate() {

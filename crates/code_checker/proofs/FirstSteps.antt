@@ -4,8 +4,8 @@ use Rattle.std.specs.Prelude.{Option, Some, None}
 use Rattle.std.proofs.Math.Nat.{div-add-mod, mul_comm, mul-le-mul_right}
 use Rattle.std.proofs.lemmas.Bool.{cases_lt, false≢true, ltb-true, ltb-false}
 use Rattle.std.proofs.lemmas.Nat.{mod-mul-add}
+use Rattle.list_laws.proofs.Places.{place_within}
 use Rattle.failure_patterns.proofs.DemandLaws.{sink_place_within, pattern_place_within}
-use Rattle.linear_algebra.proofs.EntryLaws.{place_within}
 use Rattle.linear_algebra.specs.Matrices.{identity}
 use Rattle.net_model.specs.Demands.{demand_count, pattern_of_demand}
 use Rattle.node_program.specs.Decoding.{IsAccepted}

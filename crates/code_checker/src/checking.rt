@@ -1,6 +1,7 @@
 //! The check of a code, pattern by pattern.
 ghost use Rattle.std.specs.Prelude.{◌≡◌, ◌≢◌, ◌<◌, ◌+◌, length, IfOk, IfErr, OnOk};
 ghost use Rattle.gf_tables.specs.Kind.{IsOfKind};
+ghost use Rattle.cut_bound.specs.Cuts.{IsWithinCuts};
 ghost use Rattle.node_program.specs.Decoding.{IsAccepted};
 ghost use Rattle.code_checker.specs.Checking.{IsRefusal};
 ghost use Rattle.code_checker.specs.First.{IsFirstBefore, fails_below};
@@ -19,9 +20,10 @@ use std::sync::ledger::{Blank, Ledger};
 use std::thread::Threads;
 
 /// Checks a code. It is accepted exactly where each demand's decoder times the vectors of its links is the
-/// identity; else it is handed back with the first demand of which that doesn't hold, and the first entry
-/// that differs, or because there was too little memory. The vectors of a pattern are made once for all its
-/// demands, and those of one pattern are held at a time.
+/// identity, and then its rate is at most the number of links of each cut of each demand; else it is handed
+/// back with the first demand of which that doesn't hold, and the first entry that differs, or because there
+/// was too little memory. The vectors of a pattern are made once for all its demands, and those of one
+/// pattern are held at a time.
 pub fn check<G: Gate + Sync, R: Threads + Sync>(
     _rt: &R,
     alloc: Global,
@@ -30,9 +32,11 @@ pub fn check<G: Gate + Sync, R: Threads + Sync>(
 ) -> Result<Checked, Refused>
     ensures checked { IfOk result (λ checked. checked ≡ code) }
     ensures accepted { OnOk result (IsAccepted code) }
+    ensures cuts { OnOk result (IsWithinCuts code.net code.rate) }
     ensures returned { IfErr result (λ refused. refused.code ≡ code) }
     ensures refused { IfErr result (λ refused. IsRefusal code refused.why) }
-    ensures rejected { IfErr result (λ refused. refused.why ≢ CheckRefusal.OutOfMemory → ¬ IsAccepted code) }
+    ensures rejected { IfErr result
+        (λ refused. refused.why ≢ CheckRefusal.OutOfMemory → ¬ IsAccepted code) }
 {
     gate.enter(0);
     match first_failure(alloc, &code) {

@@ -38,8 +38,10 @@ pub fn difference<F: Field, L: Ledger>(
 ) -> Result<Option<Failure>, AllocError>
     requires demand { demand < demand_count code.now.net }
     requires field { IsOfKind code.now.field F.SIZE F.BYTES F.MARK F.product }
-    requires vectors { AreVectors F.number code.now (pattern_of_demand code.now.net demand) vectors.now }
-    ensures none { IfOk result (λ failure. IfNone failure (demand_product code.now demand ≡ identity code.now.rate)) }
+    requires vectors { AreVectors F.number code.now
+        (pattern_of_demand code.now.net demand) vectors.now }
+    ensures none { IfOk result
+        (λ failure. IfNone failure (demand_product code.now demand ≡ identity code.now.rate)) }
     ensures some { IfOk result (λ failure. IfSome failure (λ f. (f.demand ≡ demand)
         × DiffersFirst code.now.rate (demand_product code.now demand) f.row f.column f.found)) }
 {
@@ -60,7 +62,8 @@ pub fn difference<F: Field, L: Ledger>(
 fn decoder_of(code: &Code, demand: u32) -> &Decoder
     requires { demand < demand_count code.now.net }
     ensures value { slice_get code.now.decoders demand ≡ Some result.now }
-    ensures shape { IsDecoder code.now.net code.now.rate code.now.field (sink_of_demand code.now.net demand) result.now }
+    ensures shape { IsDecoder code.now.net code.now.rate code.now.field
+        (sink_of_demand code.now.net demand) result.now }
 {
     code.decoders.at(demand as usize)
 }
@@ -69,7 +72,8 @@ fn decoder_of(code: &Code, demand: u32) -> &Decoder
 fn matrix_of<F: Field>(alloc: Global, code: &Code, demand: u32) -> Result<Matrix<F>, AllocError>
     requires demand { demand < demand_count code.now.net }
     requires field { IsOfKind code.now.field F.SIZE F.BYTES F.MARK F.product }
-    ensures { IfOk result (Shows F.is_element F.number code.now.rate (decoder_matrix code.now demand)) }
+    ensures { IfOk result
+        (Shows F.is_element F.number code.now.rate (decoder_matrix code.now demand)) }
 {
     let rate = code.rate;
     let entries = decoder_of(code, demand).entries.as_slice();
@@ -91,8 +95,10 @@ fn carried_by<F: Field>(
     vectors: &Matrix<F>,
 ) -> Result<Matrix<F>, AllocError>
     requires demand { demand < demand_count code.now.net }
-    requires vectors { AreVectors F.number code.now (pattern_of_demand code.now.net demand) vectors.now }
-    ensures { IfOk result (Shows F.is_element F.number code.now.rate (decoder_vectors code.now demand)) }
+    requires vectors { AreVectors F.number code.now
+        (pattern_of_demand code.now.net demand) vectors.now }
+    ensures { IfOk result
+        (Shows F.is_element F.number code.now.rate (decoder_vectors code.now demand)) }
 {
     let links = decoder_of(code, demand).links.as_slice();
     let mut carried = Matrix::zeros(alloc, code.rate, code.rate)?;

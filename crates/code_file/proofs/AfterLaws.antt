@@ -7,7 +7,7 @@ use Rattle.std.proofs.lemmas.Bool.{and_parts, and_from, or_parts, or_from, not-t
 use Rattle.std.proofs.lemmas.List.{map-append}
 use Rattle.std.proofs.lemmas.List.Folds.{list_any-append}
 use Rattle.net_model.specs.Lists.{are_distinct, is_rising, is_among}
-use Rattle.net_model.proofs.ListLaws.{nat_eq-swap, bytes_eq-swap}
+use Rattle.std.proofs.lemmas.Cmp.{nat_eq_equiv, nat_list_eq_equiv}
 use Rattle.net_model.specs.Name.{is_name}
 use Rattle.net_model.specs.Network.{are_names}
 use Rattle.net_model.specs.declared.Link.{Link}
@@ -109,14 +109,14 @@ module _ {X : Type 0} (same : X → X → Bool) (swap : (a b : X) → same a b �
 pub are_names-from_AllAfter : (names : List (List ℕ)) → AllAfter NameAfter [] names → are_names names ≡ true
 are_names-from_AllAfter names all =
     and_from _ _ (list_all-from_AllAfter is_name [] names (AllAfter-weaker NameAfter (λ before name. is_name name ≡ true) [] names (λ before name is. is.0) all))
-    (are_distinct-from_AllAfter bytes_eq bytes_eq-swap names (AllAfter-weaker NameAfter (λ before name. list_any (bytes_eq name) before ≡ false) [] names (λ before name is. is.1) all))
+    (are_distinct-from_AllAfter bytes_eq nat_list_eq_equiv.symm names (AllAfter-weaker NameAfter (λ before name. list_any (bytes_eq name) before ≡ false) [] names (λ before name is. is.1) all))
 
 -- and the other way round
 pub AllAfter-from_are_names : (names : List (List ℕ)) → are_names names ≡ true → AllAfter NameAfter [] names
 AllAfter-from_are_names names are =
     let parts = and_parts _ _ are in
     AllAfter-both (λ before name. is_name name ≡ true) (λ before name. list_any (bytes_eq name) before ≡ false) [] names
-    (AllAfter-from_list_all is_name [] names parts.0) (AllAfter-from_are_distinct bytes_eq bytes_eq-swap names parts.1)
+    (AllAfter-from_list_all is_name [] names parts.0) (AllAfter-from_are_distinct bytes_eq nat_list_eq_equiv.symm names parts.1)
 
 -- ---- rising numbers
 
@@ -207,7 +207,7 @@ order_behind : (earlier : List Link) (tails : List ℕ) (links : List Link) → 
 order_behind earlier tails [] same all = refl
 order_behind earlier tails (link ∷ links) same all =
     let parts = or_parts (link.head == link.tail) (is_among (map (λ one. one.tail) earlier) link.head) all.0 in
-    and_from _ _ (not_from_false _ (or_from _ _ (nat_eq-swap link.tail link.head ∙ parts.0) (same link.head ∙ parts.1)))
+    and_from _ _ (not_from_false _ (or_from _ _ (nat_eq_equiv.symm link.tail link.head ∙ parts.0) (same link.head ∙ parts.1)))
     (order_behind (earlier ++ link ∷ []) (link.tail ∷ tails) links (more_tails earlier tails link same) all.1)
 
 -- and the other way round
@@ -217,7 +217,7 @@ leads_on_behind earlier tails [] same order = tt
 leads_on_behind earlier tails (link ∷ links) same order =
     let parts = and_parts _ _ order in
     let apart = or_parts (link.tail == link.head) (is_among tails link.head) (not-true _ parts.0) in (
-      or_from _ _ (nat_eq-swap link.head link.tail ∙ apart.0) (sym (same link.head) ∙ apart.1),
+      or_from _ _ (nat_eq_equiv.symm link.head link.tail ∙ apart.0) (sym (same link.head) ∙ apart.1),
       leads_on_behind (earlier ++ link ∷ []) (link.tail ∷ tails) links (more_tails earlier tails link same) parts.1,
     )
 

@@ -1,5 +1,5 @@
 -- What the items of a file say one by one is what holds of a code.
-use Rattle.std.specs.Prelude.{◌≡◌, ℕ, zero, suc, ◌+◌, ◌*◌, ◌<◌, ◌≤◌, Bool, true, false, ◌&&◌, ◌==◌, nat_eq, nat_lt, List, [], ◌∷◌, length, map, drop, codes, if◌then◌else◌}
+use Rattle.std.specs.Prelude.{◌≡◌, ℕ, suc, ◌+◌, ◌*◌, ◌<◌, ◌≤◌, Bool, true, false, ◌&&◌, ◌==◌, nat_eq, nat_lt, List, [], ◌∷◌, length, map, drop, codes, if◌then◌else◌}
 use Rattle.std.specs.List.{list_all, list_any}
 use Rattle.std.specs.Str.{bytes_eq}
 use Rattle.std.proofs.Common.{refl, sym, subst, ap, ◌∙◌, arith}
@@ -11,11 +11,14 @@ use Rattle.gf_tables.specs.Product.{size_of}
 use Rattle.gf_tables.specs.declared.kind.FieldKind.{FieldKind}
 use Rattle.net_model.specs.Demands.{sinks_of_demands}
 use Rattle.net_model.specs.Lists.{are_distinct, is_rising, is_among}
-use Rattle.net_model.proofs.ListLaws.{length-are_distinct, list_all-implied, list_any-map, nat_eq-swap, is_among-same}
+use Rattle.std.proofs.lemmas.Cmp.{nat_eq_equiv}
+use Rattle.list_laws.proofs.Tests.{list_all-implied, list_any-map}
+use Rattle.net_model.proofs.ListLaws.{length-are_distinct, is_among-same}
 use Rattle.net_model.specs.Network.{are_names, is_link_among, is_sink_among, is_listed_pattern, are_patterns, IsNetwork}
 use Rattle.net_model.specs.declared.Link.{Link}
 use Rattle.net_model.specs.declared.Pattern.{Pattern}
 use Rattle.net_model.specs.declared.net.Net.{Net}
+use Rattle.node_program.proofs.DecodingLaws.{link_within}
 use Rattle.node_program.specs.Code.{choice_of, leads_into, are_in_order, is_source_of, are_operands, are_operands_of, is_decoder, are_decoders, IsCode}
 use Rattle.node_program.specs.declared.Operand.{Operand}
 use Rattle.node_program.specs.declared.Decoder.{Decoder}
@@ -44,7 +47,7 @@ link_ends-from_read nodes links all =
     (AllAfter-weaker (LinkAfter nodes) (λ before link. is_link_among nodes link ≡ true) [] links
     (λ before link is.
     let apart = or_parts (link.head == link.tail) (is_among (map (λ one. one.tail) before) link.head) is.leads_on in
-    and_from _ _ (and_from _ _ (lt-ltb _ _ is.tail) (lt-ltb _ _ is.head)) (not_from_false _ (nat_eq-swap link.tail link.head ∙ apart.0))) all)
+    and_from _ _ (and_from _ _ (lt-ltb _ _ is.tail) (lt-ltb _ _ is.head)) (not_from_false _ (nat_eq_equiv.symm link.tail link.head ∙ apart.0))) all)
 
 -- the order of the links
 pub link_order-from_read : (nodes : ℕ) (links : List Link) → AllAfter (LinkAfter nodes) [] links → are_in_order [] links ≡ true
@@ -87,7 +90,7 @@ sink_nodes-from_read nodes source sinks all =
 -- the sinks are distinct
 distinct_sinks-from_read : (nodes source : ℕ) (sinks : List ℕ) → AllAfter (SinkAfter nodes source) [] sinks → are_distinct nat_eq sinks ≡ true
 distinct_sinks-from_read nodes source sinks all =
-    are_distinct-from_AllAfter nat_eq nat_eq-swap sinks
+    are_distinct-from_AllAfter nat_eq nat_eq_equiv.symm sinks
     (AllAfter-weaker (SinkAfter nodes source) (λ before sink. list_any (nat_eq sink) before ≡ false) [] sinks (λ before sink is. is_among-same before sink ∙ is.is_new) all)
 
 -- sinks of a network are read
@@ -100,7 +103,7 @@ SinkAfter-from_network nodes source sinks few among distinct =
     let parts = and_parts _ _ is.0 in
     let node : sink < nodes = ltb-true _ _ parts.0 in
     record { fits = omega arith; node = node; not_source = not-true _ parts.1; is_new = sym (is_among-same before sink) ∙ is.1 })
-    (AllAfter-both Among New [] sinks (AllAfter-from_list_all (is_sink_among nodes source) [] sinks among) (AllAfter-from_are_distinct nat_eq nat_eq-swap sinks distinct))
+    (AllAfter-both Among New [] sinks (AllAfter-from_list_all (is_sink_among nodes source) [] sinks among) (AllAfter-from_are_distinct nat_eq nat_eq_equiv.symm sinks distinct))
 
 -- ---- patterns
 
@@ -236,12 +239,6 @@ IsFrontRead-from_network front is some_rate low_rate few_demands order =
 
 -- ---- the operands and the decoders
 
--- a link that leads into a node is one of the links
-leads_below : (links : List Link) (node n : ℕ) → leads_into links node n ≡ true → n < length links
-leads_below [] node n into = absurd (false≢true into)
-leads_below (link ∷ links) node zero into = omega arith
-leads_below (link ∷ links) node (suc n) into = omega (arith, leads_below links node n into)
-
 module _ (net : Net) (rate : ℕ) (field : FieldKind) where
   -- the operands of a link
   are_operands-from_read : (link : Link) (operands : List Operand) → AreOperandsRead (front_of net rate field) link operands → are_operands net rate field link operands ≡ true
@@ -268,7 +265,7 @@ module _ (net : Net) (rate : ℕ) (field : FieldKind) where
     where
       either : (b : Bool) → (if b then nat_lt n rate else leads_into net.links link.tail n) ≡ true → n < 8192
       either true h = omega (arith, ltb-true n rate h)
-      either false h = omega (arith, leads_below net.links link.tail n h)
+      either false h = omega (arith, link_within net.links link.tail n h)
 
   -- the operands of a link of a code are read
   AreOperandsRead-from_code : (link : Link) (operands : List Operand) → rate ≤ 32 → length net.links ≤ 8192 → are_operands net rate field link operands ≡ true → AreOperandsRead (front_of net rate field) link operands
@@ -334,7 +331,7 @@ module _ (net : Net) (rate : ℕ) (field : FieldKind) where
       record {
         link_count = eqb-true _ _ p1.0;
         links = AllAfter-weaker (λ before n. Rises before n × Into before n) (DecoderLinkAfter (front_of net rate field) sink) [] decoder.links
-            (λ before n both. record { fits = omega (arith, leads_below net.links sink n both.1); rises = both.0; into = both.1 })
+            (λ before n both. record { fits = omega (arith, link_within net.links sink n both.1); rises = both.0; into = both.1 })
             (AllAfter-both Rises Into [] decoder.links (AllAfter-from_is_rising decoder.links p1.1) (AllAfter-from_list_all (leads_into net.links sink) [] decoder.links p2.1));
         entry_count = eqb-true _ _ p3.1;
         entries = AllAfter-weaker (λ before n. nat_lt n (size_of field) ≡ true) (λ before n. n < size_of field) [] decoder.entries (λ before n below. ltb-true _ _ below)

@@ -1,26 +1,23 @@
 -- Reading and spelling code files: a file that's read is the one spelling of what it says, and that's what a code has;
 -- the file of a code is read; and a file that's no code's is refused.
-use Rattle.std.specs.Prelude.{◌≡◌, ◌≢◌, ℕ, ◌+◌, ◌*◌, ◌<◌, ◌≤◌, IsTrue, Bool, true, false, ◌==◌, List, [], ◌++◌, length, codes, Some, None, Result, Ok, Err, if◌then◌else◌}
-use Rattle.std.specs.List.{concat}
+use Rattle.std.specs.Prelude.{◌≡◌, ℕ, ◌+◌, Bool, true, false, ◌==◌, List, [], ◌++◌, length, codes, Result, Ok, Err, if◌then◌else◌}
 use Rattle.std.proofs.Common.{refl, sym, subst, ap, ◌∙◌, append-nil, arith}
-use Rattle.std.proofs.lemmas.Bool.{true≢false, eqb-true}
+use Rattle.std.proofs.lemmas.Bool.{eqb-true}
 use Rattle.std.proofs.lemmas.List.{nil_from_length}
-use Rattle.gf_tables.specs.declared.kind.FieldKind.{FieldKind}
-use Rattle.net_model.specs.Network.{IsNetwork}
 use Rattle.net_model.specs.declared.net.Net.{Net}
-use Rattle.node_program.specs.Code.{choice_of, are_in_order, IsDraft}
+use Rattle.node_program.specs.Code.{choice_of}
 use Rattle.node_program.specs.declared.Operand.{Operand}
 use Rattle.node_program.specs.declared.Decoder.{Decoder}
 use Rattle.node_program.specs.declared.code.Code.{Code}
-use Rattle.code_file.specs.Items.{Item, front_items, bytes_of}
-use Rattle.code_file.specs.Reading.{Rest, Reading, ◌>>=◌, Front, Contents, each_at, front_at, operands_at_link, decoder_at, demand_sinks, contents_of, refusal_in, refusal_of}
-use Rattle.code_file.specs.Spelling.{front_of, front_items_in, contents_in, spelling_of, AreContents}
+use Rattle.code_file.specs.Items.{bytes_of}
+use Rattle.code_file.specs.Reading.{Rest, Reading, ◌>>=◌, Front, Contents, each_at, front_at, operands_at_link, decoder_at, demand_sinks, contents_of}
+use Rattle.code_file.specs.Spelling.{contents_in, spelling_of, AreContents}
 use Rattle.code_file.proofs.SpellingLaws.{spelling_of-contents_in}
-use Rattle.code_file.proofs.Readers.{ok_of, IsBytes, Takes, is_memory, bind_ok, bind_not_memory, ok_is}
-use Rattle.code_file.proofs.CodeReaders.{AreContentsRead, front_reader, body_at, body_reader}
-use Rattle.code_file.proofs.ContentsLaws.{IsNetwork-from_read, few_demands-from_read, link_order-from_read, IsFrontRead-from_network, AreContents-from_read, AreContentsRead-from_code}
+use Rattle.code_file.proofs.Readers.{ok_of, IsBytes, bind_ok, ok_is}
+use Rattle.code_file.proofs.CodeReaders.{AreContentsRead, body_at, body_reader}
+use Rattle.code_file.proofs.ContentsLaws.{AreContents-from_read, AreContentsRead-from_code}
 use Rattle.code_file.specs.declared.refusal.CodeRefusal.{CodeRefusal}
-use Rattle.code_file.specs.declared.refusal.CodeRefusal.TheVariants.{TrailingBytes, OutOfMemory}
+use Rattle.code_file.specs.declared.refusal.CodeRefusal.TheVariants.{TrailingBytes}
 
 -- the first byte of a file and all behind it
 abbrev start_of : List ℕ → Rest

@@ -1,11 +1,9 @@
 -- What a file says of a code is spelled as the code.
-use Rattle.std.specs.Prelude.{◌≡◌, ℕ}
+use Rattle.std.specs.Prelude.{◌≡◌}
 use Rattle.std.proofs.Common.{refl}
-use Rattle.gf_tables.specs.declared.kind.FieldKind.{FieldKind}
-use Rattle.net_model.specs.declared.net.Net.{Net}
 use Rattle.node_program.specs.declared.code.Code.{Code}
-use Rattle.code_file.specs.Items.{Item, front_items, items_of, bytes_of}
-use Rattle.code_file.specs.Spelling.{front_of, contents_in, front_items_in, items_in, spelling_of}
+use Rattle.code_file.specs.Items.{front_items, items_of, bytes_of}
+use Rattle.code_file.specs.Spelling.{contents_in, front_items_in, items_in, spelling_of}
 
 -- what is said of a code is spelled as the code
 pub spelling_of-contents_in : (code : Code) → spelling_of (contents_in code) ≡ bytes_of code

@@ -5,8 +5,10 @@ use Rattle.std.specs.Prelude.{ℕ, zero, suc, ◌+◌, ◌*◌, Bool, true, not,
 use Rattle.std.specs.Int.{w16, from_be_bytes}
 use Rattle.std.specs.List.{list_any, flat_map}
 use Rattle.std.specs.Str.{bytes_eq}
+use Rattle.failure_patterns.specs.UsedField.{pair_demands}
 use Rattle.gf_tables.specs.declared.kind.FieldKind.{FieldKind}
 use Rattle.gf_tables.specs.declared.kind.FieldKind.TheVariants.{Eight, Sixteen}
+use Rattle.net_model.specs.Limits.{highest_rate, most_links, most_listed, most_nodes}
 use Rattle.net_model.specs.Lists.{is_among}
 use Rattle.net_model.specs.Name.{is_name}
 use Rattle.net_model.specs.declared.Link.{Link}
@@ -147,12 +149,12 @@ field_at rest = do
 
 -- the rate
 abbrev pub rate_at : Rest → Reading ℕ
-rate_at rest = byte_at rest (λ n. ((n == 0) || nat_lt 32 n, BadRate) ∷ [])
+rate_at rest = byte_at rest (λ n. ((n == 0) || nat_lt highest_rate n, BadRate) ∷ [])
 
 -- the nodes, behind their number
 unfoldable pub nodes_at : Rest → Reading (List (List ℕ))
 nodes_at rest = do
-  count ← count_at 4096 rest
+  count ← count_at most_nodes rest
   repeated_at other_name_at count.0 [] count.1
 
 -- the tails of links
@@ -180,7 +182,7 @@ link_at nodes earlier rest = do
 -- the links, behind their number
 unfoldable pub links_at : ℕ → Rest → Reading (List Link)
 links_at nodes rest = do
-  count ← count_at 8192 rest
+  count ← count_at most_links rest
   repeated_at (link_at nodes) count.0 [] count.1
 
 -- the source
@@ -195,7 +197,7 @@ sink_at nodes source earlier rest = number_at rest (λ n.
 -- the sinks, behind their number
 unfoldable pub sinks_at : ℕ → ℕ → Rest → Reading (List ℕ)
 sinks_at nodes source rest = do
-  count ← positive_count_at 4096 rest
+  count ← positive_count_at most_nodes rest
   repeated_at (sink_at nodes source) count.0 [] count.1
 
 -- one link of a pattern, above the one before
@@ -219,7 +221,7 @@ none_pattern = record { name = codes "none"; links = [] }
 -- the number of the listed patterns, which with `none` make so many demands
 abbrev pub pattern_count_at : ℕ → Rest → Reading ℕ
 pattern_count_at sinks rest = number_at rest (λ n.
-    (nat_lt 4095 n || nat_lt 65536 (sinks * (n + 1)), TooMany rest.at) ∷ [])
+    (nat_lt most_listed n || nat_lt pair_demands (sinks * (n + 1)), TooMany rest.at) ∷ [])
 
 -- the pattern `none`, and so many listed ones
 abbrev pub counted_patterns_at : ℕ → ℕ → Rest → Reading (List Pattern)
@@ -287,7 +289,7 @@ operands_at front link count = repeated_at (operand_at front link) count []
 -- the operands of a link, behind their number
 unfoldable pub operands_at_link : Front → Link → Rest → Reading (List Operand)
 operands_at_link front link rest = do
-  count ← count_at 8192 rest
+  count ← count_at most_links rest
   operands_at front link count.0 count.1
 
 -- a part for each of these, in order

@@ -1,5 +1,6 @@
 //! A code file up to the operands.
 ghost use Rattle.std.specs.Prelude.{◌≤◌, IfOk};
+ghost use Rattle.net_model.specs.Limits.{highest_rate};
 ghost use Rattle.code_file.specs.Reading.{mark_at, field_at, rate_at, front_at};
 ghost use Rattle.code_file.specs.Gives.{Gives, left_of, ReadsAs, Reads};
 ghost use Rattle.code_file.specs.Parts.{front_seen};
@@ -12,6 +13,7 @@ use crate::parts::Front;
 use crate::patterns::patterns;
 use crate::rest::Rest;
 use gf_tables::FieldKind;
+use net_model::HIGHEST_RATE;
 use std::alloc::Global;
 
 // The mark and the version.
@@ -47,13 +49,14 @@ fn field<'a>(rest: Rest<'a>) -> Result<(FieldKind, Rest<'a>), CodeRefusal>
 #[tactic(auto, using(crate::proofs::Checks::byte_checked))]
 fn rate<'a>(rest: Rest<'a>) -> Result<(u32, Rest<'a>), CodeRefusal>
     ensures gives { Reads result rate_at rest.entry }
-    ensures low { IfOk result (λ x. x.0 ≤ 32) }
+    ensures low { IfOk result (λ x. x.0 ≤ highest_rate) }
 {
     let (number, after) = byte(rest)?;
-    if number == 0 || number > 32 {
+    let rate = u32::from(number);
+    if rate == 0 || rate > HIGHEST_RATE {
         return Err(CodeRefusal::BadRate);
     }
-    Ok((u32::from(number), after))
+    Ok((rate, after))
 }
 
 /// All up to the operands, behind a mark and a version.

@@ -64,12 +64,12 @@ pub(crate) fn element<'a>(field: FieldKind, rest: Rest<'a>) -> Result<(u32, Rest
 
 /// A count that has a limit.
 #[tactic(auto, using(crate::proofs::Checks::number_checked))]
-pub(crate) fn count<'a>(rest: Rest<'a>, limit: u16) -> Result<(u16, Rest<'a>), CodeRefusal>
+pub(crate) fn count<'a>(rest: Rest<'a>, limit: usize) -> Result<(u16, Rest<'a>), CodeRefusal>
     ensures gives { Reads result (count_at limit) rest.entry }
     ensures few { IfOk result (λ x. x.0 ≤ limit) }
 {
     let (count, after) = number(rest)?;
-    if count > limit {
+    if usize::from(count) > limit {
         return Err(CodeRefusal::TooMany { at: rest.at });
     }
     Ok((count, after))

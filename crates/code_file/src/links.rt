@@ -1,5 +1,6 @@
 //! Links.
 ghost use Rattle.std.specs.Prelude.{◌≡◌, ◌≤◌, ◌++◌, ◌∷◌, [], length, IfOk};
+ghost use Rattle.net_model.specs.Limits.{most_links};
 ghost use Rattle.code_file.specs.Reading.{repeated_at, names_of, head_at, link_at, links_at};
 ghost use Rattle.code_file.specs.Gives.{Reads, ReadsAll};
 ghost use Rattle.code_file.specs.Marks.{AreTailMarks};
@@ -10,7 +11,7 @@ use crate::marks::{is_marked, mark, no_marks};
 use crate::names::name;
 use crate::rest::Rest;
 use name_index::Names;
-use net_model::{Link, LinkTable};
+use net_model::{Link, LinkTable, MOST_LINKS};
 use std::alloc::Global;
 
 // The head of a link, which is neither its tail nor that of an earlier link.
@@ -22,7 +23,7 @@ fn head<'a>(
     tails: &[bool],
     rest: Rest<'a>,
 ) -> Result<(u32, Rest<'a>), CodeRefusal>
-    requires few { length earlier.now ≤ 8192 }
+    requires few { length earlier.now ≤ most_links }
     requires tails { AreTailMarks nodes earlier.now tails.now }
     ensures { Reads result (head_at nodes tail earlier.now) rest.entry }
 {
@@ -49,7 +50,7 @@ fn link<'a>(
     tails: &mut [bool],
     rest: Rest<'a>,
 ) -> Result<(Link, Rest<'a>), CodeRefusal>
-    requires few { length earlier.now ≤ 8192 }
+    requires few { length earlier.now ≤ most_links }
     requires names { names.old ≡ names_of earlier.now }
     requires tails { AreTailMarks nodes earlier.now tails.old }
     ensures gives { Reads result (link_at nodes earlier.now) rest.entry }
@@ -70,7 +71,7 @@ fn counted_links<'a>(
     count: u16,
     start: Rest<'a>,
 ) -> Result<(Vec<Link>, Rest<'a>), CodeRefusal>
-    requires { count ≤ 8192 }
+    requires { count ≤ most_links }
     ensures { ReadsAll result (repeated_at (link_at nodes) count []) start.entry }
 {
     let mut links = Vec::with_capacity(alloc, usize::from(count))?;
@@ -94,7 +95,7 @@ pub(crate) fn links<'a>(
 ) -> Result<(LinkTable, Rest<'a>), CodeRefusal>
     ensures { Reads result (links_at nodes) rest.entry }
 {
-    let (count, rest) = count(rest, 8192)?;
+    let (count, rest) = count(rest, MOST_LINKS)?;
     let (links, rest) = counted_links(alloc, nodes, count, rest)?;
     Ok((LinkTable::of(links), rest))
 }

@@ -1,5 +1,6 @@
 //! Nodes and sinks.
 ghost use Rattle.std.specs.Prelude.{◌≡◌, ◌≤◌, ◌++◌, ◌∷◌, [], length, IfOk};
+ghost use Rattle.net_model.specs.Limits.{most_nodes};
 ghost use Rattle.code_file.specs.Reading.{other_name_at, repeated_at, nodes_at, sink_at, sinks_at};
 ghost use Rattle.code_file.specs.Gives.{Reads, ReadsAll};
 ghost use Rattle.code_file.specs.Marks.{AreMarks};
@@ -10,7 +11,7 @@ use crate::marks::{is_marked, mark, no_marks};
 use crate::names::name;
 use crate::rest::Rest;
 use name_index::Names;
-use net_model::{Name, NameList, NodeList};
+use net_model::{MOST_NODES, Name, NameList, NodeList};
 use std::alloc::Global;
 
 // So many names of nodes.
@@ -37,7 +38,7 @@ fn counted_nodes<'a>(
 pub(crate) fn nodes<'a>(alloc: Global, rest: Rest<'a>) -> Result<(NameList, Rest<'a>), CodeRefusal>
     ensures { Reads result nodes_at rest.entry }
 {
-    let (count, rest) = count(rest, 4096)?;
+    let (count, rest) = count(rest, MOST_NODES)?;
     let (nodes, rest) = counted_nodes(alloc, count, rest)?;
     Ok((NameList::of(nodes), rest))
 }
@@ -96,9 +97,9 @@ pub(crate) fn sinks<'a>(
     rest: Rest<'a>,
 ) -> Result<(NodeList, Rest<'a>), CodeRefusal>
     ensures gives { Reads result (sinks_at nodes source) rest.entry }
-    ensures few { IfOk result (λ x. length x.0 ≤ 4096) }
+    ensures few { IfOk result (λ x. length x.0 ≤ most_nodes) }
 {
-    let (count, rest) = positive_count(rest, 4096)?;
+    let (count, rest) = positive_count(rest, MOST_NODES)?;
     let (sinks, rest) = counted_sinks(alloc, nodes, source, count, rest)?;
     Ok((NodeList::of(sinks), rest))
 }

@@ -11,7 +11,7 @@ use crate::parts::Front;
 use crate::rest::Rest;
 use crate::rising::is_above_last_operand;
 use gf_tables::FieldKind;
-use net_model::Link;
+use net_model::{Link, MOST_LINKS};
 use node_program::{Operand, OperandList};
 use std::alloc::Global;
 
@@ -114,7 +114,7 @@ fn operand_list<'a>(
 ) -> Result<(OperandList, Rest<'a>), CodeRefusal>
     ensures { Reads result (operands_at_link (front_seen front.now) link.now) rest.entry }
 {
-    let (count, rest) = count(rest, 8192)?;
+    let (count, rest) = count(rest, MOST_LINKS)?;
     let (operands, rest) = counted_operands(alloc, front, link, count, rest)?;
     Ok((OperandList::of(operands), rest))
 }

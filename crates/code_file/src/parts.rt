@@ -1,5 +1,7 @@
 //! The parts of a code, as they are read.
 ghost use Rattle.std.specs.Prelude.{◌≤◌, ◌*◌, length};
+ghost use Rattle.failure_patterns.specs.UsedField.{pair_demands};
+ghost use Rattle.net_model.specs.Limits.{highest_rate};
 
 use gf_tables::FieldKind;
 use net_model::{LinkTable, NameList, NodeList, PatternList};
@@ -15,8 +17,8 @@ pub(crate) struct Front {
     pub source: u32,
     pub sinks: NodeList,
     pub patterns: PatternList,
-    ghost low_rate: { rate ≤ 32 },
-    ghost few_demands: { length sinks * length patterns ≤ 65536 },
+    ghost low_rate: { rate ≤ highest_rate },
+    ghost few_demands: { length sinks * length patterns ≤ pair_demands },
 }
 
 /// All that a code file says.

@@ -1,5 +1,7 @@
 //! Patterns.
 ghost use Rattle.std.specs.Prelude.{◌≡◌, ◌≤◌, ◌+◌, ◌*◌, ◌++◌, ◌∷◌, [], length, IfOk, IsOkUnless};
+ghost use Rattle.failure_patterns.specs.UsedField.{pair_demands};
+ghost use Rattle.net_model.specs.Limits.{most_nodes};
 ghost use Rattle.code_file.specs.Reading.{repeated_at, failed_at, pattern_at, none_pattern, pattern_count_at, counted_patterns_at, patterns_at};
 ghost use Rattle.code_file.specs.Gives.{Reads, ReadsAll, ReadsBehind};
 ghost use Rattle.code_file.specs.declared.refusal.CodeRefusal.TheVariants.{OutOfMemory};
@@ -9,8 +11,9 @@ use crate::items::{number, positive_count};
 use crate::names::name;
 use crate::rest::Rest;
 use crate::rising::is_above_last;
+use failure_patterns::PAIR_DEMANDS;
 use name_index::Names;
-use net_model::{LinkList, Name, Pattern, PatternList};
+use net_model::{LinkList, MOST_LISTED, Name, Pattern, PatternList};
 use std::alloc::Global;
 
 /// The name of the pattern without links.
@@ -108,12 +111,13 @@ fn counted_patterns<'a>(
 // The number of the listed patterns.
 #[tactic(auto, using(crate::proofs::Checks::number_checked))]
 fn pattern_count<'a>(sinks: usize, rest: Rest<'a>) -> Result<(u16, Rest<'a>), CodeRefusal>
-    requires { sinks ≤ 4096 }
+    requires { sinks ≤ most_nodes }
     ensures gives { Reads result (pattern_count_at sinks) rest.entry }
-    ensures few { IfOk result (λ x. sinks * (x.0 + 1) ≤ 65536) }
+    ensures few { IfOk result (λ x. sinks * (x.0 + 1) ≤ pair_demands) }
 {
     let (count, after) = number(rest)?;
-    if count > 4095 || sinks * (usize::from(count) + 1) > 65536 {
+    let listed = usize::from(count);
+    if listed > MOST_LISTED || (sinks * (listed + 1)) as u64 > PAIR_DEMANDS {
         return Err(CodeRefusal::TooMany { at: rest.at });
     }
     Ok((count, after))
@@ -127,9 +131,9 @@ pub(crate) fn patterns<'a>(
     sinks: usize,
     rest: Rest<'a>,
 ) -> Result<(PatternList, Rest<'a>), CodeRefusal>
-    requires { sinks ≤ 4096 }
+    requires { sinks ≤ most_nodes }
     ensures gives { Reads result (patterns_at links sinks) rest.entry }
-    ensures few { IfOk result (λ x. sinks * length x.0 ≤ 65536) }
+    ensures few { IfOk result (λ x. sinks * length x.0 ≤ pair_demands) }
 {
     let (count, rest) = pattern_count(sinks, rest)?;
     let (patterns, rest) = counted_patterns(alloc, links, count, rest)?;

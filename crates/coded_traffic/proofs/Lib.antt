@@ -1,3 +1,5 @@
+pub mod RowLaws
+pub mod BlockLaws
 pub mod PieceLaws
 pub mod SumLaws
 pub mod KeyLaws

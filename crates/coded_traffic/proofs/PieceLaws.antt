@@ -10,8 +10,9 @@ use Rattle.linear_algebra.specs.Elements.{elements_of, bytes_of_row}
 use Rattle.linear_algebra.specs.Rows.{combination, zero_row, AreRows}
 use Rattle.linear_algebra.proofs.CombinationLaws.{take-combination, drop-combination}
 use Rattle.linear_algebra.proofs.ElementsLaws.{bytes_of_row-drop, bytes_of_row-take, elements_of-bytes_of_row, elements_of-drop, elements_of-take}
-use Rattle.block_carrier.specs.LinkRows.{row_width}
-use Rattle.coded_traffic.specs.Traffic.{piece_bytes, piece_of_row, piece_width}
+use Rattle.coded_traffic.specs.CodeBlocks.{row_width}
+use Rattle.generation_frame.specs.Blocks.{piece_bytes, piece_of_row}
+use Rattle.coded_traffic.specs.Traffic.{piece_width}
 
 -- the bytes of a piece are those of its elements
 pub piece_bytes-piece_width : (field : FieldKind) → bytes_of_element field * piece_width field ≡ piece_bytes

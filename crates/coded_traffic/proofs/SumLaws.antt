@@ -13,18 +13,19 @@ use Rattle.linear_algebra.proofs.RowLaws.{scale_row-zero_row, zero_row-add_rows}
 use Rattle.net_model.specs.Failed.{failed_links, is_failed_in}
 use Rattle.net_model.specs.Walks.{leaves_source}
 use Rattle.node_program.proofs.LiveLaws.{is_live_in-failed}
-use Rattle.node_program.proofs.ValueLaws.{IsRow-row_at, IsRow-value, either_row, map-agree, value-dead, value-equation}
+use Rattle.list_laws.proofs.Maps.{map-agree}
+use Rattle.node_program.proofs.ValueLaws.{IsRow-row_at, IsRow-value, either_row, value-dead, value-equation}
 use Rattle.node_program.proofs.OperandLaws.{operands_of_draft}
 use Rattle.node_program.specs.Operands.{IsOperand}
 use Rattle.node_program.specs.CodeValue.{is_live_in, reads_live_in, value_in}
 use Rattle.node_program.specs.Value.{operands_at, row_at, width_of}
 use Rattle.node_program.specs.declared.Operand.{Operand}
 use Rattle.node_program.specs.declared.code.Code.{Code}
-use Rattle.block_carrier.proofs.BlockLaws.{IsBlock-block_elements, row_at-block_elements, width_of-block_elements}
-use Rattle.block_carrier.specs.Carried.{block_elements}
-use Rattle.block_carrier.specs.LinkRows.{IsBlockOf, row_of, row_width}
+use Rattle.coded_traffic.proofs.BlockLaws.{IsBlock-block_elements, row_at-block_elements, width_of-block_elements}
+use Rattle.coded_traffic.specs.CodeBlocks.{block_elements, IsBlockOf, row_of, row_width}
 use Rattle.coded_traffic.proofs.PieceLaws.{AreRows-piece, elements_in, elements_in-zero_row, elements_in-combination, elements_of-piece, elements_of-piece_of_row, piece_of_row-bytes}
-use Rattle.coded_traffic.specs.Traffic.{live_operands, operand_payload, payload_in, piece_of_row, piece_width, sum_of}
+use Rattle.generation_frame.specs.Blocks.{piece_of_row}
+use Rattle.coded_traffic.specs.Traffic.{live_operands, operand_payload, payload_in, piece_width, sum_of}
 
 -- rows of which those that don't pass a test are zeros add nothing
 combination-passing : {X : Type 0} (field : FieldKind) (width : ℕ) (test : X → Bool) (times : X → ℕ) (row : X → List ℕ) (xs : List X)

@@ -1,11 +1,12 @@
 -- The traffic of a code under a pattern: what its live links carry of numbered blocks, piece after piece.
-use Rattle.std.specs.Prelude.{Bool, List, [], drop, filter, flat_map, if◌then◌else◌, length, map, slice_index_or, take, true, ℕ, ◌&&◌, ◌*◌, ◌+◌, ◌-◌, ◌<◌, ◌==◌, ◌≡◌, ◌≤◌}
+use Rattle.std.specs.Prelude.{Bool, List, [], filter, flat_map, if◌then◌else◌, length, map, slice_index_or, true, ℕ, ◌&&◌, ◌+◌, ◌-◌, ◌<◌, ◌==◌, ◌≡◌, ◌≤◌}
 use Rattle.std.specs.List.{range_with_len}
 use Rattle.gf_tables.specs.declared.kind.FieldKind.{FieldKind}
 use Rattle.gf_tables.specs.declared.kind.FieldKind.TheVariants.{Eight, Sixteen}
 use Rattle.linear_algebra.specs.Elements.{elements_of, bytes_of_row}
 use Rattle.linear_algebra.specs.Rows.{combination}
 use Rattle.lif_outside.specs.declared.links.Flight.{Flight}
+use Rattle.generation_frame.specs.Blocks.{piece_of_row, pieces}
 use Rattle.generation_frame.specs.Frames.{frame_of}
 use Rattle.generation_frame.specs.declared.frame.Packet.{Packet}
 use Rattle.net_model.specs.Walks.{leaves_source}
@@ -13,19 +14,7 @@ use Rattle.node_program.specs.CodeValue.{value_in, is_live_in, reads_live_in}
 use Rattle.node_program.specs.Value.{operands_at}
 use Rattle.node_program.specs.declared.Operand.{Operand}
 use Rattle.node_program.specs.declared.code.Code.{Code}
-use Rattle.block_carrier.specs.Carried.{block_elements}
-use Rattle.block_carrier.specs.LinkRows.{row_of}
-
--- the pieces of a row, and their bytes
-abbrev pub pieces : ℕ
-pieces = 8
-
-abbrev pub piece_bytes : ℕ
-piece_bytes = 128
-
--- a piece of a row
-abbrev pub piece_of_row : List ℕ → ℕ → List ℕ
-piece_of_row row piece = take piece_bytes (drop (piece * piece_bytes) row)
+use Rattle.coded_traffic.specs.CodeBlocks.{block_elements, row_of}
 
 -- how many elements a piece has
 abbrev pub piece_width : FieldKind → ℕ
@@ -61,6 +50,10 @@ pub record Key : Type 0 where
   pub link : ℕ
   pub generation : ℕ
   pub piece : ℕ
+
+-- the key of a packet
+abbrev pub key_of : Packet → Key
+key_of packet = record { link = packet.link; generation = packet.generation; piece = packet.piece }
 
 -- blocks with the numbers of their generations, from the first on
 pub record Window : Type 0 where

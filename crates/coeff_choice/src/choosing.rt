@@ -38,7 +38,8 @@ fn scale_plus_unit<F: Field, L: Ledger>(
     steps: &mut Steps<L>,
 )
     requires { place < length coefficients.old }
-    ensures value { coefficients.new ≡ scaled_plus_unit F.zero F.one F.add F.mul by place coefficients.old }
+    ensures value { coefficients.new
+        ≡ scaled_plus_unit F.zero F.one F.add F.mul by place coefficients.old }
     ensures ticks { RoseBy (length coefficients.old) steps.old steps.new }
 {
     scale(coefficients, by, steps);
@@ -59,7 +60,8 @@ fn update_products<F: Field, L: Ledger>(
     requires rows { count ≤ length table.now.rows }
     requires column { place < table.now.columns }
     ensures value { (row : ℕ) → row < count → slice_index_or products.new row F.zero ≡
-        F.add (F.mul by (slice_index_or products.old row F.zero)) (entry_of F.zero table.now row place) }
+        F.add (F.mul by (slice_index_or products.old row F.zero))
+        (entry_of F.zero table.now row place) }
     ensures ticks { RoseBy count steps.old steps.new }
 {
     for row in 0..count {
@@ -80,8 +82,10 @@ fn mark_forbidden<F: Field, L: Ledger>(
     requires rows { length products.now ≤ length table.now.rows }
     requires column { place < table.now.columns }
     requires few { length products.now < 2 ^ 32 }
-    requires nonzero { (row : ℕ) → row < length products.now → slice_index_or products.now row F.zero ≢ F.zero }
-    ensures marked { IsMarked F.zero F.mul F.inv F.number table.now place products.now (length products.now) marks.new }
+    requires nonzero { (row : ℕ) → row < length products.now
+        → slice_index_or products.now row F.zero ≢ F.zero }
+    ensures marked { IsMarked F.zero F.mul F.inv F.number table.now place products.now
+        (length products.now) marks.new }
     ensures ticks { RoseBy (2 * length products.now) steps.old steps.new }
 {
     marks.fill(false);
@@ -123,7 +127,8 @@ fn allowed_number<F: Field, L: Ledger>(
     requires column { place < table.now.columns }
     requires marks { length products.now < length marks.old }
     requires few { length products.now < 2 ^ 32 }
-    requires nonzero { (row : ℕ) → row < length products.now → slice_index_or products.now row F.zero ≢ F.zero }
+    requires nonzero { (row : ℕ) → row < length products.now
+        → slice_index_or products.now row F.zero ≢ F.zero }
     ensures below { result ≤ length products.now }
     ensures allowed { (row : ℕ) → row < length products.now →
         F.number (forbidden_at F.zero F.mul F.inv table.now place products.now row) ≢ result }
@@ -138,7 +143,8 @@ impl<F: Field> Choosing<F> {
     // Coefficients that are all zero, with room for so many rows.
     fn start(alloc: Global, rows: u32, columns: u32) -> Result<Self, AllocError>
         ensures { IfOk result (λ it. (it.coefficients.items ≡ replicate columns F.zero)
-            × (it.products.items ≡ replicate rows F.zero) × (it.marks.items ≡ replicate rows false)) }
+            × (it.products.items ≡ replicate rows F.zero)
+            × (it.marks.items ≡ replicate rows false)) }
     {
         Ok(Choosing {
             coefficients: copies(alloc, columns, F::zero())?,
@@ -156,7 +162,8 @@ impl<F: Field> Choosing<F> {
         requires nonzero { entry_of F.zero table.now row place ≢ F.zero }
         requires before { IsChoosing F.is_element F.zero F.add F.mul table.now row
             self.old.coefficients.items self.old.products.items self.old.marks.items }
-        requires is_zero { dot_of F.zero F.add F.mul self.old.coefficients.items (row_of table.now row) ≡ F.zero }
+        requires is_zero { dot_of F.zero F.add F.mul self.old.coefficients.items
+            (row_of table.now row) ≡ F.zero }
         ensures after { IsChoosing F.is_element F.zero F.add F.mul table.now (row + 1)
             self.new.coefficients.items self.new.products.items self.new.marks.items }
         ensures ticks { RoseBy (table.now.columns + 3 * row) steps.old steps.new }
@@ -215,8 +222,10 @@ pub fn choose<F: Field, L: Ledger>(
     requires nonzero { HasNonzeroAt F.zero table.now preds.now }
     requires few { length table.now.rows ≤ F.SIZE }
     ensures kept { IsMatrix F.is_element table.now }
-    ensures choice { IfOk result (λ choice. IsChoice F.is_element F.zero F.add F.mul table.now choice.items) }
-    ensures ticks { RoseByAtMost (choice_steps (length table.now.rows) table.now.columns) steps.old steps.new }
+    ensures choice { IfOk result
+        (λ choice. IsChoice F.is_element F.zero F.add F.mul table.now choice.items) }
+    ensures ticks { RoseByAtMost
+        (choice_steps (length table.now.rows) table.now.columns) steps.old steps.new }
 {
     let mut choosing = Choosing::start(alloc, table.rows(), table.columns())?;
     for row in 0..table.rows() {

@@ -5,16 +5,14 @@ use Rattle.std.proofs.Common.{sym, ◌∙◌, ap, subst, get_or, inl, inr, arith
 use Rattle.std.proofs.lemmas.List.FromFn.{length-range_with_len}
 use Rattle.std.proofs.lemmas.List.Sums.{count_by-le-length, length-filter}
 use Rattle.std.proofs.lemmas.Option.{slice_get_cases, slice_get_within}
-use Rattle.net_model.specs.Demands.{demand_count}
 use Rattle.net_model.proofs.FlowLaws.{IsGreatestFlow-from_crossing, IsLeastCut-same_size, crossing-below}
 use Rattle.net_model.specs.Flows.{FlowNetwork, IsGreatestFlow, IsLeastCut, crossing, flow_network, leaves}
 use Rattle.net_model.proofs.WalkLaws.{IsWalk-below}
 use Rattle.net_model.specs.declared.Demand.{Demand}
 use Rattle.net_model.specs.declared.net.Net.{Net}
-use Rattle.failure_patterns.proofs.DemandLaws.{pattern_place_within, sink_place_within}
 use Rattle.failure_patterns.specs.Demands.{demand_of}
 use Rattle.failure_patterns.specs.Rate.{HasLeastCut, IsRate}
-use Rattle.cut_witness.specs.Certificate.{AreCertificates, AreCertificatesFrom, IsCertificate, IsDemand, IsLeastValue}
+use Rattle.cut_witness.specs.Certificate.{AreCertificates, AreCertificatesFrom, IsCertificate, IsLeastValue}
 use Rattle.cut_witness.specs.declared.cert.Cert.{Cert}
 
 -- no more links leave a side than there are

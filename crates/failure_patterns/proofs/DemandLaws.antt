@@ -1,14 +1,14 @@
 -- What holds of the demands of a network.
-use Rattle.std.specs.Prelude.{◌≡◌, ◌≢◌, ℕ, ◌+◌, ◌*◌, ◌/◌, ◌^◌, ◌<◌, ◌≤◌, true, nat_lt, List, [], ◌∷◌, length, slice_index}
+use Rattle.std.specs.Prelude.{◌≡◌, ℕ, ◌+◌, ◌*◌, ◌/◌, ◌^◌, ◌<◌, ◌≤◌, true, nat_lt, List, [], ◌∷◌, length, slice_index}
 use Rattle.std.proofs.Common.{arith, refl}
 use Rattle.std.proofs.Math.Nat.{div-lt_iff_lt-mul, mod-lt, mul-le-mul}
 use Rattle.std.proofs.lemmas.Nat.{div-mul-add, mod-mul-add}
-use Rattle.std.proofs.lemmas.Bool.{and_parts, eqb-false, ltb-true, not-true}
+use Rattle.std.proofs.lemmas.Bool.{and_parts}
+use Rattle.list_laws.proofs.Tests.{list_all-implied}
 use Rattle.net_model.specs.Demands.{demand_count, pattern_of_demand, sink_of_demand, sinks_of_demands}
-use Rattle.net_model.proofs.ListLaws.{length-are_distinct, list_all-implied}
+use Rattle.net_model.proofs.ListLaws.{length-are_distinct}
 use Rattle.net_model.specs.Limits.{most_nodes, most_patterns}
 use Rattle.net_model.specs.Network.{are_patterns, is_sink_among}
-use Rattle.net_model.proofs.NetworkLaws.{passes_at}
 use Rattle.net_model.specs.declared.Demand.{Demand}
 use Rattle.net_model.specs.declared.Pattern.{Pattern}
 use Rattle.net_model.specs.declared.net.Net.{Net}

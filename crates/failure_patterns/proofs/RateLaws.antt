@@ -1,6 +1,7 @@
 -- What follows of the rate of a network, and of the first demand with a size.
-use Rattle.std.specs.Prelude.{◌≡◌, ◌<◌, ◌≤◌, ℕ}
+use Rattle.std.specs.Prelude.{◌≡◌, ◌≤◌, ℕ}
 use Rattle.std.proofs.Common.{sym, ◌∙◌, subst, arith}
+use Rattle.list_laws.proofs.Numbers.{neither_below}
 use Rattle.net_model.proofs.FlowLaws.{IsLeastCut-same_size}
 use Rattle.net_model.specs.Flows.{flow_network}
 use Rattle.net_model.specs.declared.net.Net.{Net}
@@ -19,12 +20,9 @@ pub HasLeastCut-unique : (net : Net) (number size other : ℕ) → HasLeastCut n
 HasLeastCut-unique net number size other one two =
     sym one.2 ∙ IsLeastCut-same_size (flow_network net (demand_of net number)) one.0 two.0 one.1 two.1 ∙ two.2
 
-not_apart : (a b : ℕ) → ¬ (a < b) → ¬ (b < a) → a ≡ b
-not_apart a b h k = omega arith
-
 -- there is one first demand with a size of which this holds, and one such size
 pub IsFirstWith-unique : (net : Net) (P : ℕ → Type 0) (demand size demand' size' : ℕ) → IsFirstWith net P demand size → IsFirstWith net P demand' size' → (demand ≡ demand') × (size ≡ size')
 IsFirstWith-unique net P demand size demand' size' one two =
-    let same = not_apart demand demand' (λ before. two.first demand size before one.has one.holds) (λ before. one.first demand' size' before two.has two.holds) in
+    let same = neither_below demand demand' (λ before. two.first demand size before one.has one.holds) (λ before. one.first demand' size' before two.has two.holds) in
     let here : HasLeastCut net demand size' = subst (λ number. HasLeastCut net number size') (sym same) two.has in
     (same, HasLeastCut-unique net demand size size' one.has here)

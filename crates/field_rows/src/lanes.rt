@@ -22,7 +22,8 @@ impl LaneTables {
     #[inline(always)]
     pub(crate) fn look_up(&self, bytes: u8x64) -> u8x64
         ensures count { length result ≡ 64 }
-        ensures lanes { (i : ℕ) → i < 64 → slice_index result i ≡ by_lane self.now.low self.now.high i (slice_index bytes i) }
+        ensures lanes { (i : ℕ) → i < 64
+            → slice_index result i ≡ by_lane self.now.low self.now.high i (slice_index bytes i) }
     {
         self.low.swizzle_dyn_within::<16>(bytes & u8x64::splat(15))
             ^ self.high.swizzle_dyn_within::<16>(bytes >> u8x64::splat(4))
@@ -61,7 +62,8 @@ pub(crate) fn twice_each(lower: &[u8; 16], upper: &[u8; 16]) -> u8x64
 #[inline(always)]
 pub(crate) fn parted(from: &[u8], at: usize) -> u8x64
     requires { at + 64 ≤ length from.now }
-    ensures { (i : ℕ) → i < 64 → slice_index result i ≡ slice_index from.now (at + place_of_lane i) }
+    ensures { (i : ℕ) → i < 64
+        → slice_index result i ≡ slice_index from.now (at + place_of_lane i) }
 {
     u8x64::from_slice(&from[at..]).swizzle([
         0, 2, 4, 6, 8, 10, 12, 14, 32, 34, 36, 38, 40, 42, 44, 46, 16, 18, 20, 22, 24, 26, 28, 30,

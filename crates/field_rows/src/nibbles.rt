@@ -24,7 +24,8 @@ impl<T: Generates> Model for NibbleTables<T> {
 
     ghost view = { λ t. t.multiplier };
 
-    ghost invariant = { λ t. AreProducts T.POLY t.multiplier 1 t.low × AreProducts T.POLY t.multiplier 16 t.high };
+    ghost invariant = { λ t. AreProducts T.POLY t.multiplier 1 t.low
+        × AreProducts T.POLY t.multiplier 16 t.high };
 }
 
 impl<T: Generates> NibbleTables<T> {
@@ -49,8 +50,10 @@ impl<T: Generates> NibbleTables<T> {
     /// The tables for the lower half of the lanes, and those of another element for the upper half.
     #[inline(always)]
     pub(crate) fn lanes(&self, upper: &Self) -> LaneTables
-        ensures lower { (i byte : ℕ) → i < 32 → byte < 256 → by_lane result.low result.high i byte ≡ octet_product T.POLY self.now byte }
-        ensures upper { (i byte : ℕ) → 32 ≤ i → i < 64 → byte < 256 → by_lane result.low result.high i byte ≡ octet_product T.POLY upper.now byte }
+        ensures lower { (i byte : ℕ) → i < 32 → byte < 256
+            → by_lane result.low result.high i byte ≡ octet_product T.POLY self.now byte }
+        ensures upper { (i byte : ℕ) → 32 ≤ i → i < 64 → byte < 256
+            → by_lane result.low result.high i byte ≡ octet_product T.POLY upper.now byte }
     {
         LaneTables {
             low: twice_each(&self.low, &upper.low),

@@ -29,7 +29,8 @@ impl PairTables<'_> {
     pub(crate) fn add_scaled(&self, into: &mut [u8], from: &[u8])
         requires same_length { length into.old ≡ length from.now }
         requires whole { length from.now % 2 ≡ 0 }
-        ensures { IsAddedBelow (pair_sum_of self.now.low.now self.now.high.now from.now) (length from.now) into.old into.new }
+        ensures { IsAddedBelow (pair_sum_of self.now.low.now self.now.high.now from.now)
+            (length from.now) into.old into.new }
     {
         let straight = self.both.lanes(self.low);
         let crosswise = self.high.lanes(self.wrapped);

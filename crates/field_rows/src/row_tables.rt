@@ -17,7 +17,8 @@ const PAIR_CONSTANT: u8 = 0x20;
 #[derive(Drop)]
 pub struct RowTables {
     tables: [NibbleTables<Poly11D>; 256],
-    ghost each_its_own: { (octet none : ℕ) → octet < 256 → slice_index_or tables octet none ≡ octet },
+    ghost each_its_own: { (octet none : ℕ) → octet < 256
+        → slice_index_or tables octet none ≡ octet },
 }
 
 impl RowTables {
@@ -62,7 +63,9 @@ impl RowTables {
         requires whole { length from.now % bytes_of_element field ≡ 0 }
         requires element { by < size_of field }
         ensures count { length into.new ≡ length into.old }
-        ensures sum { elements_of field into.new ≡ add_rows (elements_of field into.old) (scale_row field by (elements_of field from.now)) }
+        ensures sum { elements_of field into.new
+            ≡ add_rows (elements_of field into.old)
+            (scale_row field by (elements_of field from.now)) }
     {
         match field {
             FieldKind::Eight => self.of_octet(by as u8).add_scaled(into, from),

@@ -1,14 +1,14 @@
 -- Laws of entries cut into rows.
 use Rattle.std.proofs.Common.{◌≡◌, ℕ, zero, suc, ◌+◌, ◌*◌, ◌-◌, ◌<◌, ◌≤◌, List, [], ◌∷◌, ◌++◌, length, get_or, set, take, drop, replicate, refl, sym, ap, ◌∙◌, arith, suc-mul}
-use Rattle.std.proofs.Math.Nat.{mul-le-mul_right, zero-mul}
+use Rattle.std.proofs.Math.Nat.{zero-mul}
 use Rattle.std.proofs.Math.Path.{ap₂}
 use Rattle.std.proofs.Math.Seq.{take-set-lt}
 use Rattle.std.proofs.lemmas.List.{length-append, length-take-le, length-drop, get_or-take, get_or-drop, take_at, drop_at, take-set-le, drop-set-lt, drop-set-add, drop-drop, take-append-drop, take-replicate, drop-replicate}
 use Rattle.std.proofs.lemmas.List.Elements.{All-take, All-drop, All-nil, All-cons, All-append}
 use Rattle.std.specs.List.{All}
+use Rattle.list_laws.proofs.Places.{row_end}
 use Rattle.field_vectors.specs.Cut.{cut, grid_in, AreEntries, with_part}
 use Rattle.field_vectors.specs.Grid.{IsMatrix}
-use Rattle.linear_algebra.proofs.EntryLaws.{row_end, place_within}
 
 -- how many rows there are
 pub length-cut : {A : Type 0} (count width : ℕ) (entries : List A) → length (cut count width entries) ≡ count

@@ -3,16 +3,11 @@ use Rattle.std.specs.Prelude.{◌≡◌, ℕ, ◌<◌, List, [], map, length, ge
 use Rattle.std.proofs.Common.{arith, ap, ◌∙◌}
 use Rattle.std.specs.List.{range_with_len}
 use Rattle.std.proofs.lemmas.List.{length-map, get_or-map}
-use Rattle.std.proofs.lemmas.List.FromFn.{length-map-range_with_len, get_or-map-range_with_len, fill_by_all}
+use Rattle.std.proofs.lemmas.List.FromFn.{fill_by_all}
+use Rattle.list_laws.proofs.Maps.{same_made}
 use Rattle.field_vectors.specs.Difference.{product_entry, identity_entry}
 use Rattle.field_vectors.specs.Elements.{dot_of, column_of, row_product, product_of, unit_of, identity_of}
 use Rattle.field_vectors.specs.Grid.{Grid, row_of}
-
--- two lists made from functions of the place that agree below the length
-pub same_made : {X : Type 0} (f g : ℕ → X) (n : ℕ) (d : X) → ((j : ℕ) → j < n → f j ≡ g j) → map f (range_with_len 0 n) ≡ map g (range_with_len 0 n)
-same_made f g n d agree =
-    fill_by_all g (map f (range_with_len 0 n)) n d (length-map-range_with_len f 0 n)
-    (λ k below. get_or-map-range_with_len f 0 n k k d below (omega arith) ∙ agree k below)
 
 -- a product whose entries are those of the identity is the identity
 pub product_of-identity : {A : Type 0} (nought one : A) (add mul : A → A → A) (size : ℕ) (a b : Grid A) → length a.rows ≡ size → b.columns ≡ size

@@ -1,17 +1,17 @@
 -- The steps of loops that fill a matrix.
 use Rattle.std.proofs.Common.{◌≡◌, ℕ, zero, suc, ◌+◌, ◌-◌, ◌<◌, ◌≤◌, List, [], ◌∷◌, ◌++◌, length, get_or, set, drop, replicate, arith, ap, ◌∙◌, sym, inl, inr, refl}
 use Rattle.std.proofs.lemmas.Bool.{cases_eq}
-use Rattle.std.proofs.lemmas.List.{length-set, set-set, set-get_or, get_or-set_same, get_or-set_other, set-append_right, drop-replicate, length-replicate, get_or-replicate}
+use Rattle.std.proofs.lemmas.List.{length-set, set-set, get_or-set_same, get_or-set_other, set-append_right, drop-replicate, length-replicate, get_or-replicate}
 use Rattle.std.proofs.lemmas.List.FromFn.{fill_by_all}
 use Rattle.field_vectors.proofs.RowSteps.{joined_below, joined_below-more}
 use Rattle.field_vectors.specs.Difference.{identity_entry}
 use Rattle.field_vectors.proofs.DotOfLaws.{identity_entry-on, identity_entry-off}
 use Rattle.field_vectors.specs.Elements.{unit_of}
-use Rattle.field_vectors.proofs.GridLaws.{row_of-with_row, row_of-with_other}
+use Rattle.field_vectors.proofs.GridLaws.{row_of-with_row}
 use Rattle.field_vectors.specs.Grid.{Grid, row_of, with_row}
 
 -- zeros with one among them are a unit row
-zeros-set : {A : Type 0} (nought one : A) (n i : ℕ) → i < n → set (replicate n nought) i one ≡ unit_of nought one n i
+pub zeros-set : {A : Type 0} (nought one : A) (n i : ℕ) → i < n → set (replicate n nought) i one ≡ unit_of nought one n i
 zeros-set nought one n i below =
     let inside : i < length (replicate n nought) = omega (arith, length-replicate n nought) in
     fill_by_all (identity_entry nought one i) (set (replicate n nought) i one) n nought (length-set (replicate n nought) i one ∙ length-replicate n nought)

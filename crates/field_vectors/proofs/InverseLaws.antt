@@ -43,7 +43,7 @@ reduced-row {nought = nought} {one = one} m k i h reduced below wide =
 
 module _ {A : Type 0} {P : A → Type 0} {nought one : A} {add mul : A → A → A} {inv : A → A} (F : IsField P nought one add mul inv) where
   -- the product of unit rows
-  unit_of-unit_of : (n i j : ℕ) → i < n → dot_of nought add mul (unit_of nought one n i) (unit_of nought one n j) ≡ identity_entry nought one i j
+  pub unit_of-unit_of : (n i j : ℕ) → i < n → dot_of nought add mul (unit_of nought one n i) (unit_of nought one n j) ≡ identity_entry nought one i j
   unit_of-unit_of n i j below =
       unit_of-dot_of F (unit_of nought one n j) n i (unit_of-elements F n j) below ∙ get_or-unit_of nought one n j i below ∙ identity_entry-comm nought one j i
 

@@ -107,7 +107,8 @@ fn reduce<F: Field, L: Ledger>(work: &mut Matrix<F>, steps: &mut Steps<L>) -> Op
     ensures step { IsStep F.is_element F.zero F.add F.mul work.old work.new }
     ensures none { IfNone result (IsReduced F.zero F.one work.new (length work.new.rows)) }
     ensures some { IfSome result (λ k.
-        (k < length work.new.rows) × IsReduced F.zero F.one work.new k × IsStuck F.zero work.new k) }
+        (k < length work.new.rows) × IsReduced F.zero F.one work.new k
+        × IsStuck F.zero work.new k) }
 {
     for k in 0..work.rows() {
         if !reduce_column(work, k, steps) {
@@ -171,7 +172,8 @@ fn right_half<F: Field>(alloc: Global, work: &Matrix<F>) -> Result<Matrix<F>, Al
 fn column_above<F: Field>(alloc: Global, work: &Matrix<F>, k: u32) -> Result<Vec<F>, AllocError>
     requires row { k < length work.now.rows }
     requires column { k < work.now.columns }
-    ensures { IfOk result (λ v. v.items ≡ map (λ i. entry_of F.zero work.now i k) (range_with_len 0 k)) }
+    ensures { IfOk result
+        (λ v. v.items ≡ map (λ i. entry_of F.zero work.now i k) (range_with_len 0 k)) }
 {
     let mut items = Vec::new(alloc);
     for i in 0..k {

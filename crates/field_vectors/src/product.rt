@@ -89,10 +89,12 @@ pub fn is_identity_product<F: Field, L: Ledger>(
     requires same_rows { length b.now.rows ≡ length a.now.rows }
     requires same_columns { b.now.columns ≡ length a.now.rows }
     ensures ok { let size = length a.now.rows in
-        OnOk result (product_of F.zero F.add F.mul size a.now.rows b.now.rows ≡ identity_of F.zero F.one size) }
+        OnOk result (product_of F.zero F.add F.mul size a.now.rows b.now.rows
+        ≡ identity_of F.zero F.one size) }
     ensures err { IfErr result (λ e.
         IsFirstDifference F.zero F.one F.add F.mul a.now b.now e.row e.column e.found) }
-    ensures ticks { RoseByAtMost (length a.now.rows * (b.now.columns * a.now.columns)) steps.old steps.new }
+    ensures ticks { RoseByAtMost
+        (length a.now.rows * (b.now.columns * a.now.columns)) steps.old steps.new }
 {
     for i in 0..a.rows() {
         if let Some(entry) = difference_in_row(a, b, i, steps) {

@@ -7,6 +7,17 @@ use Rattle.std.specs.Int.{to_be_bytes, from_be_bytes, w32}
 abbrev pub row_bytes : ℕ
 row_bytes = 1024
 
+-- the pieces of a row, and their bytes
+abbrev pub pieces : ℕ
+pieces = 8
+
+abbrev pub piece_bytes : ℕ
+piece_bytes = 128
+
+-- a piece of a row
+abbrev pub piece_of_row : List ℕ → ℕ → List ℕ
+piece_of_row row piece = take piece_bytes (drop (piece * piece_bytes) row)
+
 -- the most rows of a block
 abbrev pub most_rows : ℕ
 most_rows = 32

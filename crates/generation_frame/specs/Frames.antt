@@ -1,7 +1,9 @@
 -- Frames of packets: a mark of three bytes, the piece's number, four bytes of the link, four of the generation, and
 -- the piece.
-use Rattle.std.specs.Prelude.{ℕ, ◌<◌, ◌^◌, ◌==◌, ◌&&◌, if◌then◌else◌, nat_lt, Bool, List, [], ◌∷◌, ◌++◌, take, drop, slice_index, Result, Ok, Err}
+use Rattle.std.specs.Prelude.{ℕ, ◌<◌, ◌^◌, ◌==◌, ◌&&◌, if◌then◌else◌, nat_lt, Bool, true, false, List, [], ◌∷◌, ◌++◌, take, drop, slice_index, Result, Ok, Err}
 use Rattle.std.specs.Int.{to_be_bytes, from_be_bytes, w32}
+use Rattle.generation_frame.specs.declared.frame.Accepted.{Accepted}
+use Rattle.generation_frame.specs.declared.frame.Accepted.TheVariants.{Known, New}
 use Rattle.generation_frame.specs.declared.frame.Packet.{Packet}
 use Rattle.generation_frame.specs.declared.frame.FrameRefusal.{FrameRefusal}
 use Rattle.generation_frame.specs.declared.frame.FrameRefusal.TheVariants.{BadMark, BadPiece}
@@ -43,3 +45,8 @@ frame_read frame =
     if is_marked frame
     then (if nat_lt 7 (slice_index frame 3) then Err BadPiece else Ok (packet_in frame))
     else Err BadMark
+
+-- what is answered of a packet, by whether its piece is held already
+abbrev pub accepted : Bool → Accepted
+accepted true = Known
+accepted false = New

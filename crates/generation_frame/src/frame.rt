@@ -6,7 +6,10 @@ ghost use Rattle.generation_frame.specs.Frames.{frame_of, frame_read, is_marked,
 use byteorder::{BigEndian, ByteOrder};
 use thiserror::Error;
 
-/// The bytes of a piece: a row has eight.
+/// The pieces of a row.
+pub const PIECES: usize = 8;
+
+/// The bytes of a piece.
 pub const PIECE: usize = 128;
 
 /// The bytes of a frame: a mark of 3, the piece's number, 4 of the link, 4 of the generation, and the piece.
@@ -37,6 +40,15 @@ pub enum FrameRefusal {
     /// The number of the piece is above 7.
     #[error("the number of the piece is above 7")]
     BadPiece,
+}
+
+/// What becomes of a packet that a node or a sink takes in.
+#[derive(Clone, Copy, Debug, PartialEq, Eq)]
+pub enum Accepted {
+    /// The piece is held already, and nothing changes.
+    Known,
+    /// The piece is held from now on.
+    New,
 }
 
 /// The frame of a packet.

@@ -52,7 +52,8 @@ impl Joiner {
     pub fn join(&mut self, block: &[u8]) -> Joined
         requires { length block.now ≡ self.old.rate * 1024 }
         ensures value { result ≡ joined self.old block.now }
-        ensures after { self.new ≡ record { rate = self.old.rate; ended = ends self.old block.now } }
+        ensures after { self.new
+            ≡ record { rate = self.old.rate; ended = ends self.old block.now } }
     {
         if self.ended {
             return Joined::Ended;

@@ -9,7 +9,7 @@ mod joiner;
 
 use byteorder::{BigEndian, ByteOrder};
 use frame::number_in;
-pub use frame::{FRAME, FrameRefusal, PIECE, Packet, frame_of, read_frame};
+pub use frame::{Accepted, FRAME, FrameRefusal, PIECE, PIECES, Packet, frame_of, read_frame};
 pub use joiner::{Joined, Joiner};
 
 /// The bytes of a row.

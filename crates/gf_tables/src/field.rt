@@ -94,23 +94,29 @@ pub trait Field: Copy + Eq {
     /// this one.
     ghost numbering: { IsNumbering is_element zero one add mul number of_number SIZE product };
 
-    ghost number_below: { (x : Self) → is_element x → number x < SIZE } = { numbering.number_below };
+    ghost number_below: { (x : Self) → is_element x
+        → number x < SIZE } = { numbering.number_below };
 
-    ghost element_of_number: { (n : ℕ) → n < SIZE → is_element (of_number n) } = { numbering.element_of_number };
+    ghost element_of_number: { (n : ℕ) → n < SIZE
+        → is_element (of_number n) } = { numbering.element_of_number };
 
-    ghost number_of_number: { (n : ℕ) → n < SIZE → number (of_number n) ≡ n } = { numbering.number_of_number };
+    ghost number_of_number: { (n : ℕ) → n < SIZE
+        → number (of_number n) ≡ n } = { numbering.number_of_number };
 
-    ghost of_number_number: { (x : Self) → is_element x → of_number (number x) ≡ x } = { numbering.of_number_number };
+    ghost of_number_number: { (x : Self) → is_element x
+        → of_number (number x) ≡ x } = { numbering.of_number_number };
 
     ghost number_zero: { number zero ≡ 0 } = { numbering.number_zero };
 
     ghost number_one: { number one ≡ 1 } = { numbering.number_one };
 
     /// The number of a sum is the exclusive or of the numbers.
-    ghost number_add: { (x y : Self) → is_element x → is_element y → number (add x y) ≡ bit_xor (number x) (number y) } = { numbering.number_add };
+    ghost number_add: { (x y : Self) → is_element x → is_element y
+        → number (add x y) ≡ bit_xor (number x) (number y) } = { numbering.number_add };
 
     /// The number of a product is the product of the numbers.
-    ghost number_mul: { (x y : Self) → is_element x → is_element y → number (mul x y) ≡ product (number x) (number y) } = { numbering.number_mul };
+    ghost number_mul: { (x y : Self) → is_element x → is_element y
+        → number (mul x y) ≡ product (number x) (number y) } = { numbering.number_mul };
 
     /// The elements are a field. Each law below, up to `mul_inv`, is a part of this one.
     ghost field: { IsField is_element zero one add mul inv };
@@ -119,33 +125,44 @@ pub trait Field: Copy + Eq {
 
     ghost one_element: { is_element one } = { field.one_element };
 
-    ghost add_element: { (x y : Self) → is_element x → is_element y → is_element (add x y) } = { field.add_element };
+    ghost add_element: { (x y : Self) → is_element x → is_element y
+        → is_element (add x y) } = { field.add_element };
 
-    ghost mul_element: { (x y : Self) → is_element x → is_element y → is_element (mul x y) } = { field.mul_element };
+    ghost mul_element: { (x y : Self) → is_element x → is_element y
+        → is_element (mul x y) } = { field.mul_element };
 
-    ghost inv_element: { (x : Self) → is_element x → x ≢ zero → is_element (inv x) } = { field.inv_element };
+    ghost inv_element: { (x : Self) → is_element x → x ≢ zero
+        → is_element (inv x) } = { field.inv_element };
 
-    ghost add_comm: { (x y : Self) → is_element x → is_element y → add x y ≡ add y x } = { field.add_comm };
+    ghost add_comm: { (x y : Self) → is_element x → is_element y
+        → add x y ≡ add y x } = { field.add_comm };
 
-    ghost add_assoc: { (x y z : Self) → is_element x → is_element y → is_element z → add (add x y) z ≡ add x (add y z) } = { field.add_assoc };
+    ghost add_assoc: { (x y z : Self) → is_element x → is_element y → is_element z
+        → add (add x y) z ≡ add x (add y z) } = { field.add_assoc };
 
     ghost zero_add: { (x : Self) → is_element x → add zero x ≡ x } = { field.zero_add };
 
     /// Each element is its own opposite.
     ghost add_self: { (x : Self) → is_element x → add x x ≡ zero } = { field.add_self };
 
-    ghost mul_comm: { (x y : Self) → is_element x → is_element y → mul x y ≡ mul y x } = { field.mul_comm };
+    ghost mul_comm: { (x y : Self) → is_element x → is_element y
+        → mul x y ≡ mul y x } = { field.mul_comm };
 
-    ghost mul_assoc: { (x y z : Self) → is_element x → is_element y → is_element z → mul (mul x y) z ≡ mul x (mul y z) } = { field.mul_assoc };
+    ghost mul_assoc: { (x y z : Self) → is_element x → is_element y → is_element z
+        → mul (mul x y) z ≡ mul x (mul y z) } = { field.mul_assoc };
 
     ghost one_mul: { (x : Self) → is_element x → mul one x ≡ x } = { field.one_mul };
 
-    ghost mul_add: { (x y z : Self) → is_element x → is_element y → is_element z → mul x (add y z) ≡ add (mul x y) (mul x z) } = { field.mul_add };
+    ghost mul_add: { (x y z : Self) → is_element x → is_element y → is_element z
+        → mul x (add y z) ≡ add (mul x y) (mul x z) } = { field.mul_add };
 
-    ghost mul_nonzero: { (x y : Self) → is_element x → is_element y → x ≢ zero → y ≢ zero → mul x y ≢ zero } = { field.mul_nonzero };
+    ghost mul_nonzero: { (x y : Self) → is_element x → is_element y → x ≢ zero → y ≢ zero
+        → mul x y ≢ zero } = { field.mul_nonzero };
 
-    ghost mul_inv: { (x : Self) → is_element x → x ≢ zero → mul x (inv x) ≡ one } = { field.mul_inv };
+    ghost mul_inv: { (x : Self) → is_element x → x ≢ zero
+        → mul x (inv x) ≡ one } = { field.mul_inv };
 
     /// The numbers of elements are a field too.
-    ghost numbers: { IsField (λ n. n < SIZE) 0 1 bit_xor product (λ n. number (inv (of_number n))) } = { number_field field numbering };
+    ghost numbers: { IsField (λ n. n < SIZE) 0 1 bit_xor product
+        (λ n. number (inv (of_number n))) } = { number_field field numbering };
 }

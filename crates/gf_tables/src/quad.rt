@@ -40,7 +40,8 @@ pub trait NoRoot: Field {
     ghost pair_mark: { PAIR_MARK ≡ 2 * Self.MARK };
 
     /// t*t + t + C is never zero.
-    ghost no_root: { (t : Self) → Self.is_element t → Self.add (Self.add (Self.mul t t) t) (Self.of_number C) ≢ Self.zero };
+    ghost no_root: { (t : Self) → Self.is_element t
+        → Self.add (Self.add (Self.mul t t) t) (Self.of_number C) ≢ Self.zero };
 }
 
 /// The element `low + high*y`, where `y*y = y + C`.
@@ -138,9 +139,11 @@ impl<F: NoRoot> Field for Quad<F> {
 
     ghost equal = { equal_pairs F.eq F.equal };
 
-    ghost numbering = { pairs_numbering F.field F.numbering (is_256 F.sizes F.small) F.pair_size F.constant };
+    ghost numbering = { pairs_numbering F.field F.numbering
+        (is_256 F.sizes F.small) F.pair_size F.constant };
 
-    ghost field = { pair_field F.field F.eq F.equal (F.element_of_number F.C F.constant) F.no_root };
+    ghost field = { pair_field F.field F.eq F.equal
+        (F.element_of_number F.C F.constant) F.no_root };
 }
 
 impl<F: NoRoot> Quad<F> {

@@ -6,11 +6,9 @@ ghost use Rattle.std.specs.Prelude.{◌≡◌, ◌<◌, ◌≤◌, ◌*◌, ◌+
 #[cfg(test)]
 mod tests;
 
+use generation_frame::{Accepted, PIECES};
 use std::alloc::{AllocError, Global};
 use std::marker::Model;
-
-/// The pieces of a row.
-const PIECES: usize = 8;
 
 /// Rows, as far as their pieces have come.
 #[derive(Drop)]
@@ -30,6 +28,8 @@ impl Model for HeldRows {
 }
 
 impl HeldRows {
+    ghost use Rattle.generation_frame.specs.Blocks.{row_bytes};
+    ghost use Rattle.generation_frame.specs.Frames.{accepted};
     ghost use Rattle.held_rows.specs.Held.{row_count, is_held, is_whole, payload_of, row_of, HoldsNone, Holds};
 
     /// So many rows, of which no piece has come.
@@ -61,22 +61,22 @@ impl HeldRows {
         self.marks[row as usize * PIECES + piece as usize]
     }
 
-    /// Keeps a piece of a row, if it hasn't come before, and says whether it is new.
-    pub fn hold(&mut self, row: u32, piece: u8, payload: &[u8; 128]) -> bool
+    /// Keeps a piece of a row, if it hasn't come before.
+    pub fn hold(&mut self, row: u32, piece: u8, payload: &[u8; 128]) -> Accepted
         requires row { row < row_count self.old }
         requires piece { piece < 8 }
-        ensures value { result ≡ not (is_held self.old row piece) }
-        ensures new { result ≡ true → Holds row piece payload.now self.old self.new }
-        ensures known { result ≡ false → self.new ≡ self.old }
+        ensures value { result ≡ accepted (is_held self.old row piece) }
+        ensures new { result ≡ Accepted.New → Holds row piece payload.now self.old self.new }
+        ensures known { result ≡ Accepted.Known → self.new ≡ self.old }
         ensures count { row_count self.new ≡ row_count self.old }
     {
         let place = row as usize * PIECES + piece as usize;
         if self.marks[place] {
-            return false;
+            return Accepted::Known;
         }
         self.marks[place] = true;
         self.payloads[place] = *payload;
-        true
+        Accepted::New
     }
 
     /// The bytes of a piece of a row that has come.
@@ -100,7 +100,8 @@ impl HeldRows {
     /// The bytes of a row, piece after piece.
     pub fn row(&self, row: u32) -> &[u8]
         requires { row < row_count self.now }
-        ensures { result.now ≡ row_of self.now row }
+        ensures value { result.now ≡ row_of self.now row }
+        ensures length { length result.now ≡ row_bytes }
     {
         let first = row as usize * PIECES;
         self.payloads[first..first + PIECES].as_flattened()

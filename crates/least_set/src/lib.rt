@@ -76,7 +76,8 @@ impl LeastSet {
 
     /// Takes the least number away, if there is any.
     pub fn take_least(&mut self) -> Option<u32>
-        ensures least { IfSome result (λ number. IsLeast number self.old × Loses number self.old self.new) }
+        ensures least { IfSome result
+            (λ number. IsLeast number self.old × Loses number self.old self.new) }
         ensures none { IsNone result → HasNone self.old × (self.new ≡ self.old) }
     {
         if self.over_all == 0 {

@@ -25,11 +25,6 @@ pub none_stays : {X : Type 0} {old new : Option X} → old ≡ None → SameOrNo
 none_stays none (inl same) = same ∙ none
 none_stays none (inr is) = is
 
--- what holds, holds at an error
-pub at_err : {X E P : Type 0} (result : Result X E) → P → OnErr result P
-at_err (Ok value) p = tt
-at_err (Err why) p = p
-
 module _ {Y X S : Type 0} (old new : HashMap (String Y) X S) where
   -- the handles of other paths stay
   pub others_stay : (path : List ℕ) (handle : Option X) → UpdatesBy string_eq (λ k. bytes_eq path (string_bytes k)) old new handle

@@ -65,15 +65,18 @@ impl<'r, R: Files + AllocGlobal> Store for FileStore<'r, R> {
         requires { at ≤ 2 ^ 41 }
         ensures count { IfOk result (λ n. n ≤ length into.old) }
         ensures rest { IfOk result (λ n. drop n into.new ≡ drop n into.old) }
-        ensures call { calls_on_disk (read_event path.now at (length into.old) result into.new ∷ []) self.old self.new }
+        ensures call { calls_on_disk
+            (read_event path.now at (length into.old) result into.new ∷ []) self.old self.new }
 
         // What came was read from there in some file that was opened.
         ensures bytes { IfOk result (λ n. (opened : _) × (read : _)
-            × GivesFrom R.File.Seek R.File.Read at (length into.old) (take n into.new) opened read) }
+            × GivesFrom R.File.Seek R.File.Read at (length into.old)
+            (take n into.new) opened read) }
 
         // A fault is counted exactly where the read fails.
         ensures faults_ok { OnOk result (read_faults_of self.new ≡ read_faults_of self.old) }
-        ensures faults_err { OnErr result (read_faults_of self.new ≡ one_more (read_faults_of self.old)) }
+        ensures faults_err { OnErr result
+            (read_faults_of self.new ≡ one_more (read_faults_of self.old)) }
         ensures writes { write_faults_of self.new ≡ write_faults_of self.old }
     {
         let outcome = read_at(self.rt, &mut self.kept, path, at, into);
@@ -88,7 +91,8 @@ impl<'r, R: Files + AllocGlobal> Store for FileStore<'r, R> {
 
         // A fault is counted exactly where the create fails.
         ensures faults_ok { OnOk result (write_faults_of self.new ≡ write_faults_of self.old) }
-        ensures faults_err { OnErr result (write_faults_of self.new ≡ one_more (write_faults_of self.old)) }
+        ensures faults_err { OnErr result
+            (write_faults_of self.new ≡ one_more (write_faults_of self.old)) }
         ensures reads { read_faults_of self.new ≡ read_faults_of self.old }
     {
         let outcome = create_empty(self.rt, &mut self.kept, path);
@@ -97,14 +101,17 @@ impl<'r, R: Files + AllocGlobal> Store for FileStore<'r, R> {
 
     fn append(&mut self, path: &str, bytes: &[u8]) -> Result<(), Failed>
         requires { any_path self.old path.now }
-        ensures call { calls_on_disk (append_event path.now bytes.now result ∷ []) self.old self.new }
+        ensures call { calls_on_disk
+            (append_event path.now bytes.now result ∷ []) self.old self.new }
 
         // All bytes went to the file that is kept of the path, or to one that was opened for want of it.
-        ensures gains { OnOk result (GainsOrOpens path.now R.File.contents bytes.now (kept_of self.old) (kept_of self.new)) }
+        ensures gains { OnOk result (GainsOrOpens path.now R.File.contents bytes.now
+            (kept_of self.old) (kept_of self.new)) }
 
         // A fault is counted exactly where the append fails.
         ensures faults_ok { OnOk result (write_faults_of self.new ≡ write_faults_of self.old) }
-        ensures faults_err { OnErr result (write_faults_of self.new ≡ one_more (write_faults_of self.old)) }
+        ensures faults_err { OnErr result
+            (write_faults_of self.new ≡ one_more (write_faults_of self.old)) }
         ensures reads { read_faults_of self.new ≡ read_faults_of self.old }
     {
         let outcome = append_to(self.rt, &mut self.kept, path, bytes);
@@ -140,9 +147,11 @@ impl<'r> Store for DiskStore<'r> {
 
     ghost calls = { disk_calls };
 
-    ghost no_calls = { accounts_none disk_no_files disk_read_faults disk_write_faults disk_any_path };
+    ghost no_calls = { accounts_none disk_no_files
+        disk_read_faults disk_write_faults disk_any_path };
 
-    ghost more_calls = { accounts_then disk_no_files disk_read_faults disk_write_faults disk_any_path };
+    ghost more_calls = { accounts_then disk_no_files
+        disk_read_faults disk_write_faults disk_any_path };
 
     ghost accounts = { λ _ _ _ h. h };
 

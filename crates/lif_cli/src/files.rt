@@ -101,7 +101,8 @@ pub fn append_to<R: Files + AllocGlobal>(
     path: &str,
     bytes: &[u8],
 ) -> io::Result<()>
-    ensures gains { OnOk result (GainsOrOpens path.now R.File.contents bytes.now kept.old kept.new) }
+    ensures gains { OnOk result
+        (GainsOrOpens path.now R.File.contents bytes.now kept.old kept.new) }
     ensures closes { OnErr result (handle_of kept.new path.now ≡ None) }
 {
     if let Some(outcome) = kept.append(path, bytes) {

@@ -58,7 +58,8 @@ impl<F: Drop> KeptFiles<F> {
     /// closed.
     pub fn keep(&mut self, alloc: Global, path: &str, file: F)
         requires { handle_of self.old path.now ≡ None }
-        ensures kept { (handle_of self.new path.now ≡ Some file) ⊎ (handle_of self.new path.now ≡ None) }
+        ensures kept { (handle_of self.new path.now ≡ Some file)
+            ⊎ (handle_of self.new path.now ≡ None) }
         ensures others { OnlyClosesOthers path.now self.old self.new }
     {
         self.make_room();
@@ -77,7 +78,8 @@ impl<F: Write + Drop> KeptFiles<F> {
         ensures still { IfNone result (handle_of self.new path.now ≡ None) }
         ensures gains { IfSome result (λ outcome.
             OnOk outcome (Gains path.now F.contents bytes.now self.old self.new)) }
-        ensures closes { IfSome result (λ outcome. OnErr outcome (handle_of self.new path.now ≡ None)) }
+        ensures closes { IfSome result
+            (λ outcome. OnErr outcome (handle_of self.new path.now ≡ None)) }
         ensures others { KeepsOthers path.now self.old self.new }
     {
         let file = self.files.get_mut(path)?;

@@ -43,7 +43,8 @@ fn read_once<F: Read>(file: &mut F, into: &mut [u8]) -> io::Result<usize>
 fn read_piece<F: Read>(file: &mut F, into: &mut [u8]) -> io::Result<usize>
     ensures count { IfOk result (λ n. n ≤ length into.old) }
     ensures rest { IfOk result (λ n. drop n into.new ≡ drop n into.old) }
-    ensures bytes { IfOk result (λ n. Consumes (F.remaining file.old) (F.remaining file.new) (take n into.new)) }
+    ensures bytes { IfOk result
+        (λ n. Consumes (F.remaining file.old) (F.remaining file.new) (take n into.new)) }
     ensures end { IfOk result (λ n. n ≡ 0 → 0 < length into.old → IsAtEnd (F.remaining file.new)) }
 {
     let mut piece = [0; PIECE];
@@ -57,7 +58,8 @@ fn read_piece<F: Read>(file: &mut F, into: &mut [u8]) -> io::Result<usize>
 pub fn read_full<F: Read>(file: &mut F, into: &mut [u8]) -> io::Result<usize>
     ensures count { IfOk result (λ n. n ≤ length into.old) }
     ensures rest { IfOk result (λ n. drop n into.new ≡ drop n into.old) }
-    ensures bytes { IfOk result (λ n. Consumes (F.remaining file.old) (F.remaining file.new) (take n into.new)) }
+    ensures bytes { IfOk result
+        (λ n. Consumes (F.remaining file.old) (F.remaining file.new) (take n into.new)) }
     ensures end { IfOk result (λ n. n < length into.old → IsAtEnd (F.remaining file.new)) }
 {
     let mut filled = 0;
@@ -75,7 +77,8 @@ pub fn read_full<F: Read>(file: &mut F, into: &mut [u8]) -> io::Result<usize>
 pub fn read_from<F: Read + Seek>(file: &mut F, at: u64, into: &mut [u8]) -> io::Result<usize>
     ensures count { IfOk result (λ n. n ≤ length into.old) }
     ensures rest { IfOk result (λ n. drop n into.new ≡ drop n into.old) }
-    ensures bytes { IfOk result (λ n. GivesFrom F.Seek F.Read at (length into.old) (take n into.new) file.old file.new) }
+    ensures bytes { IfOk result
+        (λ n. GivesFrom F.Seek F.Read at (length into.old) (take n into.new) file.old file.new) }
 
     // Where a file tells its place and its stream, and reads give that: these are its bytes from there on.
     ensures stream { IfOk result (λ n. ReadsStream F.Seek F.Read → (was : ℕ) (held : List ℕ)
@@ -103,7 +106,8 @@ fn write_once<F: Write>(file: &mut F, bytes: &[u8]) -> io::Result<usize>
 /// Writes all bytes, and flushes. Where it fails, a prefix of them was written.
 pub fn write_full<F: Write>(file: &mut F, bytes: &[u8]) -> io::Result<()>
     ensures ok { OnOk result (Appends (F.contents file.old) (F.contents file.new) bytes.now) }
-    ensures err { OnErr result ((n : ℕ) × Appends (F.contents file.old) (F.contents file.new) (take n bytes.now)) }
+    ensures err { OnErr result
+        ((n : ℕ) × Appends (F.contents file.old) (F.contents file.new) (take n bytes.now)) }
 {
     let mut written = 0;
     while written < bytes.len() {

@@ -34,7 +34,8 @@ fn end_of<S: Store, C: Sink, R: Threads + Sync>(
     store: &mut S,
     say: &mut C,
 ) -> Status
-    ensures runs { RunsWords (objects S.Store C.Sink store.old store.new say.old say.new) result words }
+    ensures runs { RunsWords
+        (objects S.Store C.Sink store.old store.new say.old say.new) result words }
     ensures counts { KeepsStore S.Store store.old store.new }
     ensures say_count { C.faults say.old ≤ C.faults say.new }
 {

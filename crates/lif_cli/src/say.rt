@@ -61,11 +61,14 @@ impl<W: Teller> Sink for WriterSay<W> {
     ghost accounts = { λ _ _ _ h. h };
 
     fn put(&mut self, bytes: &[u8]) -> Result<(), Failed>
-        ensures put { puts_on_writer W.contents (put_event bytes.now result ∷ []) self.old self.new }
+        ensures put { puts_on_writer W.contents
+            (put_event bytes.now result ∷ []) self.old self.new }
 
         // All bytes are written, or else a prefix of them was.
-        ensures ok { OnOk result (Appends (bytes_of W.contents self.old) (bytes_of W.contents self.new) bytes.now) }
-        ensures err { OnErr result ((n : ℕ) × Appends (bytes_of W.contents self.old) (bytes_of W.contents self.new) (take n bytes.now)) }
+        ensures ok { OnOk result
+            (Appends (bytes_of W.contents self.old) (bytes_of W.contents self.new) bytes.now) }
+        ensures err { OnErr result ((n : ℕ) × Appends (bytes_of W.contents self.old)
+            (bytes_of W.contents self.new) (take n bytes.now)) }
 
         // A fault is counted exactly where the put fails.
         ensures faults_ok { OnOk result (faults_of self.new ≡ faults_of self.old) }

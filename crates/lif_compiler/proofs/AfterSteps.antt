@@ -15,6 +15,7 @@ use Rattle.field_vectors.specs.Grid.{Grid, IsMatrix, row_of}
 use Rattle.field_vectors.proofs.GridLaws.{length-row_of, row_of-elements}
 use Rattle.field_vectors.proofs.NumberLaws.{number-dot_of, numbers-IsRow, numbers-zeros}
 use Rattle.std.specs.declared.cmp.PartialEq.{Ghosts as EqualityWords}
+use Rattle.list_laws.proofs.Maps.{map-agree}
 use Rattle.gf_tables.specs.declared.field.Field.{Ghosts as FieldWords}
 use Rattle.gf_tables.specs.Product.{size_of}
 use Rattle.linear_algebra.proofs.CombinationLaws.{dot-combination}
@@ -29,7 +30,6 @@ use Rattle.net_model.specs.declared.net.Net.{Net}
 use Rattle.node_program.specs.Carried.{IsCarried, numbers_at, source_vector}
 use Rattle.node_program.specs.Code.{are_operands, is_source_of}
 use Rattle.node_program.specs.Value.{leaves_source}
-use Rattle.node_program.proofs.ValueLaws.{map-agree}
 use Rattle.node_program.proofs.VectorLaws.{IsRow-global_vector}
 use Rattle.node_program.specs.declared.Operand.{Operand}
 use Rattle.sink_basis.specs.declared.basis.Basis.{Basis}

@@ -22,7 +22,7 @@ use Rattle.net_model.specs.declared.net.Net.{Net}
 use Rattle.node_program.specs.Value.{leaves_source}
 use Rattle.node_program.specs.declared.Operand.{Operand}
 use Rattle.lif_compiler.specs.Operands.{ArePlaces, AreSources, befores, operands_of}
-use Rattle.lif_compiler.proofs.RisingLaws.{is_among-from_Contains, place-from_is_among, rising-place}
+use Rattle.net_model.proofs.RisingLaws.{is_among-from_Contains, place-from_is_among, rising-place}
 use Rattle.lif_compiler.specs.Compiled.{marked_kind}
 use Rattle.lif_compiler.specs.PartialCodes.{AreChosenBy, HaveProducts, IsTable, product_of}
 use Rattle.lif_compiler.specs.declared.partial_code.PartialCode.{PartialCode}

@@ -6,6 +6,7 @@ use Rattle.std.proofs.Math.Seq.{get_or-append_seam}
 use Rattle.std.proofs.lemmas.Bool.{cases_Bool, and_parts, and_from}
 use Rattle.std.proofs.lemmas.List.{append_assoc, append-nil, length-append, get_or_append_left}
 use Rattle.std.proofs.lemmas.Option.{slice_get_within, unwrap_or-slice_get}
+use Rattle.list_laws.proofs.Maps.{map-agree}
 use Rattle.gf_tables.specs.declared.kind.FieldKind.{FieldKind}
 use Rattle.net_model.specs.Demands.{demand_count}
 use Rattle.net_model.specs.Lists.{is_among}
@@ -16,7 +17,7 @@ use Rattle.node_program.specs.Code.{IsDraft, are_in_order, are_operands, are_ope
 use Rattle.node_program.proofs.OperandLaws.{operands_of_draft}
 use Rattle.node_program.specs.Operands.{IsOperand}
 use Rattle.node_program.specs.Value.{width_of, row_at, operands_at, leaves_source, value_within, value, unit_block, global_vector}
-use Rattle.node_program.proofs.ValueLaws.{map-agree, value_from-agree}
+use Rattle.node_program.proofs.ValueLaws.{value_from-agree}
 use Rattle.node_program.proofs.VectorLaws.{global_vector-equation}
 use Rattle.node_program.specs.declared.Operand.{Operand}
 use Rattle.lif_compiler.specs.Drafts.{draft_of}

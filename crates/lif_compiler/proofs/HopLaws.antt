@@ -1,6 +1,6 @@
 -- Laws of hops: a link stands where its hop says, on a path of a demand that it doesn't fail in; it leaves the source
 -- exactly where it is the path's first.
-use Rattle.std.specs.Prelude.{◌≡◌, ◌<◌, ◌≤◌, ◌-◌, ◌==◌, ℕ, zero, suc, Bool, true, false, IsTrue, List, [], ◌∷◌, Option, Some, length, slice_get, slice_index, unwrap_or, if◌then◌else◌}
+use Rattle.std.specs.Prelude.{◌≡◌, ◌<◌, ◌≤◌, ◌-◌, ◌==◌, ℕ, zero, suc, Bool, true, false, IsTrue, List, [], Option, Some, length, slice_get, slice_index, unwrap_or, if◌then◌else◌}
 use Rattle.std.specs.Option.{option_map_or}
 use Rattle.std.proofs.Common.{refl, sym, ap, ◌∙◌, subst, arith, inl, inr}
 use Rattle.std.proofs.lemmas.Bool.{cases_lt, eq-eqb, lt-ltb, ne_eqb}
@@ -11,23 +11,17 @@ use Rattle.net_model.specs.Failed.{failed_links}
 use Rattle.net_model.specs.Flows.{IsPath, flow_network}
 use Rattle.net_model.specs.Lists.{is_among, is_rising}
 use Rattle.net_model.proofs.WalkLaws.{IsWalk-below}
-use Rattle.net_model.specs.Walks.{IsWalk, head_of, tail_of}
+use Rattle.net_model.specs.Walks.{head_of, tail_of}
 use Rattle.net_model.specs.declared.Link.{Link}
 use Rattle.net_model.specs.declared.net.Net.{Net}
 use Rattle.node_program.specs.Code.{are_in_order, is_source_of, leads_into}
 use Rattle.node_program.specs.Value.{leaves_source}
+use Rattle.topo_order.proofs.OrderLaws.{walk_next}
 use Rattle.lif_compiler.specs.Hops.{IsHop, Routes, route_of}
 use Rattle.lif_compiler.proofs.InOrderLaws.{are_in_order-at, is_rising-walk}
-use Rattle.lif_compiler.proofs.RisingLaws.{rising-at_most}
+use Rattle.net_model.proofs.RisingLaws.{rising-at_most}
 use Rattle.lif_compiler.specs.Visits.{AreRoutes, paths_of}
 use Rattle.lif_compiler.specs.declared.hops.Hop.{Hop}
-
--- a link of a walk starts at the head of the one before
-walk_step : (links : List Link) (walk : List ℕ) → IsWalk links walk → (i : ℕ) → suc i < length walk → tail_of links (slice_index walk (suc i)) ≡ head_of links (slice_index walk i)
-walk_step links [] is i within = absurd (omega arith)
-walk_step links (link ∷ []) is i within = absurd (omega arith)
-walk_step links (link ∷ next ∷ walk) is zero within = is.1
-walk_step links (link ∷ next ∷ walk) is (suc i) within = walk_step links (next ∷ walk) is.2 i (omega arith)
 
 -- whether a link leaves the source, by its tail
 leaves-tail : (net : Net) (link : ℕ) → link < length net.links → leaves_source net link ≡ (tail_of net.links link == net.source)
@@ -106,7 +100,7 @@ module _ (net : Net) (rate : ℕ) (routes : Routes) (order : IsTrue (are_in_orde
     -- behind another it starts at that one's head
     hop-behind : (i : ℕ) → is.place ≡ suc i → tail_of net.links link ≡ head_of net.links (slice_index route i)
     hop-behind i behind =
-        ap (tail_of net.links) (sym is.here ∙ ap (slice_index route) behind) ∙ walk_step net.links route path.walk i (subst (λ place. place < length route) behind is.within)
+        ap (tail_of net.links) (sym is.here ∙ ap (slice_index route) behind) ∙ walk_next net.links route path.walk i (subst (λ place. place < length route) behind is.within)
 
     -- and so it doesn't leave the source
     hop-inner : (i : ℕ) → is.place ≡ suc i → leaves_source net link ≡ false

@@ -8,7 +8,8 @@ use Rattle.std.proofs.lemmas.List.Elements.{All-from_recursion}
 use Rattle.std.proofs.lemmas.List.Folds.{list_any_none}
 use Rattle.std.proofs.lemmas.List.Sums.{list_all-from_AllPass}
 use Rattle.std.proofs.lemmas.Map.Keys.{IsDistinct-head, IsDistinct-tail, apart_from_distinct}
-use Rattle.net_model.proofs.ListLaws.{IsDistinct-from_are_distinct, list_all-implied}
+use Rattle.list_laws.proofs.Tests.{list_all-implied}
+use Rattle.net_model.proofs.ListLaws.{IsDistinct-from_are_distinct}
 use Rattle.net_model.specs.Lists.{are_distinct, is_among, is_rising}
 use Rattle.net_model.specs.Renumbering.{HasEachOnce, renumbered_links}
 use Rattle.net_model.proofs.RenumberingLaws.{head_of-renumbered, length-renumbered_links, old_number-below, tail_of-renumbered}

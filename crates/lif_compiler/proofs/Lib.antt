@@ -12,7 +12,6 @@ pub mod ReadOffLaws
 pub mod FinalLaws
 pub mod FinalBasesLaws
 pub mod OperandLaws
-pub mod RisingLaws
 pub mod RouteLaws
 pub mod PlanningLaws
 pub mod OriginLaws

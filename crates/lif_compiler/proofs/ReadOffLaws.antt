@@ -17,7 +17,7 @@ use Rattle.linear_algebra.specs.Elements.{numbers}
 use Rattle.net_model.specs.Lists.{is_rising}
 use Rattle.lif_compiler.specs.Decoders.{IsReadOff}
 use Rattle.lif_compiler.specs.ReadOff.{AreApart, AreReached, AreSorted, entries_of_paths, placed_link, placed_links, row_of_entries}
-use Rattle.lif_compiler.proofs.RisingLaws.{is_rising-from_increasing}
+use Rattle.net_model.proofs.RisingLaws.{is_rising-from_increasing}
 use Rattle.lif_compiler.specs.declared.decoding.PlacedLink.{PlacedLink}
 
 -- lists of one length, joined: how long they are

@@ -25,7 +25,7 @@ use Rattle.node_program.specs.declared.Operand.{Operand}
 use Rattle.sink_basis.specs.declared.basis.Basis.{Basis}
 use Rattle.lif_compiler.proofs.HopLaws.{hop-before_first, hop-before_inner, hop-demand, hop-path, rising-route}
 use Rattle.lif_compiler.specs.Hops.{IsHop, Routes, route_of}
-use Rattle.lif_compiler.proofs.RisingLaws.{rising-below, rising-place}
+use Rattle.net_model.proofs.RisingLaws.{rising-below, rising-place}
 use Rattle.lif_compiler.specs.Tables.{AreAmong, AreOfShape, CanFeed, grid_at}
 use Rattle.lif_compiler.proofs.VisitLaws.{hop-vector}
 use Rattle.lif_compiler.specs.Visits.{AreVectorsOf, CanVisit, HasVectors, vector_under}

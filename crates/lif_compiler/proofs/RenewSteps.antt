@@ -12,7 +12,7 @@ use Rattle.gf_tables.specs.declared.field.Field.{Ghosts as FieldWords}
 use Rattle.net_model.specs.Lists.{is_rising}
 use Rattle.sink_basis.specs.declared.basis.Basis.{Basis}
 use Rattle.lif_compiler.specs.Bases.{HasWidth, inverses_in}
-use Rattle.lif_compiler.proofs.RisingLaws.{rising-below}
+use Rattle.net_model.proofs.RisingLaws.{rising-below}
 use Rattle.lif_compiler.specs.Steps.{AreRenewed, AreRenewedTo, IsApart}
 use Rattle.lif_compiler.specs.Tables.{vectors_for}
 use Rattle.lif_compiler.specs.declared.hops.Hop.{Hop}

@@ -19,7 +19,7 @@ use Rattle.lif_compiler.proofs.DraftLaws.{global_vector-more}
 use Rattle.lif_compiler.specs.Frontier.{IsAtFrontier}
 use Rattle.lif_compiler.proofs.HopLaws.{hop-demand, hop-path, rising-route}
 use Rattle.lif_compiler.specs.Hops.{IsHop, Routes, route_of}
-use Rattle.lif_compiler.proofs.RisingLaws.{is_among-from_Contains, place-from_is_among, rising-below}
+use Rattle.net_model.proofs.RisingLaws.{is_among-from_Contains, place-from_is_among, rising-below}
 use Rattle.lif_compiler.specs.Steps.{AreCarried, AreRenewed, IsApart}
 use Rattle.lif_compiler.specs.Tables.{vectors_for}
 use Rattle.lif_compiler.proofs.VisitLaws.{frontier-next, frontier-other}

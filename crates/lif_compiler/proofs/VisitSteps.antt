@@ -1,8 +1,8 @@
 -- Steps of the visit of a link, by the values that its calls take and give.
 use Rattle.std.specs.Prelude.{◌≡◌, ◌≢◌, ◌<◌, ◌++◌, ℕ, true, false, All, List, Some, drop, length, replicate, slice_get, take}
 use Rattle.std.specs.declared.cmp.PartialEq.{Ghosts as EqualityWords}
-use Rattle.std.proofs.Common.{sym, ap, ◌∙◌, arith, refl, subst}
-use Rattle.std.proofs.lemmas.List.{take_at}
+use Rattle.std.proofs.Common.{sym, ap, ◌∙◌, subst}
+use Rattle.list_laws.proofs.Writes.{written_back}
 use Rattle.field_vectors.specs.Elements.{dot_of}
 use Rattle.field_vectors.specs.Grid.{Grid, IsMatrix, row_of}
 use Rattle.gf_tables.specs.declared.field.Field.{Ghosts as FieldWords}
@@ -24,10 +24,6 @@ use Rattle.lif_compiler.proofs.BasesLaws.{LawsOf}
 use Rattle.lif_compiler.proofs.CarrySteps.{carried_at}
 use Rattle.lif_compiler.proofs.ReadySteps.{item_of, shape, some_basis, vectors_shape, zeros_here}
 use Rattle.lif_compiler.proofs.RenewSteps.{nonzero_at_link}
-
--- what is written back into a list, where it is as long
-pub written_back : {A : Type 0} (old new : List A) (count : ℕ) → count ≡ length old → length new ≡ length old → take count (new ++ drop (length new) old) ≡ new
-written_back old new count whole same = take_at new (drop (length new) old) count (omega arith)
 
 module _ {X : Type 0} {F : FieldWords X} {E : EqualityWords X} (L : LawsOf F) {net : Net} {routes : Routes} {hops : List Hop} {code : PartialCode X F E} (can : CanVisit net routes hops code)
     (next : length code.operands.items < length net.links) (link : ℕ) (link_is : link ≡ length code.operands.items) where

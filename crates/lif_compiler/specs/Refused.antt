@@ -2,6 +2,7 @@
 use Rattle.std.specs.Prelude.{◌≡◌, ◌<◌, ◌≤◌, ℕ, List, Bool}
 use Rattle.net_model.specs.Demands.{demand_count}
 use Rattle.net_model.specs.Flows.{IsLeastSide, flow_network}
+use Rattle.net_model.specs.Limits.{highest_rate}
 use Rattle.net_model.specs.Walks.{IsAcyclic}
 use Rattle.net_model.specs.declared.net.Net.{Net}
 use Rattle.failure_patterns.specs.Demands.{demand_of}
@@ -29,7 +30,7 @@ pub record IsZeroRate (net : Net) (demand : ℕ) (side : List Bool) : Type 0 whe
 
 -- the rate is above 32: the first demand that shows it, and its least cut's size
 pub record IsRateOver (net : Net) (demand least : ℕ) : Type 0 where
-  pub over : 32 < least
+  pub over : highest_rate < least
   pub rate : IsRate net least
   pub first : IsFirstWith net (λ size. size ≡ least) demand least
 

@@ -7,7 +7,6 @@ ghost use Rattle.node_program.specs.Value.{leaves_source};
 ghost use Rattle.lif_compiler.specs.Steps.{AreCarried, AreFromBelow, IsCarriedUnless};
 ghost use Rattle.lif_compiler.specs.Tables.{AreOfShape};
 
-use crate::partial_code::leaves_source;
 use counted_steps::Steps;
 use field_vectors::Matrix;
 use gf_tables::Field;
@@ -59,7 +58,7 @@ pub fn carry_all<F: Field, L: Ledger>(
         → AreCarried kind F.number net.now link operands.now vectors.old vectors.new }
     ensures kept { All (IsMatrix F.is_element) vectors.new }
 {
-    let leaves = leaves_source(net, link);
+    let leaves = net.leaves_source(link);
     for pattern in 0..vectors.len() {
         let is_failed = net.is_failed(pattern as u32, link);
         carry_unless(

@@ -1,6 +1,7 @@
 //! The choice of a link's operands.
 ghost use Rattle.std.specs.Prelude.{◌≡◌, ◌<◌, ◌≤◌, All, IfOk, length};
 ghost use Rattle.gf_tables.specs.Kind.{IsOfKind};
+ghost use Rattle.net_model.specs.Limits.{highest_rate};
 ghost use Rattle.lif_compiler.specs.Bases.{HasWidth};
 ghost use Rattle.lif_compiler.specs.Compiled.{marked_kind};
 ghost use Rattle.lif_compiler.specs.Operands.{befores};
@@ -34,7 +35,7 @@ impl<F: Field> PartialCode<F> {
         requires some_pattern { 0 < length self.now.vectors.items }
         requires vectors { AreOfShape (length net.now.links) self.now.rate self.now.vectors.items }
         requires bases { All (HasWidth self.now.rate) self.now.bases.items }
-        requires low_rate { self.now.rate ≤ 32 }
+        requires low_rate { self.now.rate ≤ highest_rate }
         requires hops { AreAmong (length self.now.bases.items) self.now.rate hops.now }
         requires few { length hops.now ≤ F.SIZE }
         requires named { CanFeed net.now self.now.rate link (befores hops.now) }

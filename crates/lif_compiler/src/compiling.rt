@@ -3,6 +3,7 @@ ghost use Rattle.std.specs.Prelude.{◌≡◌, ◌≤◌, [], IfErr, IfOk, IsTru
 ghost use Rattle.cut_witness.specs.Certificate.{AreCertificates, IsLeastValue};
 ghost use Rattle.gf_tables.specs.Kind.{IsOfKind};
 ghost use Rattle.net_model.specs.Demands.{demand_count};
+ghost use Rattle.net_model.specs.Limits.{highest_rate};
 ghost use Rattle.net_model.specs.Renumbering.{HasEachOnce, IsRenumbered};
 ghost use Rattle.net_model.specs.Walks.{IsAcyclic};
 ghost use Rattle.node_program.specs.Code.{are_in_order, choice_of};
@@ -45,7 +46,7 @@ fn fill<F: Field, L: Ledger>(
 ) -> Result<(OperandTable, DecoderTable), AllocError>
     requires field { IsOfKind (marked_kind F.MARK) F.SIZE F.BYTES F.MARK F.product }
     requires some { 1 ≤ rate }
-    requires low { rate ≤ 32 }
+    requires low { rate ≤ highest_rate }
     requires few { demand_count net.now ≤ F.SIZE }
     requires order { IsTrue (are_in_order [] net.now.links) }
     requires named { net.now.field ≡ choice_of (marked_kind F.MARK) }
@@ -84,7 +85,7 @@ fn build<F: Field, L: Ledger>(
     requires certified { AreCertificates net.now certs.now }
     requires least { IsLeastValue certs.now rate }
     requires some { 1 ≤ rate }
-    requires low { rate ≤ 32 }
+    requires low { rate ≤ highest_rate }
     ensures { IfOk result (λ code. IsCompiled net.now (marked_kind F.MARK) code certs.now) }
 {
     let routes = routes_of(alloc, certs, order, rate)?;

@@ -1,5 +1,6 @@
 //! The decoders that bases give.
 ghost use Rattle.std.specs.Prelude.{◌≡◌, ◌<◌, ◌≤◌, ◌++◌, All, IfOk, OnOk, length, map};
+ghost use Rattle.net_model.specs.Limits.{highest_rate};
 ghost use Rattle.lif_compiler.specs.Decoders.{AreReadOff, IsReadOffBasis};
 ghost use Rattle.lif_compiler.specs.ReadOff.{AreApart, AreReached, AreSorted, entries_by, placed_links, row_by};
 
@@ -51,7 +52,7 @@ pub(crate) fn decoder_of<F: Field>(alloc: Global, basis: &Basis<F>) -> Result<De
 fn sorted_links(alloc: Global, frontier: &[Option<u32>]) -> Result<Vec<PlacedLink>, AllocError>
     requires reached { AreReached frontier.now }
     requires apart { AreApart frontier.now }
-    requires few { length frontier.now ≤ 32 }
+    requires few { length frontier.now ≤ highest_rate }
     ensures { IfOk result (λ sorted. AreSorted frontier.now sorted.items) }
 {
     let mut placed = placed_links(alloc, frontier)?;
@@ -62,7 +63,7 @@ fn sorted_links(alloc: Global, frontier: &[Option<u32>]) -> Result<Vec<PlacedLin
 // The links of a frontier with their paths, path by path.
 fn placed_links(alloc: Global, frontier: &[Option<u32>]) -> Result<Vec<PlacedLink>, AllocError>
     requires reached { AreReached frontier.now }
-    requires few { length frontier.now ≤ 32 }
+    requires few { length frontier.now ≤ highest_rate }
     ensures { IfOk result (λ placed. placed.items ≡ placed_links frontier.now) }
 {
     let mut placed = Vec::with_capacity(alloc, frontier.len())?;

@@ -1,10 +1,7 @@
 //! A code in the making.
-ghost use Rattle.std.specs.Prelude.{◌≡◌, ◌<◌, length};
-ghost use Rattle.node_program.specs.Value.{leaves_source};
 
 use field_vectors::Matrix;
 use gf_tables::Field;
-use net_model::Net;
 use node_program::OperandList;
 use sink_basis::Basis;
 
@@ -19,12 +16,4 @@ pub struct PartialCode<F: Field> {
     pub vectors: Vec<Matrix<F>>,
     /// For each demand its basis, over the vectors of its pattern.
     pub bases: Vec<Basis<F>>,
-}
-
-/// Whether a link leaves the source.
-pub fn leaves_source(net: &Net, link: u32) -> bool
-    requires { link < length net.now.links }
-    ensures { result ≡ leaves_source net.now link }
-{
-    net.links.at(link as usize).tail == net.source
 }

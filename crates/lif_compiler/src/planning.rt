@@ -2,6 +2,7 @@
 ghost use Rattle.std.specs.Prelude.{◌≡◌, ◌<◌, ◌≤◌, ℕ, [], All, IfOk, IsTrue, OnOk, length, map, nat_eq};
 ghost use Rattle.std.specs.List.{concat};
 ghost use Rattle.failure_patterns.specs.UsedField.{pair_demands};
+ghost use Rattle.net_model.specs.Limits.{highest_rate};
 ghost use Rattle.net_model.specs.Lists.{are_distinct};
 ghost use Rattle.lif_compiler.specs.declared.hops.Hop.{Hop};
 ghost use Rattle.lif_compiler.specs.Hops.{HaveHops};
@@ -22,7 +23,7 @@ pub(crate) fn hops_of(
     requires below { All (ArePathsBelow links) routes.now }
     requires apart { All (λ paths. IsTrue (are_distinct nat_eq (concat paths))) routes.now }
     requires few_demands { length routes.now ≤ pair_demands }
-    requires few_paths { All (λ paths. length paths ≤ 32) routes.now }
+    requires few_paths { All (λ paths. length paths ≤ highest_rate) routes.now }
     ensures count { IfOk result (λ hops. length hops.items ≡ links) }
     ensures hops { IfOk result (λ hops. HaveHops routes.now hops.items) }
 {
@@ -48,7 +49,7 @@ fn empty_lists(alloc: Global, links: usize) -> Result<Vec<Vec<Hop>>, AllocError>
 // Adds the hops of the paths of a demand.
 fn add_demand(hops: &mut [Vec<Hop>], demand: u32, paths: &[LinkList]) -> Result<(), AllocError>
     requires below { ArePathsBelow (length hops.old) paths.now }
-    requires few { length paths.now ≤ 32 }
+    requires few { length paths.now ≤ highest_rate }
     ensures { OnOk result (Gains (hops_of_demand demand paths.now) hops.old hops.new) }
 {
     for (path, links) in paths.iter().enumerate() {

@@ -1,16 +1,14 @@
 //! The rate of a network, where a code can have it.
 ghost use Rattle.std.specs.Prelude.{◌≡◌, ◌≤◌, IfErr, IfOk};
 ghost use Rattle.cut_witness.specs.Certificate.{AreCertificates, IsLeastValue};
+ghost use Rattle.net_model.specs.Limits.{highest_rate};
 ghost use Rattle.lif_compiler.specs.Rating.{IsFirstOfValue};
 ghost use Rattle.lif_compiler.specs.Refused.{IsBadRate};
 
 use crate::CompileRefusal;
 use cut_witness::{Cert, rate};
-use net_model::{Net, Side};
+use net_model::{HIGHEST_RATE, Net, Side};
 use std::alloc::Global;
-
-// The greatest rate of a code.
-const GREATEST_RATE: u32 = 32;
 
 /// The least value of the certificates of a network's demands, where it is 1 to 32. A refusal names the first demand
 /// that shows it.
@@ -18,16 +16,16 @@ pub fn bounded_rate(alloc: Global, net: &Net, certs: &[Cert]) -> Result<u32, Com
     requires { AreCertificates net.now certs.now }
     ensures least { IfOk result (IsLeastValue certs.now) }
     ensures some { IfOk result (λ rate. 1 ≤ rate) }
-    ensures few { IfOk result (λ rate. rate ≤ 32) }
+    ensures few { IfOk result (λ rate. rate ≤ highest_rate) }
     ensures refused { IfErr result (IsBadRate net.now) }
 {
     let least = rate(certs);
-    if least >= 1 && least <= GREATEST_RATE {
+    if least >= 1 && least <= HIGHEST_RATE {
         return Ok(least);
     }
     let number = first_with_value(certs, least);
     let demand = number as u32;
-    if least > GREATEST_RATE {
+    if least > HIGHEST_RATE {
         return Err(CompileRefusal::RateOver { demand, least });
     }
     let side = Side::of(Vec::from_slice(alloc, certs[number].side.as_slice())?);

@@ -3,6 +3,7 @@ ghost use Rattle.std.specs.Prelude.{◌≡◌, ◌≤◌, [], All, IfOk, IsTrue,
 ghost use Rattle.gf_tables.specs.Kind.{IsOfKind};
 ghost use Rattle.failure_patterns.specs.UsedField.{pair_demands};
 ghost use Rattle.net_model.specs.Demands.{demand_count};
+ghost use Rattle.net_model.specs.Limits.{highest_rate};
 ghost use Rattle.node_program.specs.Code.{are_in_order, choice_of};
 ghost use Rattle.lif_compiler.specs.Bases.{HasMatrices, HasNoLinks, HasUnitVectors};
 ghost use Rattle.lif_compiler.specs.Compiled.{marked_kind};
@@ -36,7 +37,7 @@ fn zero_vectors<F: Field>(
 // The basis of the unit vectors.
 fn unit_basis<F: Field>(alloc: Global, rate: u32) -> Result<Basis<F>, AllocError>
     requires some { 1 ≤ rate }
-    requires few { rate ≤ 32 }
+    requires few { rate ≤ highest_rate }
     ensures frontier { IfOk result (HasNoLinks rate) }
     ensures vectors { IfOk result (HasUnitVectors rate) }
     ensures matrices { IfOk result HasMatrices }
@@ -48,7 +49,7 @@ fn unit_basis<F: Field>(alloc: Global, rate: u32) -> Result<Basis<F>, AllocError
 // So many bases of the unit vectors.
 fn unit_bases<F: Field>(alloc: Global, count: usize, rate: u32) -> Result<Vec<Basis<F>>, AllocError>
     requires some { 1 ≤ rate }
-    requires few { rate ≤ 32 }
+    requires few { rate ≤ highest_rate }
     ensures count { IfOk result (λ bases. length bases.items ≡ count) }
     ensures frontiers { IfOk result (λ bases. All (HasNoLinks rate) bases.items) }
     ensures vectors { IfOk result (λ bases. All (HasUnitVectors rate) bases.items) }
@@ -66,7 +67,7 @@ impl<F: Field> PartialCode<F> {
     pub fn start(alloc: Global, net: &Net, rate: u32) -> Result<PartialCode<F>, AllocError>
         requires field { IsOfKind (marked_kind F.MARK) F.SIZE F.BYTES F.MARK F.product }
         requires some { 1 ≤ rate }
-        requires low { rate ≤ 32 }
+        requires low { rate ≤ highest_rate }
         requires few { demand_count net.now ≤ pair_demands }
         requires order { IsTrue (are_in_order [] net.now.links) }
         requires named { net.now.field ≡ choice_of (marked_kind F.MARK) }

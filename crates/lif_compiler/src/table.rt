@@ -9,7 +9,7 @@ ghost use Rattle.lif_compiler.specs.PartialCodes.{IsTableFor};
 ghost use Rattle.lif_compiler.specs.Tables.{AreAmong, AreNamed, AreOfShape, CanFeed, product_by};
 
 use crate::Hop;
-use crate::partial_code::{PartialCode, leaves_source};
+use crate::partial_code::PartialCode;
 use counted_steps::Steps;
 use field_vectors::{Matrix, dot};
 use gf_tables::Field;
@@ -93,7 +93,7 @@ impl<F: Field> PartialCode<F> {
         requires few_hops { length hops.now < 2 ^ 32 }
         ensures { IfOk result (IsTableFor net.now link sources.now hops.now self.now) }
     {
-        let leaves = leaves_source(net, link);
+        let leaves = net.leaves_source(link);
         let mut table = Matrix::zeros(alloc, hops.len() as u32, sources.len() as u32)?;
         for (row, hop) in hops.iter().enumerate() {
             let demand = hop.demand as usize;

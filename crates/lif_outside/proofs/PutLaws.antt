@@ -1,14 +1,14 @@
 -- What follows of a text that was put, all of it or a part.
 use Rattle.std.specs.Prelude.{◌≡◌, ◌+◌, ◌||◌, ℕ, List, [], ◌∷◌, ◌++◌, Result, Ok, Err, OnOk, OnErr, min, length, take, true, false, Contains}
 use Rattle.std.specs.List.{list_any}
-use Rattle.std.proofs.Common.{refl, sym, ap, subst, ◌∙◌, arith, inl, inr}
+use Rattle.std.proofs.Common.{refl, sym, ap, subst, ◌∙◌, arith}
 use Rattle.std.proofs.Math.Seq.{take-append-add}
 use Rattle.std.proofs.lemmas.Bool.{false≢true}
 use Rattle.std.proofs.lemmas.List.{append-nil, append_assoc, take_min, take-append-le}
 use Rattle.std.proofs.lemmas.List.Elements.{Contains-push}
 use Rattle.std.proofs.lemmas.List.Folds.{list_any-append}
 use Rattle.lif_outside.specs.declared.Failed.{Failed}
-use Rattle.lif_outside.specs.Puts.{Put, said, put_failed, put_event, is_failed_put, Grow, bytes_said, SaysAll, SaysPart, Says}
+use Rattle.lif_outside.specs.Puts.{Put, said, put_failed, put_event, is_failed_put, Grow, bytes_said, SaysAll, SaysPart}
 
 -- one put, by its answer
 pub says_all-once : (line : List ℕ) (result : Result Unit Failed) → OnOk result (SaysAll line (put_event line result ∷ []))

@@ -15,8 +15,8 @@ use Rattle.lif_outside.proofs.FaultLaws.{HaveFailed, failed-append, appends_unfa
 use Rattle.lif_outside.specs.Files.{HoldsPrefix, IsSameOrEmpty, AreDistinct}
 use Rattle.lif_outside.proofs.PutLaws.{take-behind}
 use Rattle.lif_outside.specs.Runs.{StopsWithin, Written, failed_of, creates_of, appends_of, appends_to, turn_of, AreAppendsTo, bytes_appended}
-use Rattle.lif_outside.specs.Sequences.{IsFrontOf, Then}
-use Rattle.lif_outside.proofs.SequenceLaws.{all_append, all_split, stops_all, stops_there}
+use Rattle.lif_outside.specs.Sequences.{IsFrontOf}
+use Rattle.lif_outside.proofs.SequenceLaws.{all_split, stops_all, stops_there}
 use Rattle.lif_outside.proofs.RunLaws.{appends_held, appends-append, bytes_appended-append}
 
 -- creates of paths, and then of others: also of one more

@@ -67,9 +67,12 @@ pub trait Links {
     ghost no_moves: { (at : Self) → moves [] at at };
 
     /// Calls and then more calls are the calls of both lists.
-    ghost more_moves: { (first later : List Move) (a b c : Self) → moves first a b → moves later b c → moves (first ++ later) a c };
+    ghost more_moves: { (first later : List Move) (a b c : Self) → moves first a b
+        → moves later b c → moves (first ++ later) a c };
 
     /// What flies follows the calls, and so do the pairs put and given, where they are told. The count doesn't fall,
     /// and a put or a take that failed has raised it.
-    ghost accounts: { (made : List Move) (old new : Self) → moves made old new → LinksAccounts (holding flying room seed repeats) faithful faults sent given made old new };
+    ghost accounts: { (made : List Move) (old new : Self) → moves made old new
+        → LinksAccounts (holding flying room seed repeats) faithful faults sent given
+        made old new };
 }

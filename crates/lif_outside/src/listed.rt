@@ -116,7 +116,8 @@ impl Links for ListLinks {
         ensures call { moves_in (put_move link frame.now result ∷ []) self.old self.new }
 
         // When it fails, and where the pair is put.
-        ensures listed { Contains (put_fails_in self.old) (one_more (puts_in self.old)) → IsErr result }
+        ensures listed { Contains (put_fails_in self.old) (one_more (puts_in self.old))
+            → IsErr result }
         ensures memory { IsErr result → has_room_to_tell_put self.old
             → Contains (put_fails_in self.old) (one_more (puts_in self.old)) }
         ensures last { OnOk result ((held_in self.new).flying
@@ -146,10 +147,12 @@ impl Links for ListLinks {
         ensures call { moves_in (take_move result ∷ []) self.old self.new }
 
         // When it fails, and which pair it gives.
-        ensures listed { Contains (take_fails_in self.old) (one_more (takes_in self.old)) → IsErr result }
+        ensures listed { Contains (take_fails_in self.old) (one_more (takes_in self.old))
+            → IsErr result }
         ensures memory { IsErr result → has_room_to_tell_take self.old
             → Contains (take_fails_in self.old) (one_more (takes_in self.old)) }
-        ensures picked { (flight : Flight) → result ≡ Ok (Some flight) → IsListed flight self.old self.new }
+        ensures picked { (flight : Flight) → result ≡ Ok (Some flight)
+            → IsListed flight self.old self.new }
         ensures counted { CountsTake self.old self.new }
         ensures faults_ok { OnOk result (faults_in self.new ≡ faults_in self.old) }
         ensures faults_err { OnErr result (faults_in self.new ≡ one_more (faults_in self.old)) }

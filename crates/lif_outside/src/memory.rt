@@ -85,7 +85,8 @@ impl MemStore {
     /// Sets a file. It counts as no call. It fails where memory runs out, and then leaves all files as
     /// they were.
     pub fn put_file(&mut self, alloc: Global, path: &str, bytes: &[u8]) -> Result<(), AllocError>
-        ensures ok { OnOk result (SetsFile path.now bytes.now (files_in self.old) (files_in self.new)) }
+        ensures ok { OnOk result
+            (SetsFile path.now bytes.now (files_in self.old) (files_in self.new)) }
         ensures err { OnErr result (SameFiles (files_in self.old) (files_in self.new)) }
         ensures calls { SameCalls self.old self.new }
     {
@@ -131,9 +132,11 @@ impl Store for MemStore {
 
     ghost calls = { calls_in };
 
-    ghost no_calls = { accounts_none (λ store. Some (files_in store)) path_faults path_faults HasFile };
+    ghost no_calls = { accounts_none
+        (λ store. Some (files_in store)) path_faults path_faults HasFile };
 
-    ghost more_calls = { accounts_then (λ store. Some (files_in store)) path_faults path_faults HasFile };
+    ghost more_calls = { accounts_then
+        (λ store. Some (files_in store)) path_faults path_faults HasFile };
 
     ghost accounts = { λ _ _ _ h. h };
 
@@ -141,7 +144,8 @@ impl Store for MemStore {
         requires { at ≤ 2 ^ 41 }
         ensures count { IfOk result (λ n. n ≤ length into.old) }
         ensures rest { IfOk result (λ n. drop n into.new ≡ drop n into.old) }
-        ensures call { calls_in (read_event path.now at (length into.old) result into.new ∷ []) self.old self.new }
+        ensures call { calls_in
+            (read_event path.now at (length into.old) result into.new ∷ []) self.old self.new }
 
         // How many bytes come, and when it fails.
         ensures given { IfOk result (λ n. n ≡ min (most_of self.old) (min (length into.old)
@@ -254,14 +258,17 @@ impl Sink for MemSink {
         ensures put { puts_in (put_event bytes.now result ∷ []) self.old self.new }
 
         // When it fails: no bytes take no memory. Nothing is kept then.
-        ensures listed { Contains (put_fails_of self.old) (one_more (puts_of self.old)) → IsErr result }
+        ensures listed { Contains (put_fails_of self.old) (one_more (puts_of self.old))
+            → IsErr result }
         ensures memory { IsErr result
-            → Contains (put_fails_of self.old) (one_more (puts_of self.old)) ⊎ (0 < length bytes.now) }
+            → Contains (put_fails_of self.old) (one_more (puts_of self.old))
+            ⊎ (0 < length bytes.now) }
         ensures err { OnErr result (bytes_in self.new ≡ bytes_in self.old) }
         ensures counted { puts_of self.new ≡ one_more (puts_of self.old) }
         ensures fails { put_fails_of self.new ≡ put_fails_of self.old }
         ensures faults_ok { OnOk result (put_faults_of self.new ≡ put_faults_of self.old) }
-        ensures faults_err { OnErr result (put_faults_of self.new ≡ one_more (put_faults_of self.old)) }
+        ensures faults_err { OnErr result
+            (put_faults_of self.new ≡ one_more (put_faults_of self.old)) }
     {
         let nth = count_one(&mut self.puts);
         if self.fails.contains(&nth) || self.bytes.extend_from_slice(bytes).is_err() {

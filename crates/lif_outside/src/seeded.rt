@@ -110,7 +110,8 @@ impl Links for SeedLinks {
     fn take(&mut self) -> Result<Option<Flight>, Failed>
         ensures call { moves_by (take_move result ∷ []) self.old self.new }
         ensures done { IsOk result }
-        ensures picked { (flight : Flight) → result ≡ Ok (Some flight) → IsPicked flight self.old self.new }
+        ensures picked { (flight : Flight) → result ≡ Ok (Some flight)
+            → IsPicked flight self.old self.new }
         ensures none { result ≡ Ok None → generator_in self.new ≡ generator_in self.old }
     {
         if self.flying.is_empty() {

@@ -24,8 +24,10 @@ pub trait Sink {
     ghost no_puts: { (at : Self) → puts [] at at };
 
     /// Puts and then more puts are the puts of both lists.
-    ghost more_puts: { (first later : List Put) (a b c : Self) → puts first a b → puts later b c → puts (first ++ later) a c };
+    ghost more_puts: { (first later : List Put) (a b c : Self) → puts first a b
+        → puts later b c → puts (first ++ later) a c };
 
     /// Where bytes are told, they grow by the puts. The count doesn't fall, and a put that failed has raised it.
-    ghost accounts: { (made : List Put) (old new : Self) → puts made old new → SinkAccounts written faults made old new };
+    ghost accounts: { (made : List Put) (old new : Self) → puts made old new
+        → SinkAccounts written faults made old new };
 }

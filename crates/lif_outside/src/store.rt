@@ -31,7 +31,8 @@ pub trait Store {
         requires { at ≤ 2 ^ 41 }
         ensures count { IfOk result (λ n. n ≤ length into.old) }
         ensures rest { IfOk result (λ n. drop n into.new ≡ drop n into.old) }
-        ensures call { calls (read_event path.now at (length into.old) result into.new ∷ []) self.old self.new };
+        ensures call { calls
+            (read_event path.now at (length into.old) result into.new ∷ []) self.old self.new };
 
     /// Makes an empty file, in place of one that is there. Where it fails, the path is as before or empty.
     fn create(&mut self, path: &str) -> Result<(), Failed>
@@ -46,9 +47,11 @@ pub trait Store {
     ghost no_calls: { (at : Self) → calls [] at at };
 
     /// Calls and then more calls are the calls of both lists.
-    ghost more_calls: { (first later : List Event) (a b c : Self) → calls first a b → calls later b c → calls (first ++ later) a c };
+    ghost more_calls: { (first later : List Event) (a b c : Self) → calls first a b
+        → calls later b c → calls (first ++ later) a c };
 
     /// Where files are told, they end as the calls say, and every read gave what the file held. No count falls, a
     /// call that failed has raised its path's count, and a path whose create was done is made.
-    ghost accounts: { (events : List Event) (old new : Self) → calls events old new → StoreAccounts files read_faults write_faults made events old new };
+    ghost accounts: { (events : List Event) (old new : Self) → calls events old new
+        → StoreAccounts files read_faults write_faults made events old new };
 }

@@ -15,8 +15,10 @@ use lif_outside::{Failed, Store};
 impl<'c> Delivery<'c> {
     /// Creates each sink's file, in order.
     pub fn create_outputs<S: Store>(&self, store: &mut S) -> Result<(), Failed>
-        ensures created { OnOk result (MakesCalls S.Store store.old store.new (Are (creates_of (paths_of self.now)))) }
-        ensures failed { OnErr result (MakesCalls S.Store store.old store.new (StopsWithin (creates_of (paths_of self.now)))) }
+        ensures created { OnOk result (MakesCalls S.Store store.old store.new
+            (Are (creates_of (paths_of self.now)))) }
+        ensures failed { OnErr result (MakesCalls S.Store store.old store.new
+            (StopsWithin (creates_of (paths_of self.now)))) }
     {
         for output in &self.outputs {
             store.create(output.as_str())?;
@@ -34,13 +36,16 @@ impl<'c> Delivery<'c> {
         requires sink { sink < vec_len self.old.outputs }
         requires carried { HasBlock self.old.carrier }
         requires piece { counted_bytes self.old.carrier.block ≡ piece.now }
-        requires made { (path : List ℕ) → Contains (paths_of self.old) path → S.made store.old path }
+        requires made { (path : List ℕ) → Contains (paths_of self.old) path
+            → S.made store.old path }
         ensures carrier { self.new.carrier ≡ self.old.carrier }
         ensures outputs { self.new.outputs ≡ self.old.outputs }
         ensures appended { OnOk result (MakesCalls S.Store store.old store.new
-            (Are (appends_to (slice_index_or (paths_of self.old) sink [] ∷ []) (some_piece piece.now)))) }
+            (Are (appends_to (slice_index_or (paths_of self.old) sink [] ∷ [])
+            (some_piece piece.now)))) }
         ensures failed { OnErr result (MakesCalls S.Store store.old store.new
-            (StopsWithin (appends_to (slice_index_or (paths_of self.old) sink [] ∷ []) (some_piece piece.now)))) }
+            (StopsWithin (appends_to (slice_index_or (paths_of self.old) sink [] ∷ [])
+            (some_piece piece.now)))) }
     {
         self.carrier.decode(sink as u32, &mut self.decoded);
         let received = counted(&self.decoded);
@@ -53,11 +58,14 @@ impl<'c> Delivery<'c> {
     // Carries a piece of the source, by way of its block, and adds what each sink decodes to its file.
     fn carry_piece<S: Store>(&mut self, store: &mut S, piece: &[u8]) -> Result<(), Failed>
         requires fits { length piece.now ≤ capacity self.old.carrier.code.rate }
-        requires made { (path : List ℕ) → Contains (paths_of self.old) path → S.made store.old path }
+        requires made { (path : List ℕ) → Contains (paths_of self.old) path
+            → S.made store.old path }
         ensures code { self.new.carrier.code ≡ self.old.carrier.code }
         ensures outputs { self.new.outputs ≡ self.old.outputs }
-        ensures appended { OnOk result (MakesCalls S.Store store.old store.new (Are (appends_to (paths_of self.old) (some_piece piece.now)))) }
-        ensures failed { OnErr result (MakesCalls S.Store store.old store.new (StopsWithin (appends_to (paths_of self.old) (some_piece piece.now)))) }
+        ensures appended { OnOk result (MakesCalls S.Store store.old store.new
+            (Are (appends_to (paths_of self.old) (some_piece piece.now)))) }
+        ensures failed { OnErr result (MakesCalls S.Store store.old store.new
+            (StopsWithin (appends_to (paths_of self.old) (some_piece piece.now)))) }
     {
         cut(piece, &mut self.block);
         self.carrier.carry(&self.block);
@@ -74,12 +82,15 @@ impl<'c> Delivery<'c> {
         source: &[u8],
     ) -> Result<SentCounts, Failed>
         requires short { length source.now ≤ source_limit }
-        requires made { (path : List ℕ) → Contains (paths_of self.old) path → S.made store.old path }
+        requires made { (path : List ℕ) → Contains (paths_of self.old) path
+            → S.made store.old path }
         ensures counts { IfOk result (AreCounts self.old.carrier.code source.now) }
         ensures delivered { OnOk result (MakesCalls S.Store store.old store.new
-            (Are (appends_to (paths_of self.old) (pieces_of source.now self.old.carrier.code.rate)))) }
+            (Are (appends_to (paths_of self.old)
+            (pieces_of source.now self.old.carrier.code.rate)))) }
         ensures failed { OnErr result (MakesCalls S.Store store.old store.new
-            (StopsWithin (appends_to (paths_of self.old) (pieces_of source.now self.old.carrier.code.rate)))) }
+            (StopsWithin (appends_to (paths_of self.old)
+            (pieces_of source.now self.old.carrier.code.rate)))) }
     {
         let capacity = cap(self.rate) as usize;
         let generations = source.len() / capacity + 1;

@@ -25,7 +25,8 @@ fn output_path(alloc: Global, prefix: &str, sink: &[u8]) -> Result<String, Alloc
 
 /// The paths of the files of all sinks, in their order.
 pub fn output_paths(alloc: Global, prefix: &str, net: &Net) -> Result<Vec<String>, AllocError>
-    ensures paths { IfOk result (λ paths. map string_bytes paths.items ≡ output_paths prefix.now net.now) }
+    ensures paths { IfOk result
+        (λ paths. map string_bytes paths.items ≡ output_paths prefix.now net.now) }
     ensures distinct { IfOk result (λ paths. AreDistinct (map string_bytes paths.items)) }
 {
     let mut paths = Vec::with_capacity(alloc, net.sinks.len())?;
@@ -38,7 +39,8 @@ pub fn output_paths(alloc: Global, prefix: &str, net: &Net) -> Result<Vec<String
 /// The first output's path that is that of the code or of the source. No two outputs' paths are equal.
 pub fn shared_path<'a>(code: &'a str, source: &'a str, outputs: &[String]) -> Option<&'a str>
     requires distinct { AreDistinct (map string_bytes outputs.now) }
-    ensures { option_map (λ path. path.now) result ≡ shared_path (code.now ∷ source.now ∷ []) (map string_bytes outputs.now) }
+    ensures { option_map (λ path. path.now) result
+        ≡ shared_path (code.now ∷ source.now ∷ []) (map string_bytes outputs.now) }
 {
     for output in outputs {
         if output.as_str() == code {

@@ -74,7 +74,8 @@ pub fn prepare<'a, 'c>(
     code: &'c Checked,
 ) -> Result<Prepared<'c>, Outcome<'a>>
     ensures ready { IfOk result (IsReady (given_in words.now) code.now) }
-    ensures refused { IfErr result (λ outcome. RunsCode (given_in words.now) code.now outcome.status outcome.line []) }
+    ensures refused { IfErr result
+        (λ outcome. RunsCode (given_in words.now) code.now outcome.status outcome.line []) }
 {
     let net = &code.code().net;
     let Some(pattern) = pattern_named(net, words.pattern.as_bytes()) else {

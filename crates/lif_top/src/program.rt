@@ -20,7 +20,8 @@ fn carry_out<'a, S: Store, G: Gate + Sync, R: Threads + Sync>(
     store: &mut S,
     gate: &G,
 ) -> Outcome<'a>
-    ensures { RunsOnStore S.Store (does_form (command_of (map string_bytes words.now))) store.old store.new result }
+    ensures { RunsOnStore S.Store (does_form (command_of (map string_bytes words.now)))
+        store.old store.new result }
 {
     let Some(command) = command_of(words) else {
         return Outcome::usage();

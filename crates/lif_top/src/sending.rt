@@ -22,7 +22,8 @@ fn deliver<'a, S: Store>(
     store: &mut S,
 ) -> Outcome<'a>
     requires { IsReady (given_in words.now) code.now ready }
-    ensures { MakesCalls S.Store store.old store.new (RunsCode (given_in words.now) code.now result.status result.line) }
+    ensures { MakesCalls S.Store store.old store.new
+        (RunsCode (given_in words.now) code.now result.status result.line) }
 {
     let Prepared { mut delivery, room } = ready;
     let Ok(()) = delivery.create_outputs(store) else {
@@ -48,7 +49,8 @@ fn send_through<'a, S: Store>(
     code: &Checked,
     store: &mut S,
 ) -> Outcome<'a>
-    ensures { MakesCalls S.Store store.old store.new (RunsCode (given_in words.now) code.now result.status result.line) }
+    ensures { MakesCalls S.Store store.old store.new
+        (RunsCode (given_in words.now) code.now result.status result.line) }
 {
     match prepare(alloc, words, code) {
         Ok(ready) => deliver(words, code, ready, store),

@@ -1,12 +1,12 @@
 -- Laws of matrices whose entries stand row by row.
 use Rattle.std.specs.Prelude.{◌≡◌, ℕ, zero, suc, ◌+◌, ◌*◌, ◌<◌, ◌≤◌, List, [], ◌∷◌, ◌++◌, length, map, take, drop, slice_index}
 use Rattle.std.proofs.Common.{arith, refl, sym, ap, ◌∙◌, get_or, add-one, suc-mul}
-use Rattle.std.proofs.Math.Nat.{mul-le-mul_right}
 use Rattle.std.proofs.Math.Seq.{take-add}
 use Rattle.std.proofs.lemmas.List.{append_assoc, length-append, length-take-le, length-drop, get_or-take, get_or-drop, take_at, drop_at, drop-drop, take_all}
 use Rattle.std.proofs.lemmas.List.Elements.{All-take, All-drop}
 use Rattle.std.proofs.lemmas.List.FromFn.{get_or-map-range_with_len}
 use Rattle.std.specs.List.{range_with_len, concat}
+pub use Rattle.list_laws.proofs.Places.{row_end, place_within}
 use Rattle.gf_tables.specs.Product.{size_of}
 use Rattle.gf_tables.specs.declared.kind.FieldKind.{FieldKind}
 use Rattle.linear_algebra.specs.Matrices.{rows_of}
@@ -15,17 +15,6 @@ use Rattle.linear_algebra.specs.Rows.{AreElements, AreRows}
 -- the place of the next row
 next_place : (a width : ℕ) → (a + 1) * width ≡ a * width + width
 next_place a width = ap (λ k. k * width) (add-one a) ∙ suc-mul a width
-
--- a row of entries ends within them
-pub row_end : (i count width : ℕ) → i < count → i * width + width ≤ count * width
-row_end i count width below =
-    let next : suc i ≤ count = omega arith in
-    let fits : suc i * width ≤ count * width = mul-le-mul_right width next in
-    omega (arith, suc-mul i width, fits)
-
--- a place of entries that stand row by row
-pub place_within : (i j count width : ℕ) → i < count → j < width → i * width + j < count * width
-place_within i j count width below inside = let fits = row_end i count width below in omega (arith, fits, inside)
 
 -- the row that begins at a place of entries of elements
 rows_from : (field : FieldKind) (width a n count : ℕ) (entries : List ℕ) → a + n ≤ count → count * width ≤ length entries → AreElements field entries

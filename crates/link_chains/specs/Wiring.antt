@@ -3,7 +3,15 @@ use Rattle.std.specs.Prelude.{ℕ, List, length}
 use Rattle.net_model.specs.Walks.{head_of, tail_of}
 use Rattle.net_model.specs.declared.Link.{Link}
 use Rattle.link_chains.specs.Chains.{AreFirsts, AreNexts}
+use Rattle.link_chains.specs.declared.chains.Chains.{Chains}
+use Rattle.link_chains.specs.declared.chains.LinkEnd.{LinkEnd}
+use Rattle.link_chains.specs.declared.chains.LinkEnd.TheVariants.{Tail, Head}
 use Rattle.link_chains.specs.declared.wiring.Wiring.{Wiring}
+
+-- the chains of the links by one of their ends
+abbrev pub chains_at : LinkEnd → Wiring → Chains
+chains_at Tail wiring = wiring.from
+chains_at Head wiring = wiring.into
 
 -- the chains of the links that leave each node, and of those that lead into it
 pub record IsWiring (links : List Link) (nodes : ℕ) (wiring : Wiring) : Type 0 where

@@ -1,8 +1,8 @@
 //! The links at both ends of each node.
-ghost use Rattle.std.specs.Prelude.{◌≡◌, if◌then◌else◌, IfOk, length};
-ghost use Rattle.link_chains.specs.Wiring.{IsWiring};
+ghost use Rattle.std.specs.Prelude.{◌≡◌, IfOk, length};
+ghost use Rattle.link_chains.specs.Wiring.{IsWiring, chains_at};
 
-use crate::chains::{Chains, chains_of};
+use crate::chains::{Chains, LinkEnd, chains_of};
 use net_model::Net;
 use std::alloc::{AllocError, Global};
 
@@ -17,16 +17,19 @@ pub struct Wiring {
 pub fn wiring_of(alloc: Global, net: &Net) -> Result<Wiring, AllocError>
     ensures { IfOk result (IsWiring net.now.links (length net.now.nodes)) }
 {
-    let from = chains_of(alloc, net, false)?;
-    let into = chains_of(alloc, net, true)?;
+    let from = chains_of(alloc, net, LinkEnd::Tail)?;
+    let into = chains_of(alloc, net, LinkEnd::Head)?;
     Ok(Wiring { from, into })
 }
 
 impl Wiring {
-    /// The chains of the links that lead into each node (`heads`), or of those that leave it.
-    pub fn chains(&self, heads: bool) -> &Chains
-        ensures { result.now ≡ (if heads then self.now.into else self.now.from) }
+    /// The chains of the links that have an end at each node.
+    pub fn chains(&self, end: LinkEnd) -> &Chains
+        ensures { result.now ≡ chains_at end self.now }
     {
-        if heads { &self.into } else { &self.from }
+        match end {
+            LinkEnd::Tail => &self.from,
+            LinkEnd::Head => &self.into,
+        }
     }
 }

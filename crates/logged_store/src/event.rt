@@ -48,7 +48,8 @@ impl Event {
         buffer: &[u8],
     ) -> Result<Event, AllocError>
         requires { IfOk outcome (λ count. count ≤ length buffer.now) }
-        ensures { IfOk result (λ event. event_of event ≡ read_event path.now at (length buffer.now) outcome buffer.now) }
+        ensures { IfOk result (λ event. event_of event
+            ≡ read_event path.now at (length buffer.now) outcome buffer.now) }
     {
         let path = String::from_str(alloc, path)?;
         let room = buffer.len();

@@ -90,13 +90,15 @@ impl<S: Store> Store for Logged<S> {
 
     ghost more_calls = { logs_then S.calls S.more_calls };
 
-    ghost accounts = { logs_account S.files S.read_faults S.write_faults S.made S.calls S.accounts };
+    ghost accounts = { logs_account
+        S.files S.read_faults S.write_faults S.made S.calls S.accounts };
 
     fn read(&mut self, path: &str, at: u64, into: &mut [u8]) -> Result<usize, Failed>
         requires { at ≤ 2 ^ 41 }
         ensures count { IfOk result (λ n. n ≤ length into.old) }
         ensures rest { IfOk result (λ n. drop n into.new ≡ drop n into.old) }
-        ensures call { LogsCalls S.calls (read_event path.now at (length into.old) result into.new ∷ []) self.old self.new }
+        ensures call { LogsCalls S.calls
+            (read_event path.now at (length into.old) result into.new ∷ []) self.old self.new }
     {
         let outcome = self.inner.read(path, at, into);
         self.keep(Event::of_read(self.alloc, path, at, outcome, into));
@@ -113,7 +115,8 @@ impl<S: Store> Store for Logged<S> {
 
     fn append(&mut self, path: &str, bytes: &[u8]) -> Result<(), Failed>
         requires { S.made (inner_of self.old) path.now }
-        ensures call { LogsCalls S.calls (append_event path.now bytes.now result ∷ []) self.old self.new }
+        ensures call { LogsCalls S.calls
+            (append_event path.now bytes.now result ∷ []) self.old self.new }
     {
         let outcome = self.inner.append(path, bytes);
         self.keep(Event::of_append(self.alloc, path, bytes, outcome));

@@ -3,8 +3,8 @@ use Rattle.std.specs.Prelude.{◌≡◌, ◌<◌, ℕ, Some, length, slice_get, 
 use Rattle.std.proofs.Common.{subst}
 use Rattle.std.proofs.lemmas.Bool.{and_parts, ltb-true}
 use Rattle.std.proofs.lemmas.Option.{get_or_from_slice_get}
+use Rattle.list_laws.proofs.Tests.{passes_at}
 use Rattle.net_model.specs.Network.{is_sink_among}
-use Rattle.net_model.proofs.NetworkLaws.{passes_at}
 use Rattle.net_model.specs.declared.net.Net.{Net}
 
 -- a sink is a node

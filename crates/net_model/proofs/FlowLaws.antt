@@ -7,8 +7,9 @@ use Rattle.std.proofs.lemmas.List.{ext_get_or, length-append}
 use Rattle.std.proofs.lemmas.List.Elements.{All-filter, All-head, All-tail, filter-append}
 use Rattle.std.proofs.lemmas.List.FromFn.{length-range_with_len, get_or-range_with_len}
 use Rattle.net_model.specs.Flows.{FlowNetwork, IsFlow, IsGreatestFlow, IsCut, IsLeastCut, IsSide, IsLeastCrossed, IsLeastSide, is_on, leaves, crossing}
-use Rattle.net_model.proofs.ListLaws.{are_distinct-filter, is_among-filter, is_among-range_with_len, is_rising-filter, length-le_from_is_among, is_among-from_length, same_truth}
-use Rattle.net_model.specs.Lists.{are_distinct, is_among, is_rising}
+use Rattle.std.specs.Cmp.{both_ways as same_truth}
+use Rattle.net_model.proofs.ListLaws.{are_distinct-filter, is_among-filter, is_among-range_with_len, length-le_from_is_among, is_among-from_length}
+use Rattle.net_model.specs.Lists.{are_distinct, is_among}
 use Rattle.net_model.specs.Walks.{IsWalk, head_of, tail_of}
 
 -- each link of a crossing is below the number of links

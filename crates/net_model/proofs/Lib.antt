@@ -5,3 +5,4 @@ pub mod WalkLaws
 pub mod FlowLaws
 pub mod RenumberingLaws
 pub mod RenumberedParts
+pub mod RisingLaws

@@ -1,19 +1,18 @@
 -- Marks on links, and laws of the parts of a network whose links have new numbers.
-use Rattle.std.specs.Prelude.{◌≡◌, ℕ, zero, suc, ◌+◌, ◌<◌, ◌≤◌, Bool, true, false, cond, ◌&&◌, ◌==◌, nat_eq, nat_lt, List, [], ◌∷◌, ◌++◌, length, map, filter, slice_get, slice_index, unwrap_or}
+use Rattle.std.specs.Prelude.{◌≡◌, ℕ, zero, suc, ◌+◌, ◌<◌, ◌≤◌, Bool, true, false, cond, ◌&&◌, ◌==◌, nat_eq, nat_lt, List, [], ◌∷◌, length, map, filter, slice_get, slice_index, unwrap_or}
 use Rattle.std.specs.List.{list_all, list_any, range_with_len}
 use Rattle.std.specs.Str.{bytes_eq}
-use Rattle.std.proofs.Common.{Some, refl, sym, ◌∙◌, ap, subst, get_or, zero-add, inl, inr, arith}
+use Rattle.std.proofs.Common.{Some, refl, sym, ◌∙◌, ap, subst, get_or, inl, inr, arith}
 use Rattle.std.proofs.lemmas.Bool.{and_from, and_parts, or_from, or_parts, or_cases, or_left, not_from_false, not-true, eq-eqb, eqb-true, both_ways, ltb-true, lt-ltb, cases_order, cases_Bool, false_from_ne_true}
-use Rattle.std.proofs.lemmas.List.{get_or-map, length-map, map-id, nil_from_length}
-use Rattle.std.proofs.lemmas.List.FromFn.{filter_of_map_range_with_len_more}
+use Rattle.std.proofs.lemmas.List.{get_or-map, length-map, nil_from_length}
 use Rattle.std.proofs.lemmas.Map.Made.{AllPairs-from_IsDistinct}
 use Rattle.std.proofs.lemmas.Option.{slice_get-get_or, unwrap_or-slice_get}
 use Rattle.std.proofs.lemmas.Slice.Eq.{bytes_eq-Decides}
+use Rattle.list_laws.proofs.Tests.{passes_at}
 use Rattle.net_model.specs.Lists.{are_distinct, is_among, is_rising}
 use Rattle.net_model.proofs.ListLaws.{IsDistinct-from_are_distinct, length-are_distinct}
 use Rattle.net_model.specs.Name.{is_name}
 use Rattle.net_model.specs.Network.{IsNetwork, are_names, are_patterns, is_link_among, is_listed_pattern}
-use Rattle.net_model.proofs.NetworkLaws.{passes_at}
 use Rattle.net_model.proofs.RenumberingLaws.{length-renumbered_links}
 use Rattle.net_model.specs.Renumbering.{HasEachOnce, old_number, renumbered_links, renumbered_pattern, renumbered_set}
 use Rattle.net_model.specs.declared.Link.{Link}
@@ -64,12 +63,6 @@ is_rising-filter_range p start (suc n) =
     by : (later : List ℕ) (b : Bool) → list_all (nat_lt start) later ≡ true → is_rising later ≡ true → is_rising (cond b (start ∷ later) later) ≡ true
     by later true above rising = and_from _ _ above rising
     by later false above rising = rising
-
--- the numbers below the next bound that pass a test
-pub filter-range_more : (p : ℕ → Bool) (n : ℕ) → filter p (range_with_len 0 (n + 1)) ≡ filter p (range_with_len 0 n) ++ cond (p n) (n ∷ []) []
-filter-range_more p n =
-    ap (filter p) (sym (map-id (range_with_len 0 (n + 1)))) ∙ filter_of_map_range_with_len_more p (λ (k : ℕ). k) 0 n n (zero-add n)
-    ∙ ap (λ (numbers : List ℕ). filter p numbers ++ cond (p n) (n ∷ []) []) (map-id (range_with_len 0 n))
 
 -- a number of a range that passes a test is among those that do
 pub some-filter_range : (p : ℕ → Bool) (start n number : ℕ) → start ≤ number → number < start + n → p number ≡ true → 0 < length (filter p (range_with_len start n))

@@ -1,23 +1,24 @@
 -- Laws of new numbers of links: they lead back, and paths, flows, cuts and cycles keep to them.
 use Rattle.std.specs.Prelude.{◌≡◌, ◌<◌, ◌≤◌, ◌-◌, ℕ, Bool, true, false, ◌&&◌, nat_eq, nat_lt, List, [], ◌∷◌, ◌++◌, length, map, slice_get, slice_index, All, Option, Some, unwrap_or}
-use Rattle.std.specs.List.{list_any, position_or_len, range_with_len, concat, IsDistinct}
+use Rattle.std.specs.List.{list_any, range_with_len, concat, IsDistinct}
 use Rattle.std.specs.Option.{option_map, option_map_or}
 use Rattle.std.proofs.Common.{refl, sym, ◌∙◌, ap, get_or, arith, inl, inr}
-use Rattle.std.proofs.lemmas.Bool.{cases_lt, cases_eq, both_ways, eqb-true, eq-eqb, ne_eqb, ltb-true, or_cases, or_left, or_right, true_from_ne_false}
+use Rattle.std.proofs.lemmas.Bool.{cases_eq, both_ways, eqb-true, eq-eqb, ne_eqb, ltb-true, or_cases, or_left, or_right, true_from_ne_false}
 use Rattle.std.proofs.Math.Bool.{and-true}
 use Rattle.std.proofs.Math.Nat.{zero-add}
 use Rattle.std.proofs.lemmas.List.{length-map, map-append, get_or-map}
 use Rattle.std.proofs.lemmas.List.Elements.{All-nil, All-head, All-tail, All-append, All-map, All-weaker}
-use Rattle.std.proofs.lemmas.List.Folds.{list_any_at, list_any_none}
+use Rattle.std.proofs.lemmas.List.Folds.{list_any_at}
 use Rattle.std.proofs.lemmas.List.FromFn.{length-range_with_len, get_or-range_with_len}
-use Rattle.std.proofs.lemmas.List.Sums.{AllPass-from_list_all, fails_before_first, passes_at_first, position_or_len_is}
+use Rattle.std.proofs.lemmas.List.Sums.{AllPass-from_list_all, passes_at_first, position_or_len_is}
 use Rattle.std.proofs.lemmas.Map.Keys.{IsDistinct-cons, apart_from_distinct}
 use Rattle.std.proofs.lemmas.Map.Steps.{length-le_from_distinct_below}
 use Rattle.std.proofs.lemmas.Map.Views.{any-filter_same}
 use Rattle.std.proofs.lemmas.Option.{slice_get-map, slice_get-get_or}
+use Rattle.list_laws.proofs.Tests.{below_bound, none_passes, position_or_len-within}
 use Rattle.net_model.specs.Failed.{failed_links, is_failed_in}
 use Rattle.net_model.specs.Flows.{FlowNetwork, IsCut, IsFlow, IsLeastCut, IsPath, flow_network}
-use Rattle.net_model.proofs.ListLaws.{IsDistinct-from_are_distinct, below_bound, none_passes}
+use Rattle.net_model.proofs.ListLaws.{IsDistinct-from_are_distinct}
 use Rattle.net_model.specs.Lists.{are_distinct, is_among}
 use Rattle.net_model.specs.Renumbering.{HasEachOnce, new_number, old_number, renumbered_links, renumbered_network, renumbered_pattern, renumbered_set}
 use Rattle.net_model.proofs.WalkLaws.{IsWalk-below}
@@ -42,13 +43,6 @@ stands {bound} {order} once link within =
       | inr later ↦ below_bound order bound number once.below later
     ]) in
     absurd (omega (arith, few, once.whole)))
-
--- a list in which an item passes has a first place at which one does
-position_or_len-within : {X : Type 0} (test : X → Bool) (xs : List X) → list_any test xs ≡ true → position_or_len test xs < length xs
-position_or_len-within test xs found = elim (cases_lt (position_or_len test xs) (length xs)) [
-  | inl within ↦ within
-  | inr past ↦ absurd (both_ways _ (list_any_none test xs (λ k d inside. fails_before_first test xs k d (omega arith))) found)
-]
 
 -- the new number of a link is one
 pub new_number-below : {bound : ℕ} {order : List ℕ} → HasEachOnce bound order → (link : ℕ) → link < bound → new_number order link < length order

@@ -8,7 +8,7 @@ mod net;
 mod renumbering;
 mod sharing;
 
-pub use limits::{LONGEST_NAME, MOST_LINKS, MOST_NODES, MOST_PATTERNS};
+pub use limits::{HIGHEST_RATE, LONGEST_NAME, MOST_LINKS, MOST_LISTED, MOST_NODES, MOST_PATTERNS};
 pub use lists::{LinkList, LinkTable, NameList, NodeList, Paths, PatternList, Side};
 pub use name::{Name, NameFault, is_name};
 pub use net::{FieldChoice, Net};

@@ -82,7 +82,9 @@ fn marked_places(
 ) -> Result<LinkList, AllocError>
     requires order { HasEachOnce (length marks.now) order.now }
     requires few { length marks.now ≤ most_links }
-    ensures { IfOk result (λ places. places ≡ filter (λ new. slice_index_or marks.now (slice_index order.now new) false) (range_with_len 0 (length order.now))) }
+    ensures { IfOk result (λ places. places
+        ≡ filter (λ new. slice_index_or marks.now (slice_index order.now new) false)
+        (range_with_len 0 (length order.now))) }
 {
     let mut places = Vec::with_capacity(alloc, count)?;
     for (place, old) in order.iter().enumerate() {

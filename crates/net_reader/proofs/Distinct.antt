@@ -4,7 +4,7 @@ use Rattle.std.specs.List.{list_all, list_any}
 use Rattle.std.specs.Str.{bytes_eq}
 use Rattle.std.proofs.lemmas.List.Folds.{list_any-append}
 use Rattle.net_model.specs.Lists.{are_distinct}
-use Rattle.net_model.proofs.ListLaws.{bytes_eq-swap}
+use Rattle.std.proofs.lemmas.Cmp.{nat_list_eq_equiv}
 use Rattle.name_index.specs.Seen.{has}
 
 -- none of the names has been seen
@@ -32,7 +32,7 @@ new_more : (seen : List (List ℕ)) (x : List ℕ) (rest : List (List ℕ)) → 
 new_more seen x [] = refl
 new_more seen x (y ∷ rest) =
     (λ i. not (list_any-append (bytes_eq y) seen (x ∷ []) i) && new_more seen x rest i)
-    ∙ (λ i. not (has seen y || (bytes_eq-swap y x i || false)) && (are_new seen rest && not (list_any (bytes_eq x) rest)))
+    ∙ (λ i. not (has seen y || (nat_list_eq_equiv.symm y x i || false)) && (are_new seen rest && not (list_any (bytes_eq x) rest)))
     ∙ four (has seen y) (bytes_eq x y) (are_new seen rest) (list_any (bytes_eq x) rest)
 
 three : (a n d : Bool) → (a && (n && d)) ≡ ((a && n) && d)

@@ -5,12 +5,12 @@ use Rattle.std.specs.Str.{bytes_eq}
 use Rattle.std.proofs.Common.{refl, ap, ◌∙◌, append-nil, arith}
 use Rattle.std.proofs.lemmas.Bool.{and_parts, and_from, not-false, not_from_false, ltb-false, lt-ltb}
 use Rattle.std.proofs.lemmas.List.{length-append}
-use Rattle.std.proofs.lemmas.List.Concat.{flat_map-append}
 use Rattle.std.proofs.lemmas.List.Folds.{list_all-append}
 use Rattle.net_model.specs.Lists.{are_distinct}
 use Rattle.net_model.specs.Name.{is_name}
 use Rattle.net_model.specs.Network.{are_names}
 use Rattle.net_reader.specs.Lines.{content_of, is_text, words_of}
+use Rattle.net_reader.proofs.Pushes.{flat_nodes-push, link_names-push, pattern_names-push, sink_names-push}
 use Rattle.net_reader.proofs.NameLaws.{are_distinct-more, are_names-more, all_have-more}
 use Rattle.name_index.specs.Seen.{has, distinct_from}
 use Rattle.net_reader.specs.Statements.{Statement, field_is, source_is, sink_is, link_is, pattern_is, field_of, source_of, sink_of, link_of, pattern_of, statement_of, nodes_in, link_names, pattern_names, sink_names, nodes_of, faults_of, refused_first, read_words, read_line}
@@ -58,30 +58,10 @@ AreGood-none = record {
   few_patterns = omega arith;
 }
 
--- ---- what is in statements with one more
-
-link_names-more : (earlier : List Statement) (statement : Statement) → link_names (earlier ++ statement ∷ []) ≡ link_names earlier ++ link_names (statement ∷ [])
-link_names-more [] statement = refl
-link_names-more (link_is name tail head ∷ earlier) statement = ap (λ (names : List (List ℕ)). name ∷ names) (link_names-more earlier statement)
-link_names-more (first ∷ earlier) statement = link_names-more earlier statement
-
-pattern_names-more : (earlier : List Statement) (statement : Statement) → pattern_names (earlier ++ statement ∷ []) ≡ pattern_names earlier ++ pattern_names (statement ∷ [])
-pattern_names-more [] statement = refl
-pattern_names-more (pattern_is name links ∷ earlier) statement = ap (λ (names : List (List ℕ)). name ∷ names) (pattern_names-more earlier statement)
-pattern_names-more (first ∷ earlier) statement = pattern_names-more earlier statement
-
-sink_names-more : (earlier : List Statement) (statement : Statement) → sink_names (earlier ++ statement ∷ []) ≡ sink_names earlier ++ sink_names (statement ∷ [])
-sink_names-more [] statement = refl
-sink_names-more (sink_is node ∷ earlier) statement = ap (λ (names : List (List ℕ)). node ∷ names) (sink_names-more earlier statement)
-sink_names-more (first ∷ earlier) statement = sink_names-more earlier statement
-
-nodes_in-more : (earlier : List Statement) (statement : Statement) → flat_map nodes_in (earlier ++ statement ∷ []) ≡ flat_map nodes_in earlier ++ nodes_in statement
-nodes_in-more earlier statement = flat_map-append nodes_in earlier (statement ∷ []) ∙ ap (λ (names : List (List ℕ)). flat_map nodes_in earlier ++ names) (append-nil (nodes_in statement))
-
 -- a statement without nodes adds none
 nodes_of-same : (earlier : List Statement) (statement : Statement) → nodes_in statement ≡ [] → nodes_of (earlier ++ statement ∷ []) ≡ nodes_of earlier
 nodes_of-same earlier statement none =
-    ap (λ (names : List (List ℕ)). distinct_from [] names) (nodes_in-more earlier statement ∙ ap (λ (names : List (List ℕ)). flat_map nodes_in earlier ++ names) none ∙ append-nil (flat_map nodes_in earlier))
+    ap (λ (names : List (List ℕ)). distinct_from [] names) (flat_nodes-push earlier statement ∙ ap (λ (names : List (List ℕ)). flat_map nodes_in earlier ++ names) none ∙ append-nil (flat_map nodes_in earlier))
 
 -- what is whole stays so with more links
 whole-more : (names more : List (List ℕ)) (statement : Statement) → is_whole names statement ≡ true → is_whole (names ++ more) statement ≡ true
@@ -156,16 +136,16 @@ module _ (earlier : List Statement) (line : ℕ) (good : AreGood earlier) where
   -- so statements with one more are good
   pub AreGood-more : (statement : Statement) → has_links statement ≡ true → NoneHolds (faults_of earlier line statement) → AreGood (earlier ++ statement ∷ [])
   AreGood-more statement linked none = record {
-    nodes_named = rw (nodes_in-more earlier statement) (list_all-append is_name (flat_map nodes_in earlier) (nodes_in statement) ∙ and_from _ _ good.nodes_named (nodes_named-more statement none));
-    links_named = rw (link_names-more earlier statement) (links_named-more statement none);
-    sinks_distinct = rw (sink_names-more earlier statement) (sinks_distinct-more statement none);
-    patterns_named = rw (pattern_names-more earlier statement) (patterns_named-more statement none);
-    each_whole = rw (link_names-more earlier statement)
+    nodes_named = rw (flat_nodes-push earlier statement) (list_all-append is_name (flat_map nodes_in earlier) (nodes_in statement) ∙ and_from _ _ good.nodes_named (nodes_named-more statement none));
+    links_named = rw (link_names-push earlier statement) (links_named-more statement none);
+    sinks_distinct = rw (sink_names-push earlier statement) (sinks_distinct-more statement none);
+    patterns_named = rw (pattern_names-push earlier statement) (patterns_named-more statement none);
+    each_whole = rw (link_names-push earlier statement)
         (all_whole-more (link_names earlier) (link_names (statement ∷ [])) (earlier ++ statement ∷ [])
         (list_all-append (is_whole (link_names earlier)) earlier (statement ∷ []) ∙ and_from _ _ good.each_whole (and_from _ _ (whole_after statement linked none) refl)));
     few_nodes = few_nodes-more statement none;
-    few_links = rw (link_names-more earlier statement) (few_links-more statement none);
-    few_patterns = rw (pattern_names-more earlier statement) (few_patterns-more statement none);
+    few_links = rw (link_names-push earlier statement) (few_links-more statement none);
+    few_patterns = rw (pattern_names-push earlier statement) (few_patterns-more statement none);
   }
 
 -- ---- what words say

@@ -1,6 +1,6 @@
 -- Names among names: their numbers, and names each where it stands first.
-use Rattle.std.specs.Prelude.{◌≡◌, ℕ, zero, suc, ◌+◌, ◌<◌, ◌≤◌, Bool, true, false, not, ◌||◌, nat_eq, nat_lt, List, [], ◌∷◌, ◌++◌, length, map, filter, Some, None, cond, unwrap_or, if◌then◌else◌}
-use Rattle.std.specs.List.{list_all, list_any, prefix_len, position_or_len, range_with_len}
+use Rattle.std.specs.Prelude.{◌≡◌, ℕ, zero, suc, ◌+◌, ◌<◌, ◌≤◌, Bool, true, false, nat_eq, nat_lt, List, [], ◌∷◌, ◌++◌, length, map, filter, Some, None, cond, unwrap_or, if◌then◌else◌}
+use Rattle.std.specs.List.{list_all, list_any, position_or_len, range_with_len}
 use Rattle.std.specs.Str.{bytes_eq}
 use Rattle.std.proofs.Common.{refl, sym, subst, ap, ◌∙◌, get_or, arith}
 use Rattle.std.proofs.lemmas.Bool.{false≢true, and_parts, and_from, or_parts, or_from, or_left, or_right, not-true, not_from_false, false_from_ne_true, eqb-true, lt-ltb}
@@ -8,7 +8,8 @@ use Rattle.std.proofs.lemmas.List.Folds.{list_any-append, list_all-append}
 use Rattle.std.proofs.lemmas.List.Sums.{passes_at_first}
 use Rattle.std.proofs.lemmas.Slice.Eq.{bytes_eq-Decides}
 use Rattle.net_model.specs.Lists.{are_distinct, is_rising}
-use Rattle.net_model.proofs.ListLaws.{bytes_eq-swap}
+use Rattle.std.proofs.lemmas.Cmp.{nat_list_eq_equiv}
+use Rattle.list_laws.proofs.Tests.{position_or_len-within}
 use Rattle.net_model.specs.Name.{is_name}
 use Rattle.net_model.specs.Network.{are_names, is_sink_among}
 use Rattle.name_index.specs.Seen.{has, distinct_from}
@@ -27,7 +28,7 @@ are_distinct-more (first ∷ names) name distinct is_new =
     let parts = and_parts _ _ distinct in
     let apart = or_parts (bytes_eq name first) (has names name) is_new in
     and_from _ _
-    (not_from_false _ (list_any-append (bytes_eq first) names (name ∷ []) ∙ or_from _ _ (not-true _ parts.0) (or_from _ _ (bytes_eq-swap first name ∙ apart.0) refl)))
+    (not_from_false _ (list_any-append (bytes_eq first) names (name ∷ []) ∙ or_from _ _ (not-true _ parts.0) (or_from _ _ (nat_list_eq_equiv.symm first name ∙ apart.0) refl)))
     (are_distinct-more names name parts.1 apart.1)
 
 -- so they are names, where it's a name
@@ -94,32 +95,22 @@ distinct_from-has seen (name ∷ names) =
 
 -- ---- numbers of names
 
--- where an item passes a test, one is the first
-passes_within : (test : List ℕ → Bool) (names : List (List ℕ)) → list_any test names ≡ true → position_or_len test names < length names
-passes_within test [] any = absurd (false≢true any)
-passes_within test (name ∷ names) any = either (test name) any (λ later. passes_within test names later)
-  where
-    either : (b : Bool) → (b || list_any test names) ≡ true → (list_any test names ≡ true → position_or_len test names < length names)
-        → cond (not b) (1 + prefix_len (λ x. not (test x)) names) 0 < length (name ∷ names)
-    either true any rest = omega arith
-    either false any rest = omega (arith, rest any)
-
 module _ (names : List (List ℕ)) where
   -- the number of a name is its place
   number_is : (name : List ℕ) → has names name ≡ true → number_in names name ≡ position_or_len (bytes_eq name) names
   number_is name here =
       let place = position_or_len (bytes_eq name) names in
-      ap (λ (b : Bool). unwrap_or (cond b (Some place) None) 0) (lt-ltb place (length names) (passes_within (bytes_eq name) names here))
+      ap (λ (b : Bool). unwrap_or (cond b (Some place) None) 0) (lt-ltb place (length names) (position_or_len-within (bytes_eq name) names here))
 
   -- the number of one of the names is below their count
   pub number_below : (name : List ℕ) → has names name ≡ true → number_in names name < length names
-  number_below name here = rw (number_is name here) (passes_within (bytes_eq name) names here)
+  number_below name here = rw (number_is name here) (position_or_len-within (bytes_eq name) names here)
 
   -- there stands the name
   pub name_at : (name : List ℕ) → has names name ≡ true → name ≡ get_or names (number_in names name) []
   name_at name here =
       let place = position_or_len (bytes_eq name) names in
-      (bytes_eq-Decides name (get_or names place [])).0 (passes_at_first (bytes_eq name) names [] (passes_within (bytes_eq name) names here))
+      (bytes_eq-Decides name (get_or names place [])).0 (passes_at_first (bytes_eq name) names [] (position_or_len-within (bytes_eq name) names here))
       ∙ ap (λ (n : ℕ). get_or names n []) (sym (number_is name here))
 
   -- two names have two numbers
@@ -137,7 +128,7 @@ module _ (names : List (List ℕ)) where
       let parts = and_parts _ _ all in
       let others = or_parts (bytes_eq source sink) (has sinks source) apart in
       and_from _ _
-      (and_from _ _ (lt-ltb _ _ (number_below sink parts.0)) (not_from_false _ (numbers_apart sink source parts.0 has_source (bytes_eq-swap sink source ∙ others.0))))
+      (and_from _ _ (lt-ltb _ _ (number_below sink parts.0)) (not_from_false _ (numbers_apart sink source parts.0 has_source (nat_list_eq_equiv.symm sink source ∙ others.0))))
       (sinks_among source sinks has_source parts.1 others.1)
 
   -- a number is none of those of other names

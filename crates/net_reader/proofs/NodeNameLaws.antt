@@ -1,20 +1,17 @@
 -- The names of the nodes of a text are names, and a sink that is the source has one.
-use Rattle.std.specs.Prelude.{◌≡◌, ℕ, ◌+◌, ◌<◌, ◌≤◌, Bool, true, false, List, [], ◌∷◌, ◌++◌, length, Option, Some, None, Result, Ok, Err, IfOk, IfErr, IsSome, slice_get, unwrap_or, if◌then◌else◌}
+use Rattle.std.specs.Prelude.{◌≡◌, ℕ, ◌≤◌, true, List, [], length, Option, Some, None, Result, Ok, Err, IfOk, slice_get, unwrap_or}
 use Rattle.std.specs.List.{flat_map, list_all}
 use Rattle.std.proofs.Common.{arith, refl, subst}
 use Rattle.std.proofs.lemmas.Bool.{and_parts, leb-true}
-use Rattle.std.proofs.lemmas.Option.{slice_get-get_or, slice_get_within}
+use Rattle.std.proofs.lemmas.Option.{slice_get_within}
 use Rattle.net_model.specs.Name.{is_name, IsName}
 use Rattle.net_model.proofs.NetworkLaws.{node_name}
 use Rattle.net_reader.proofs.GoodLaws.{AreGood, AreGood-none, read_lines-good}
-use Rattle.net_reader.specs.Lines.{content_of, is_text, lines_of, words_of}
-use Rattle.net_reader.proofs.NameLaws.{distinct_from-are_names, number_below}
-use Rattle.name_index.specs.Seen.{has}
-use Rattle.net_reader.specs.Statements.{Statement, field_is, source_is, sink_is, link_is, pattern_is, faults_of, nodes_in, nodes_of, read_line, read_words, refused_first, sink_names, source_names, statement_of}
-use Rattle.net_reader.specs.Text.{and_then, names_read, network_of, node_names_of, number_in, parts_in, read_lines, whole_in, whole_of}
-use Rattle.net_reader.proofs.TextLaws.{source_among}
+use Rattle.net_reader.specs.Lines.{lines_of}
+use Rattle.net_reader.proofs.NameLaws.{distinct_from-are_names}
+use Rattle.net_reader.specs.Statements.{Statement, nodes_in}
+use Rattle.net_reader.specs.Text.{names_read, node_names_of, read_lines}
 use Rattle.net_reader.specs.declared.refusal.ReadRefusal.{ReadRefusal}
-use Rattle.net_reader.specs.declared.refusal.ReadRefusal.TheVariants.{BadByte, BadLine, SinkIsSource}
 
 -- ---- what a line is refused for
 

@@ -1,27 +1,19 @@
 -- Numbers of links among names.
-use Rattle.std.proofs.Common.{◌≡◌, ℕ, zero, suc, ◌+◌, ◌<◌, Bool, true, false, List, [], ◌∷◌, ◌++◌, length, map, filter, slice_index_or, if◌then◌else◌, refl, ap, sym, ◌∙◌, zero-add, add-one, subst, arith}
+use Rattle.std.proofs.Common.{◌≡◌, ℕ, zero, suc, ◌+◌, ◌<◌, Bool, true, false, List, [], ◌∷◌, ◌++◌, length, filter, slice_index_or, if◌then◌else◌, cond, refl, ap, sym, ◌∙◌, add-one, subst, arith}
 use Rattle.std.specs.List.{range_with_len}
 use Rattle.std.proofs.lemmas.List.{append-nil}
-use Rattle.std.proofs.lemmas.List.Elements.{filter-append}
-use Rattle.std.proofs.lemmas.List.FromFn.{map-range_with_len_more}
+use Rattle.list_laws.proofs.Ranges.{filter-range_more}
 use Rattle.net_reader.specs.Marks.{AreMarks}
 use Rattle.net_reader.specs.Text.{numbers_of}
 use Rattle.name_index.specs.Seen.{has}
 
-same_map : (l : List ℕ) → map (λ n. n) l ≡ l
-same_map [] = refl
-same_map (x ∷ l) = ap (λ (rest : List ℕ). x ∷ rest) (same_map l)
-
-range_more : (i : ℕ) → range_with_len 0 (i + 1) ≡ range_with_len 0 i ++ i ∷ []
-range_more i = sym (same_map (range_with_len 0 (i + 1))) ∙ map-range_with_len_more (λ (n : ℕ). n) 0 i i (zero-add i) ∙ ap (λ (l : List ℕ). l ++ i ∷ []) (same_map (range_with_len 0 i))
-
 module _ (p : ℕ → Bool) (i : ℕ) where
-  one_more : (b : Bool) → p i ≡ b → filter p (range_with_len 0 i) ++ filter p (i ∷ []) ≡ (if b then filter p (range_with_len 0 i) ++ i ∷ [] else filter p (range_with_len 0 i))
+  one_more : (b : Bool) → p i ≡ b → filter p (range_with_len 0 i) ++ cond (p i) (i ∷ []) [] ≡ (if b then filter p (range_with_len 0 i) ++ i ∷ [] else filter p (range_with_len 0 i))
   one_more true e = rw e refl
   one_more false e = rw e (append-nil (filter p (range_with_len 0 i)))
 
   pub filter_range_more : (b : Bool) → p i ≡ b → filter p (range_with_len 0 (i + 1)) ≡ (if b then filter p (range_with_len 0 i) ++ i ∷ [] else filter p (range_with_len 0 i))
-  filter_range_more b e = ap (filter p) (range_more i) ∙ filter-append p (range_with_len 0 i) (i ∷ []) ∙ one_more b e
+  filter_range_more b e = filter-range_more p i ∙ one_more b e
 
 -- the numbers that pass, where two tests agree below a limit
 filter_same : (p q : ℕ → Bool) (n : ℕ) → ((i : ℕ) → i < n → p i ≡ q i) → filter p (range_with_len 0 n) ≡ filter q (range_with_len 0 n)

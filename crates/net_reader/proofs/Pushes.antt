@@ -50,7 +50,8 @@ distinct_from-append : (seen xs ys : List (List ℕ)) → distinct_from seen (xs
 distinct_from-append seen [] ys = refl
 distinct_from-append seen (x ∷ xs) ys = distinct_from-append (if has seen x then seen else seen ++ x ∷ []) xs ys
 
-flat_nodes-push : (statements : List Statement) (more : Statement) → flat_map nodes_in (statements ++ more ∷ []) ≡ flat_map nodes_in statements ++ nodes_in more
+-- the names of nodes with those of a statement more
+pub flat_nodes-push : (statements : List Statement) (more : Statement) → flat_map nodes_in (statements ++ more ∷ []) ≡ flat_map nodes_in statements ++ nodes_in more
 flat_nodes-push statements more = flat_map-append nodes_in statements (more ∷ []) ∙ ap (λ l. flat_map nodes_in statements ++ l) (append-nil (nodes_in more))
 
 -- the nodes with those of a statement more

@@ -1,5 +1,6 @@
 -- What the reader keeps of the statements so far.
 use Rattle.std.specs.Prelude.{◌≡◌, ◌≤◌, ℕ, length, List, [], ◌∷◌, ◌++◌, map, option_to_list, Result, Ok, OnOk}
+use Rattle.net_model.specs.Limits.{most_links, most_nodes}
 use Rattle.net_reader.specs.declared.refusal.ReadRefusal.{ReadRefusal}
 use Rattle.net_reader.specs.declared.state.State.{State}
 use Rattle.net_reader.specs.Gives.{Gives}
@@ -19,8 +20,8 @@ pub record AreTables (statements : List Statement) (state : State) : Type 0 wher
   pub sinks : state.sinks ≡ sink_names statements
   pub source : map (λ name. name.now) (option_to_list state.source) ≡ source_names statements
   pub field : option_to_list state.field ≡ field_bits statements
-  pub few_nodes : length state.nodes ≤ 4096
-  pub few_links : length state.links ≤ 8192
+  pub few_nodes : length state.nodes ≤ most_nodes
+  pub few_links : length state.links ≤ most_links
 
 -- the tables of the state are those of its statements
 abbrev pub IsState : State → Type 0

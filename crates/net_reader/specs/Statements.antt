@@ -1,8 +1,9 @@
 -- What a line of a network text says, and what is wrong with it in view of the lines before.
-use Rattle.std.specs.Prelude.{ℕ, Bool, not, ◌||◌, nat_lt, List, [], ◌∷◌, ◌++◌, length, codes, Option, Some, None, Result, Ok, Err, if◌then◌else◌}
+use Rattle.std.specs.Prelude.{ℕ, Bool, not, ◌||◌, nat_le, nat_lt, List, [], ◌∷◌, ◌++◌, length, codes, Option, Some, None, Result, Ok, Err, if◌then◌else◌}
 use Rattle.std.specs.List.{flat_map, list_all}
 use Rattle.std.specs.Str.{bytes_eq}
 use Rattle.name_index.specs.Seen.{has, distinct_from}
+use Rattle.net_model.specs.Limits.{most_links, most_listed, most_nodes}
 use Rattle.net_model.specs.Lists.{are_distinct}
 use Rattle.net_model.specs.Name.{is_name}
 use Rattle.net_reader.specs.Lines.{content_of, is_text, words_of}
@@ -91,7 +92,7 @@ nodes_of statements = distinct_from [] (flat_map nodes_in statements)
 
 -- with this statement there are too many nodes
 abbrev pub too_many_nodes : List Statement → Statement → Bool
-too_many_nodes earlier statement = nat_lt 4096 (length (nodes_of (earlier ++ statement ∷ [])))
+too_many_nodes earlier statement = nat_lt most_nodes (length (nodes_of (earlier ++ statement ∷ [])))
 
 -- whether a fault is there, and the refusal that it is
 abbrev pub Fault : Type 0
@@ -115,13 +116,13 @@ faults_of earlier line (link_is name tail head) =
     ∷ (has (link_names earlier) name, DuplicateLink line)
     ∷ (bytes_eq tail head, SelfLoop line)
     ∷ (too_many_nodes earlier (link_is name tail head), TooMany line Nodes)
-    ∷ (nat_lt 8191 (length (link_names earlier)), TooMany line Links) ∷ []
+    ∷ (nat_le most_links (length (link_names earlier)), TooMany line Links) ∷ []
 faults_of earlier line (pattern_is name links) =
     (not (list_all is_name (name ∷ links)), BadName line)
     ∷ (bytes_eq name (codes "none") || has (pattern_names earlier) name, DuplicatePattern line)
     ∷ (not (list_all (has (link_names earlier)) links), UnknownLink line)
     ∷ (not (are_distinct bytes_eq links), RepeatedLink line)
-    ∷ (nat_lt 4094 (length (pattern_names earlier)), TooMany line Patterns) ∷ []
+    ∷ (nat_le most_listed (length (pattern_names earlier)), TooMany line Patterns) ∷ []
 
 -- what lines say, or the refusal
 abbrev pub Heard : Type 0

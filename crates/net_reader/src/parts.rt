@@ -2,6 +2,7 @@
 ghost use Rattle.std.specs.Prelude.{◌≡◌, ◌≤◌, length, map, option_to_list, OnOk, IfOk, IsOkUnless};
 ghost use Rattle.std.specs.List.{IsDistinct};
 ghost use Rattle.std.specs.Str.{bytes_eq};
+ghost use Rattle.net_model.specs.Limits.{most_links, most_nodes};
 ghost use Rattle.net_reader.specs.Marks.{AreMarks, AddsMark, marked_in};
 ghost use Rattle.net_reader.specs.Added.{AddsIf, AddsLink, AddsPattern};
 ghost use Rattle.net_reader.specs.Said.{statement_in};
@@ -55,7 +56,7 @@ pub(crate) fn name_list(alloc: Global, words: &[&[u8]]) -> Result<NameList, Read
 
 /// The number of a node.
 pub(crate) fn number(nodes: &Names, name: &[u8]) -> u32
-    requires { length nodes.now ≤ 4096 }
+    requires { length nodes.now ≤ most_nodes }
     ensures { result ≡ number_in nodes.now name.now }
 {
     match nodes.number_of(name) {
@@ -70,7 +71,7 @@ pub(crate) fn sink_list(
     nodes: &Names,
     sinks: &[&[u8]],
 ) -> Result<NodeList, ReadRefusal>
-    requires { length nodes.now ≤ 4096 }
+    requires { length nodes.now ≤ most_nodes }
     ensures gives { IfOk result (λ list. list ≡ map (number_in nodes.now) (texts_of sinks.now)) }
     ensures refused { IsOkUnless result OutOfMemory }
 {
@@ -88,7 +89,7 @@ fn add_link(
     links: &mut Vec<Link>,
     said: &Said,
 ) -> Result<(), ReadRefusal>
-    requires { length nodes.now ≤ 4096 }
+    requires { length nodes.now ≤ most_nodes }
     ensures gives { AddsLink result nodes.now links.old links.new (statement_in said.now) }
     ensures refused { IsOkUnless result OutOfMemory }
 {
@@ -113,7 +114,7 @@ pub(crate) fn link_table(
     nodes: &Names,
     said: &[Said],
 ) -> Result<LinkTable, ReadRefusal>
-    requires { length nodes.now ≤ 4096 }
+    requires { length nodes.now ≤ most_nodes }
     ensures gives { IfOk result (λ links. links ≡ links_of nodes.now (map statement_in said.now)) }
     ensures refused { IsOkUnless result OutOfMemory }
 {
@@ -161,7 +162,7 @@ fn marked(alloc: Global, links: &Names, words: &[&[u8]]) -> Result<Vec<bool>, Re
 
 // The numbers of the marks, in rising order.
 fn numbers_marked(alloc: Global, marks: &[bool]) -> Result<LinkList, ReadRefusal>
-    requires { length marks.now ≤ 8192 }
+    requires { length marks.now ≤ most_links }
     ensures gives { IfOk result (λ numbers. numbers ≡ marked_in marks.now) }
     ensures refused { IsOkUnless result OutOfMemory }
 {
@@ -174,7 +175,7 @@ fn numbers_marked(alloc: Global, marks: &[bool]) -> Result<LinkList, ReadRefusal
 
 // The links that words name, in rising order.
 fn failed(alloc: Global, links: &Names, words: &[&[u8]]) -> Result<LinkList, ReadRefusal>
-    requires { length links.now ≤ 8192 }
+    requires { length links.now ≤ most_links }
     ensures gives { IfOk result (λ failed. failed ≡ numbers_of links.now (texts_of words.now)) }
     ensures refused { IsOkUnless result OutOfMemory }
 {
@@ -189,7 +190,7 @@ fn add_pattern(
     patterns: &mut Vec<Pattern>,
     said: &Said,
 ) -> Result<(), ReadRefusal>
-    requires { length links.now ≤ 8192 }
+    requires { length links.now ≤ most_links }
     ensures gives { AddsPattern result links.now patterns.old patterns.new (statement_in said.now) }
     ensures refused { IsOkUnless result OutOfMemory }
 {
@@ -213,7 +214,7 @@ pub(crate) fn pattern_list(
     links: &Names,
     said: &[Said],
 ) -> Result<PatternList, ReadRefusal>
-    requires { length links.now ≤ 8192 }
+    requires { length links.now ≤ most_links }
     ensures gives { IfOk result (λ all. all ≡ pattern_table links.now (map statement_in said.now)) }
     ensures refused { IsOkUnless result OutOfMemory }
 {

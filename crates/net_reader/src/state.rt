@@ -10,7 +10,7 @@ use crate::names::{are_distinct, are_names, has_all};
 use crate::statements::Said;
 use crate::{ReadRefusal, What};
 use name_index::Names;
-use net_model::is_name;
+use net_model::{MOST_LINKS, MOST_LISTED, MOST_NODES, is_name};
 use std::alloc::Global;
 
 /// The name of the pattern without links.
@@ -78,7 +78,7 @@ pub(crate) fn note_source<'a>(
         return Err(ReadRefusal::SecondSource { line });
     }
     state.nodes.add(node)?;
-    if state.nodes.len() > 4096 {
+    if state.nodes.len() > MOST_NODES {
         return Err(ReadRefusal::TooMany {
             line,
             what: What::Nodes,
@@ -107,7 +107,7 @@ pub(crate) fn note_sink<'a>(
         return Err(ReadRefusal::DuplicateSink { line });
     }
     state.nodes.add(node)?;
-    if state.nodes.len() > 4096 {
+    if state.nodes.len() > MOST_NODES {
         return Err(ReadRefusal::TooMany {
             line,
             what: What::Nodes,
@@ -148,13 +148,13 @@ pub(crate) fn note_link<'a>(
     }
     state.nodes.add(tail)?;
     state.nodes.add(head)?;
-    if state.nodes.len() > 4096 {
+    if state.nodes.len() > MOST_NODES {
         return Err(ReadRefusal::TooMany {
             line,
             what: What::Nodes,
         });
     }
-    if state.links.len() > 8192 {
+    if state.links.len() > MOST_LINKS {
         return Err(ReadRefusal::TooMany {
             line,
             what: What::Links,
@@ -192,7 +192,7 @@ pub(crate) fn note_pattern<'a>(
     if !are_distinct(alloc, links)? {
         return Err(ReadRefusal::RepeatedLink { line });
     }
-    if state.patterns.len() > 4095 {
+    if state.patterns.len() > MOST_LISTED {
         return Err(ReadRefusal::TooMany {
             line,
             what: What::Patterns,

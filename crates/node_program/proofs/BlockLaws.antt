@@ -11,7 +11,7 @@ use Rattle.linear_algebra.proofs.MatrixLaws.{identity-AreRows, length-identity, 
 use Rattle.linear_algebra.proofs.RowLaws.{AreRows-from_All, AreRows-widths, AreRows-elements, AreRows-map-scale_row, length-add_rows, length-scale_row}
 use Rattle.linear_algebra.specs.Rows.{scale_row, unit_row, AreRows}
 use Rattle.node_program.specs.Decoding.{IsBlock}
-use Rattle.node_program.specs.Value.{width_of, row_at, unit_block}
+use Rattle.node_program.specs.Value.{width_of, row_at}
 
 -- a block is a matrix
 pub AreRows-block : {field : FieldKind} {rate : ℕ} {block : List (List ℕ)} → IsBlock field rate block → AreRows field (width_of block) block

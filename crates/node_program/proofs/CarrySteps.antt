@@ -1,5 +1,5 @@
 -- How a link's row is made what the link carries, one operand after another.
-use Rattle.std.proofs.Common.{◌≡◌, ◌≢◌, ℕ, suc, ◌+◌, ◌*◌, ◌<◌, Bool, true, false, List, [], length, map, take, replicate, get_or, refl, sym, ap, ◌∙◌, subst, arith, slice_index, slice_set}
+use Rattle.std.proofs.Common.{◌≡◌, ◌≢◌, ℕ, suc, ◌+◌, ◌<◌, Bool, true, false, List, [], length, map, take, replicate, get_or, refl, sym, ap, ◌∙◌, subst, arith, slice_index, slice_set}
 use Rattle.std.proofs.lemmas.List.{length-map, length-set, get_or-map, get_or-set_same, get_or-set_other, take-map}
 use Rattle.counted_steps.specs.Steps.{RoseBy}
 use Rattle.field_vectors.specs.Elements.{plus_multiple}

@@ -3,11 +3,12 @@
 use Rattle.std.specs.Prelude.{◌≡◌, ℕ, zero, suc, ◌*◌, ◌<◌, ◌≤◌, ◌↔◌, true, nat_lt, Some, List, [], ◌∷◌, IsTrue, length, map, slice_get, slice_index}
 use Rattle.std.proofs.Common.{refl, sym, ap, ◌∙◌, subst, arith}
 use Rattle.std.proofs.lemmas.Bool.{and_parts, false≢true, eqb-true, ltb-true}
+use Rattle.list_laws.proofs.Tests.{passes_at}
+use Rattle.list_laws.proofs.Maps.{map-agree}
 use Rattle.gf_tables.specs.Product.{size_of}
 use Rattle.gf_tables.specs.declared.kind.FieldKind.{FieldKind}
 use Rattle.net_model.specs.Demands.{demand_count, pattern_of_demand, sink_of_demand, sinks_of_demands}
 use Rattle.net_model.specs.Failed.{failed_links}
-use Rattle.net_model.proofs.NetworkLaws.{passes_at}
 use Rattle.net_model.specs.declared.Link.{Link}
 use Rattle.net_model.specs.declared.net.Net.{Net}
 use Rattle.failure_patterns.proofs.DemandLaws.{length-sinks_of_demands, slice_index-sinks_of_demands}
@@ -20,7 +21,6 @@ use Rattle.node_program.specs.Code.{IsCode, leads_into, is_decoder, are_decoders
 use Rattle.node_program.specs.CodeValue.{value_in, vector_in}
 use Rattle.node_program.specs.Decoding.{IsBlock, IsDecoder, GivesBack, IsAccepted, Decodes, decoding_of, decoder_matrix, decoder_vectors}
 use Rattle.node_program.specs.Value.{width_of}
-use Rattle.node_program.proofs.ValueLaws.{map-agree}
 use Rattle.node_program.proofs.VectorLaws.{IsRow-global_vector, value-vector}
 use Rattle.node_program.specs.declared.Decoder.{Decoder}
 use Rattle.node_program.specs.declared.Operand.{Operand}

@@ -6,6 +6,7 @@ use Rattle.std.proofs.Common.{refl, ap, arith, inl, inr}
 use Rattle.std.proofs.lemmas.Bool.{cases_Bool, or_parts, true≢false}
 use Rattle.std.proofs.lemmas.List.Elements.{All-nil, All-cons, All-head, All-tail, All-get_or, All-map, All-weaker, recursion_from_All}
 use Rattle.std.proofs.lemmas.Option.{unwrap_or-slice_get}
+pub use Rattle.list_laws.proofs.Maps.{map-agree}
 use Rattle.gf_tables.specs.Product.{size_of}
 use Rattle.gf_tables.specs.declared.kind.FieldKind.{FieldKind}
 use Rattle.net_model.specs.Lists.{is_among}
@@ -20,12 +21,6 @@ use Rattle.node_program.specs.Operands.{IsOperand}
 use Rattle.net_model.specs.Walks.{leaves_source}
 use Rattle.node_program.specs.Value.{width_of, row_at, operands_at, value_from, value_within, value, is_live_from, is_live_within, is_live}
 use Rattle.node_program.specs.declared.Operand.{Operand}
-
--- two functions that agree on each item give one list
-pub map-agree : {X Y : Type 0} (f g : X → Y) (P : X → Type 0) → ((x : X) → P x → f x ≡ g x) → (xs : List X) → All P xs → map f xs ≡ map g xs
-map-agree f g P agree [] all = refl
-map-agree f g P agree (x ∷ xs) all =
-    rw (agree x (All-head P x xs all), map-agree f g P agree xs (All-tail P x xs all)) refl
 
 -- two tests that agree on each item
 list_any-agree : {X : Type 0} (f g : X → Bool) (P : X → Type 0) → ((x : X) → P x → f x ≡ g x) → (xs : List X) → All P xs → list_any f xs ≡ list_any g xs

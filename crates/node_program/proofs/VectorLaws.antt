@@ -6,6 +6,7 @@ use Rattle.std.proofs.lemmas.Bool.{cases_Bool}
 use Rattle.std.proofs.lemmas.List.Elements.{All-map, All-weaker, recursion_from_All}
 use Rattle.std.proofs.lemmas.Option.{unwrap_or-slice_get}
 use Rattle.std.proofs.lemmas.Simd.{map-map}
+use Rattle.list_laws.proofs.Maps.{map-agree}
 use Rattle.gf_tables.specs.Product.{size_of}
 use Rattle.gf_tables.specs.declared.kind.FieldKind.{FieldKind}
 use Rattle.net_model.specs.Lists.{is_among}
@@ -20,8 +21,8 @@ use Rattle.node_program.specs.Decoding.{IsBlock}
 use Rattle.node_program.proofs.OperandLaws.{operands_of_draft}
 use Rattle.node_program.specs.Operands.{IsOperand}
 use Rattle.net_model.specs.Walks.{leaves_source}
-use Rattle.node_program.specs.Value.{width_of, row_at, operands_at, value_within, value, unit_block, global_vector, vector_from, is_live}
-use Rattle.node_program.proofs.ValueLaws.{map-agree, coefficients-elements, either_row, value-equation, value-dead, IsRow-row_at, IsRow-value, IsRow-value_within}
+use Rattle.node_program.specs.Value.{width_of, row_at, operands_at, value_within, value, unit_block, global_vector, vector_from}
+use Rattle.node_program.proofs.ValueLaws.{coefficients-elements, either_row, value-equation, IsRow-row_at, IsRow-value, IsRow-value_within}
 use Rattle.node_program.specs.declared.Operand.{Operand}
 
 -- a link's vector is a row of as many elements as the rate

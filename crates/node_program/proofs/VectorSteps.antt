@@ -1,6 +1,7 @@
 -- How the rows of a code's vectors are made, one after another.
 use Rattle.std.proofs.Common.{◌≡◌, ℕ, ◌+◌, ◌<◌, ◌≤◌, false, List, length, map, replicate, inl, inr, refl, sym, ap, ◌∙◌, subst, arith, Bool, true, if◌then◌else◌}
 use Rattle.std.proofs.lemmas.Bool.{cases_lt}
+use Rattle.list_laws.proofs.Maps.{map-agree}
 use Rattle.field_vectors.specs.Grid.{Grid, row_of}
 use Rattle.field_vectors.proofs.NumberLaws.{numbers-zeros}
 use Rattle.linear_algebra.specs.Elements.{numbers}
@@ -12,7 +13,6 @@ use Rattle.node_program.proofs.OperandLaws.{operands_of_draft}
 use Rattle.node_program.specs.Operands.{IsOperand}
 use Rattle.net_model.specs.Walks.{leaves_source}
 use Rattle.node_program.specs.Value.{operands_at}
-use Rattle.node_program.proofs.ValueLaws.{map-agree}
 use Rattle.node_program.proofs.VectorLaws.{global_vector-equation}
 use Rattle.node_program.specs.Vectors.{AreVectorsBefore}
 use Rattle.node_program.specs.declared.Operand.{Operand}

@@ -26,12 +26,15 @@ pub fn carry<F: Field, L: Ledger>(
     requires link { link < length vectors.old.rows }
     requires zeros { row_of vectors.old link ≡ replicate vectors.old.columns F.zero }
     requires times { All (λ operand. operand.times < F.SIZE) operands.now }
-    requires rows { leaves ≡ true → All (λ operand. operand.from < vectors.old.columns) operands.now }
+    requires rows { leaves ≡ true
+        → All (λ operand. operand.from < vectors.old.columns) operands.now }
     requires links { leaves ≡ false
-        → All (λ operand. (operand.from < length vectors.old.rows) × (operand.from ≢ link)) operands.now }
+        → All (λ operand. (operand.from < length vectors.old.rows)
+        × (operand.from ≢ link)) operands.now }
     ensures carried { (kind : FieldKind) → IsOfKind kind F.SIZE F.BYTES F.MARK F.product
         → IsCarried kind F.number leaves operands.now link vectors.old vectors.new }
-    ensures ticks { RoseBy (carry_steps leaves (length operands.now) vectors.old.columns) steps.old steps.new }
+    ensures ticks { RoseBy
+        (carry_steps leaves (length operands.now) vectors.old.columns) steps.old steps.new }
 {
     for operand in operands {
         let times = F::of_number(operand.times);

@@ -7,15 +7,16 @@ use Rattle.std.proofs.lemmas.Bool.{cases_eq}
 use Rattle.std.proofs.lemmas.List.{length-set, length-map, map-set, get_or-map, get_or-set_same, get_or-set_other, ext_get_or}
 use Rattle.std.proofs.lemmas.List.Elements.{All-map, All-get_or, All-set}
 use Rattle.std.proofs.lemmas.List.FromFn.{length-map-range_with_len, get_or-map-range_with_len, fill_by_all}
+use Rattle.list_laws.proofs.Maps.{same_made}
 use Rattle.gf_tables.specs.Field.{IsField, IsNumbering}
 use Rattle.field_vectors.specs.Difference.{identity_entry}
-use Rattle.field_vectors.proofs.DifferenceLaws.{same_made, get_or-column_of, length-column_of}
-use Rattle.field_vectors.proofs.DotOfLaws.{identity_entry-comm, identity_entry-on, identity_entry-off, identity_entry-element, get_or-unit_of, add-nought, mul-nought, mul-one, unit_of-elements, dot_of-element, dot_of-comm, dot_of-plus_multiple, dot_of-multiple_of, dot_of-set, dot_of-rows, dot_of-unit_of, unit_of-dot_of}
+use Rattle.field_vectors.proofs.DifferenceLaws.{get_or-column_of, length-column_of}
+use Rattle.field_vectors.proofs.DotOfLaws.{identity_entry-comm, identity_entry-on, identity_entry-off, identity_entry-element, get_or-unit_of, add-nought, mul-nought, mul-one, dot_of-element, dot_of-comm, dot_of-plus_multiple, dot_of-multiple_of, dot_of-set, dot_of-rows, dot_of-unit_of}
 use Rattle.field_vectors.specs.Elements.{dot_of, column_of, plus_multiple, unit_of, identity_of}
 use Rattle.field_vectors.proofs.ElementsLaws.{length-plus_multiple, get_or-plus_multiple, get_or-multiple_of, plus_multiple-elements}
 use Rattle.field_vectors.specs.Grid.{AreMatrices, Grid, row_of, with_row, IsMatrix}
 use Rattle.field_vectors.proofs.GridLaws.{IsMatrix-map, length-row_of, row_of-elements, row_of-with_row, row_of-with_other}
-use Rattle.field_vectors.proofs.InverseLaws.{column_of-elements}
+use Rattle.field_vectors.proofs.InverseLaws.{column_of-elements, unit_of-unit_of}
 use Rattle.sink_basis.specs.Basis.{IsBasis, IsNumbered}
 use Rattle.sink_basis.specs.Renewal.{IsRenewed}
 
@@ -35,10 +36,6 @@ identity-column nought one m size j made below =
     ∙ identity_entry-comm nought one k j)
 
 module _ {A : Type 0} {P : A → Type 0} {nought one : A} {add mul : A → A → A} {inv : A → A} (F : IsField P nought one add mul inv) where
-  -- the product of unit vectors
-  unit-dot : (n i j : ℕ) → i < n → dot_of nought add mul (unit_of nought one n i) (unit_of nought one n j) ≡ identity_entry nought one i j
-  unit-dot n i j below = unit_of-dot_of F (unit_of nought one n j) n i (unit_of-elements F n j) below ∙ get_or-unit_of nought one n j i below ∙ identity_entry-comm nought one j i
-
   -- the unit vectors are a basis, with themselves as its inverse vectors
   pub identity-IsBasis : (vectors inverses : Grid A) (size : ℕ) → vectors.columns ≡ size → inverses.columns ≡ size → vectors.rows ≡ identity_of nought one size → inverses.rows ≡ identity_of nought one size
       → IsBasis nought one add mul size vectors inverses
@@ -48,9 +45,9 @@ module _ {A : Type 0} {P : A → Type 0} {nought one : A} {add mul : A → A →
     inverses_high = ap length same ∙ length-map-range_with_len (unit_of nought one size) 0 size;
     inverses_wide = narrow;
     dual = λ j k below inside.
-        ap₂ (dot_of nought add mul) (identity-row nought one vectors size j made below) (identity-row nought one inverses size k same inside) ∙ unit-dot size j k below;
+        ap₂ (dot_of nought add mul) (identity-row nought one vectors size j made below) (identity-row nought one inverses size k same inside) ∙ unit_of-unit_of F size j k below;
     spans = λ i j below inside.
-        ap₂ (dot_of nought add mul) (identity-column nought one inverses size i same below) (identity-column nought one vectors size j made inside) ∙ unit-dot size i j below;
+        ap₂ (dot_of nought add mul) (identity-column nought one inverses size i same below) (identity-column nought one vectors size j made inside) ∙ unit_of-unit_of F size i j below;
   }
 
   module _ (size path : ℕ) (v : List A) (vectors inverses new : Grid A) (basis : IsBasis nought one add mul size vectors inverses) (kept : IsMatrix P vectors) (old : IsMatrix P inverses)

@@ -1,10 +1,9 @@
 -- The steps of the loop that makes the identity.
-use Rattle.std.proofs.Common.{◌≡◌, ℕ, ◌+◌, ◌<◌, ◌≤◌, length, get_or, set, replicate, arith, sym, ap, ◌∙◌, inl, inr}
+use Rattle.std.proofs.Common.{◌≡◌, ℕ, ◌+◌, ◌<◌, ◌≤◌, length, set, replicate, arith, sym, ap, ◌∙◌, inl, inr}
 use Rattle.std.proofs.lemmas.Bool.{cases_eq}
-use Rattle.std.proofs.lemmas.List.{length-set, length-replicate, get_or-replicate, get_or-set_same, get_or-set_other}
+use Rattle.std.proofs.lemmas.List.{length-set, length-replicate, get_or-replicate}
 use Rattle.std.proofs.lemmas.List.FromFn.{fill_by_all}
-use Rattle.field_vectors.specs.Difference.{identity_entry}
-use Rattle.field_vectors.proofs.DotOfLaws.{identity_entry-on, identity_entry-off}
+use Rattle.field_vectors.proofs.FillSteps.{zeros-set}
 use Rattle.field_vectors.specs.Elements.{unit_of, identity_of}
 use Rattle.field_vectors.specs.Grid.{Grid, row_of, with_row, grid_of}
 use Rattle.field_vectors.proofs.GridLaws.{row_of-with_row, row_of-with_other}
@@ -15,19 +14,6 @@ pub record IsIdentityBelow {A : Type 0} (nought one : A) (size : ℕ) (m : Grid 
   pub height : length m.rows ≡ size
   pub before : (k : ℕ) → k < limit → row_of m k ≡ unit_of nought one size k
   pub behind : (k : ℕ) → limit ≤ k → k < size → row_of m k ≡ replicate size nought
-
--- zeros with one at a place are a unit row
-one-in_zeros : {A : Type 0} (nought one : A) (n i : ℕ) → i < n → set (replicate n nought) i one ≡ unit_of nought one n i
-one-in_zeros nought one n i below =
-    let row = replicate n nought in
-    fill_by_all (identity_entry nought one i) (set row i one) n nought (length-set row i one ∙ length-replicate n nought)
-    (λ k inside.
-    elim (cases_eq k i) [
-      | inl same ↦
-          (let within : i < length row = omega (arith, length-replicate n nought) in
-          ap (λ j. get_or (set row i one) j nought) same ∙ get_or-set_same row i one nought within ∙ sym (identity_entry-on nought one i) ∙ ap (identity_entry nought one i) (sym same))
-      | inr other ↦ get_or-set_other row i k one nought other ∙ get_or-replicate n k nought nought inside ∙ sym (identity_entry-off nought one i k (λ e. other (sym e)))
-    ])
 
 -- at the start
 pub identity-none : {A : Type 0} (nought one : A) (size : ℕ) (m : Grid A) → m ≡ grid_of size size nought → IsIdentityBelow nought one size m 0
@@ -44,7 +30,7 @@ pub identity-more : {A : Type 0} (nought one : A) (size : ℕ) (m new : Grid A) 
 identity-more nought one size m new i below h made =
     let row = set (row_of m i) i one in
     let inside : i < length m.rows = omega (arith, h.height) in
-    let here : row ≡ unit_of nought one size i = ap (λ r. set r i one) (h.behind i (omega arith) below) ∙ one-in_zeros nought one size i below in
+    let here : row ≡ unit_of nought one size i = ap (λ r. set r i one) (h.behind i (omega arith) below) ∙ zeros-set nought one size i below in
     record {
       columns = ap (λ g. g.columns) made ∙ h.columns;
       height = ap (λ g. length g.rows) made ∙ length-set m.rows i row ∙ h.height;

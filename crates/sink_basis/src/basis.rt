@@ -3,6 +3,7 @@ ghost use Rattle.std.specs.Prelude.{◌≡◌, ◌≢◌, ◌*◌, ◌<◌, ◌�
 ghost use Rattle.counted_steps.specs.Steps.{RoseByAtMost};
 ghost use Rattle.field_vectors.specs.Elements.{dot_of, identity_of};
 ghost use Rattle.field_vectors.specs.Grid.{AreMatrices, row_of, with_row};
+ghost use Rattle.net_model.specs.Limits.{highest_rate};
 ghost use Rattle.sink_basis.specs.Basis.{IsBasis, IsNumbered};
 
 use crate::renewal::{identity, no_links, renew_inverses};
@@ -26,14 +27,14 @@ pub struct Basis<F: Field> {
     pub inverses: Matrix<F>,
     ghost basis: { IsBasis F.zero F.one F.add F.mul (length frontier) vectors inverses },
     ghost matrices: { AreMatrices (IsNumbered F.number F.of_number F.SIZE) vectors inverses },
-    ghost few: { length frontier ≤ 32 },
+    ghost few: { length frontier ≤ highest_rate },
 }
 
 impl<F: Field> Basis<F> {
     /// The basis of the unit vectors of length `h`, with no link on any path.
     pub fn start(alloc: Global, h: u32) -> Result<Self, AllocError>
         requires some { 1 ≤ h }
-        requires few { h ≤ 32 }
+        requires few { h ≤ highest_rate }
         ensures frontier { IfOk result (λ basis. basis.frontier ≡ replicate h None) }
         ensures vectors { IfOk result (λ basis. basis.vectors.rows ≡ identity_of F.zero F.one h) }
         ensures inverses { IfOk result (λ basis. basis.inverses.rows ≡ identity_of F.zero F.one h) }
@@ -59,9 +60,12 @@ impl<F: Field> Basis<F> {
     ) -> Result<(), AllocError>
         requires path { path < length self.old.frontier }
         requires width { length vector.now ≡ length self.old.frontier }
-        requires nonzero { dot_of F.zero F.add F.mul vector.now (row_of self.old.inverses path) ≢ F.zero }
-        ensures frontier { OnOk result (self.new.frontier ≡ slice_set self.old.frontier path (Some link)) }
-        ensures vectors { OnOk result (self.new.vectors ≡ with_row self.old.vectors path vector.now) }
+        requires nonzero { dot_of F.zero F.add F.mul vector.now (row_of self.old.inverses path)
+            ≢ F.zero }
+        ensures frontier { OnOk result
+            (self.new.frontier ≡ slice_set self.old.frontier path (Some link)) }
+        ensures vectors { OnOk result
+            (self.new.vectors ≡ with_row self.old.vectors path vector.now) }
         ensures refused_frontier { OnErr result (self.new.frontier ≡ self.old.frontier) }
         ensures refused_vectors { OnErr result (self.new.vectors ≡ self.old.vectors) }
         ensures refused_inverses { OnErr result (self.new.inverses ≡ self.old.inverses) }
@@ -77,7 +81,8 @@ impl<F: Field> Basis<F> {
         requires some_part { 0 < blank.parts }
         requires path { path < length self.old.frontier }
         requires width { length vector.now ≡ length self.old.frontier }
-        requires nonzero { dot_of F.zero F.add F.mul vector.now (row_of self.old.inverses path) ≢ F.zero }
+        requires nonzero { dot_of F.zero F.add F.mul vector.now (row_of self.old.inverses path)
+            ≢ F.zero }
         ensures frontier { self.new.frontier ≡ slice_set self.old.frontier path (Some link) }
         ensures vectors { self.new.vectors ≡ with_row self.old.vectors path vector.now }
     {
@@ -88,10 +93,12 @@ impl<F: Field> Basis<F> {
     fn replace<L: Ledger>(&mut self, path: u32, link: u32, vector: &[F], steps: &mut Steps<L>)
         requires path { path < length self.old.frontier }
         requires width { length vector.now ≡ length self.old.frontier }
-        requires nonzero { dot_of F.zero F.add F.mul vector.now (row_of self.old.inverses path) ≢ F.zero }
+        requires nonzero { dot_of F.zero F.add F.mul vector.now (row_of self.old.inverses path)
+            ≢ F.zero }
         ensures frontier { self.new.frontier ≡ slice_set self.old.frontier path (Some link) }
         ensures vectors { self.new.vectors ≡ with_row self.old.vectors path vector.now }
-        ensures ticks { let h = length self.old.frontier in RoseByAtMost (3 * h * h) steps.old steps.new }
+        ensures ticks { let h = length self.old.frontier
+            in RoseByAtMost (3 * h * h) steps.old steps.new }
     {
         renew_inverses(&mut self.inverses, path, vector, steps);
         self.vectors.put_row(path, vector);

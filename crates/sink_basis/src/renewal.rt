@@ -44,7 +44,8 @@ fn clear_others<F: Field, L: Ledger>(
 )
     requires path { path < length inverses.old.rows }
     requires width { length vector.now ≡ inverses.old.columns }
-    ensures cleared { IsClearedBelow F.zero F.add F.mul path vector.now inverses.old inverses.new (length inverses.old.rows) }
+    ensures cleared { IsClearedBelow F.zero F.add F.mul path vector.now inverses.old inverses.new
+        (length inverses.old.rows) }
     ensures kept { IsMatrix F.is_element inverses.new }
     ensures ticks { (others : _) → others + 1 ≡ length inverses.old.rows →
         RoseByAtMost (others * (2 * inverses.old.columns)) steps.old steps.new }
@@ -68,8 +69,10 @@ pub fn renew_inverses<F: Field, L: Ledger>(
     requires path { path < length inverses.old.rows }
     requires width { length vector.now ≡ inverses.old.columns }
     requires nonzero { dot_of F.zero F.add F.mul vector.now (row_of inverses.old path) ≢ F.zero }
-    ensures renewed { IsRenewed F.is_element F.zero F.add F.mul F.inv path vector.now inverses.old inverses.new }
-    ensures ticks { RoseByAtMost (3 * (length inverses.old.rows * inverses.old.columns)) steps.old steps.new }
+    ensures renewed { IsRenewed F.is_element F.zero F.add F.mul F.inv path vector.now
+        inverses.old inverses.new }
+    ensures ticks { RoseByAtMost
+        (3 * (length inverses.old.rows * inverses.old.columns)) steps.old steps.new }
 {
     let product = dot(vector, inverses.row(path), steps);
     inverses.scale_row(path, product.inv(), steps);

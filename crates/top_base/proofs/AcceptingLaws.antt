@@ -1,6 +1,7 @@
 -- Codes as inputs: bytes are those of one accepted code, or are refused in one way.
 use Rattle.std.specs.Prelude.{◌≡◌, ◌<◌, ℕ, List, IsTrue}
 use Rattle.std.proofs.Common.{refl, sym, ap, subst, ◌∙◌, arith}
+use Rattle.list_laws.proofs.Numbers.{neither_below}
 use Rattle.code_checker.specs.Checking.{FailsFirst, DiffersFirst, entry_at, demand_product}
 use Rattle.code_checker.proofs.CheckingLaws.{FailsFirst-refuses}
 use Rattle.code_file.specs.Items.{bytes_of}
@@ -17,16 +18,12 @@ use Rattle.top_base.proofs.SameCode.{same_code}
 use Rattle.top_base.specs.declared.status.Status.{Status}
 use Rattle.top_base.specs.declared.status.Status.TheVariants.{CodeRefused, CheckFailed}
 
--- two numbers of which neither is below the other
-both_below : (a b : ℕ) → ¬ (a < b) → ¬ (b < a) → a ≡ b
-both_below a b h k = omega arith
-
 -- the first entry that differs
 same_entry : (size : ℕ) (rows : List (List ℕ)) (i j found k l other : ℕ) → DiffersFirst size rows i j found → DiffersFirst size rows k l other → (i ≡ k) × (j ≡ l) × (found ≡ other)
 same_entry size rows i j found k l other one two =
-    let row : i ≡ k = both_below i k (λ lt. one.differs (one.value ∙ two.rows_before i j lt one.in_column)) (λ lt. two.differs (two.value ∙ one.rows_before k l lt two.in_column)) in
+    let row : i ≡ k = neither_below i k (λ lt. one.differs (one.value ∙ two.rows_before i j lt one.in_column)) (λ lt. two.differs (two.value ∙ one.rows_before k l lt two.in_column)) in
     let two_here : DiffersFirst size rows i l other = subst (λ row. DiffersFirst size rows row l other) (sym row) two in
-    let column : j ≡ l = both_below j l (λ lt. one.differs (one.value ∙ two_here.before j lt)) (λ lt. two_here.differs (two_here.value ∙ one.before l lt)) in
+    let column : j ≡ l = neither_below j l (λ lt. one.differs (one.value ∙ two_here.before j lt)) (λ lt. two_here.differs (two_here.value ∙ one.before l lt)) in
     (row, column, one.value ∙ ap (entry_at rows i) column ∙ sym two_here.value)
 
 -- the first demand that fails
@@ -38,7 +35,7 @@ not_earlier code demand i j found demand' k l other one two lt =
 same_fails : (code : Code) (demand i j found demand' k l other : ℕ) → FailsFirst code demand i j found → FailsFirst code demand' k l other
     → (demand ≡ demand') × (i ≡ k) × (j ≡ l) × (found ≡ other)
 same_fails code demand i j found demand' k l other one two =
-    let same : demand ≡ demand' = both_below demand demand' (not_earlier code demand i j found demand' k l other one two) (not_earlier code demand' k l other demand i j found two one) in
+    let same : demand ≡ demand' = neither_below demand demand' (not_earlier code demand i j found demand' k l other one two) (not_earlier code demand' k l other demand i j found two one) in
     let two_here : FailsFirst code demand k l other = subst (λ d. FailsFirst code d k l other) (sym same) two in
     let entry = same_entry code.rate (demand_product code demand) i j found k l other one.entry two_here.entry in
     (same, entry.0, entry.1, entry.2)

@@ -65,8 +65,10 @@ pub fn read_accepted<'a, S: Store, G: Gate + Sync, R: Threads + Sync>(
     path: &str,
     gate: &G,
 ) -> Result<Checked, Outcome<'a>>
-    ensures had { IfOk result (λ checked. MakesCalls S.Store store.old store.new (ReadsCode path.now (Ok checked))) }
-    ensures lost { IfErr result (λ outcome. MakesCalls S.Store store.old store.new (ReadsCode path.now (Err outcome))) }
+    ensures had { IfOk result
+        (λ checked. MakesCalls S.Store store.old store.new (ReadsCode path.now (Ok checked))) }
+    ensures lost { IfErr result
+        (λ outcome. MakesCalls S.Store store.old store.new (ReadsCode path.now (Err outcome))) }
 {
     let bytes = read_whole(store, path, CODE_LIMIT, Vec::new(alloc))?;
     let code = parse(alloc, &bytes)?;

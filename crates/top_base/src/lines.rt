@@ -34,7 +34,8 @@ impl<'a> Model for Line<'a> {
 
     ghost Value = { List ℕ };
 
-    ghost view = { λ line. text_bytes line.text ++ option_map_or (λ quoted. quoted.now ++ 10 ∷ []) line.quoted [] };
+    ghost view = { λ line. text_bytes line.text
+        ++ option_map_or (λ quoted. quoted.now ++ 10 ∷ []) line.quoted [] };
 }
 
 // Adds bytes to a text that has room for them.
@@ -85,7 +86,8 @@ fn detail(why: ReadRefusal, name: &[u8]) -> Option<&[u8]>
 fn push_demand(text: &mut ShortText, net: &Net, demand: u32)
     requires demand { demand < demand_count net.now }
     requires room { length text.old.items + 65 ≤ ROOM }
-    ensures text { text.new.items ≡ text.old.items ++ demand_text net.now (demand_of net.now demand) }
+    ensures text { text.new.items
+        ≡ text.old.items ++ demand_text net.now (demand_of net.now demand) }
     ensures grown { length text.new.items ≤ length text.old.items + 65 }
 {
     let Demand { sink, pattern } = demand_at(net, u64::from(demand));
@@ -139,7 +141,8 @@ impl<'a> Line<'a> {
     /// The line's pieces: its own text, and the text that it ends with, behind which the line ends.
     pub fn pieces(&self) -> (&[u8], Option<&'a [u8]>)
         ensures none { IfNone result.1 (self.now ≡ result.0.now) }
-        ensures some { IfSome result.1 (λ quoted. self.now ≡ result.0.now ++ quoted.now ++ 10 ∷ []) }
+        ensures some { IfSome result.1
+            (λ quoted. self.now ≡ result.0.now ++ quoted.now ++ 10 ∷ []) }
     {
         let text = match &self.text {
             Text::Short(text) => text.as_slice(),

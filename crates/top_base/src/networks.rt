@@ -58,7 +58,8 @@ fn unread<'a>(alloc: Global, text: &[u8], why: ReadRefusal) -> Outcome<'a>
 // What a network with a cycle makes of the command.
 fn cyclic<'a>(alloc: Global, net: &Net, links: LinkList) -> Outcome<'a>
     requires { IsShownCycle net.now.links links }
-    ensures { (text : List ℕ) → network_of text ≡ Ok (parts_of net.now) → RefusesNetOrLosesIt text result }
+    ensures { (text : List ℕ) → network_of text ≡ Ok (parts_of net.now)
+        → RefusesNetOrLosesIt text result }
 {
     match cycle_line(alloc, net, links.as_slice()) {
         Ok(line) => Outcome {
@@ -93,9 +94,11 @@ pub fn read_ordered<'a, S: Store>(
     store: &mut S,
     path: &str,
 ) -> Result<Ordered, Outcome<'a>>
-    ensures had { IfOk result (λ ordered. MakesCalls S.Store store.old store.new (ReadsNet path.now (Ok ordered.net))) }
+    ensures had { IfOk result
+        (λ ordered. MakesCalls S.Store store.old store.new (ReadsNet path.now (Ok ordered.net))) }
     ensures order { IfOk result (λ ordered. ordered.order.items ≡ order_of ordered.net.links) }
-    ensures lost { IfErr result (λ outcome. MakesCalls S.Store store.old store.new (ReadsNet path.now (Err outcome))) }
+    ensures lost { IfErr result
+        (λ outcome. MakesCalls S.Store store.old store.new (ReadsNet path.now (Err outcome))) }
 {
     let text = read_whole(store, path, NET_LIMIT, Vec::new(alloc))?;
     parse(alloc, &text)

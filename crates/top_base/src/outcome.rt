@@ -113,7 +113,8 @@ fn status_unsaid(status: Status) -> Status
 /// Says the line of an outcome, and answers its status, but a write fault where a command is done and its line
 /// couldn't be said.
 pub fn conclude<C: Sink>(status: Status, line: &Line<'_>, say: &mut C) -> Status
-    ensures { MakesPuts C.Sink say.old say.new (SaysOutcome (record { status = status; line = line.now }) result) }
+    ensures { MakesPuts C.Sink say.old say.new
+        (SaysOutcome (record { status = status; line = line.now }) result) }
 {
     match say_line(line, say) {
         Ok(()) => status,

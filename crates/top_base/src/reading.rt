@@ -32,7 +32,8 @@ fn read_more<S: Store>(
     requires limit { limit < 2 ^ 41 }
     requires within { vec_len front.old ≤ limit }
     requires chunk { 0 < length chunk.old }
-    ensures reads { MakesCalls S.Store store.old store.new (ReadsMore path.now limit front.old.items front.new.items result) }
+    ensures reads { MakesCalls S.Store store.old store.new
+        (ReadsMore path.now limit front.old.items front.new.items result) }
     ensures within { vec_len front.new ≤ limit + 1 }
     ensures more { result ≡ Ok true → vec_len front.old < vec_len front.new }
     ensures memory { IsErrOf result FileRefusal.OutOfMemory → vec_capacity front.old < limit + 1 }
@@ -60,8 +61,10 @@ pub fn read_whole<S: Store>(
 ) -> Result<Vec<u8>, FileRefusal>
     requires empty { empty.items ≡ [] }
     requires limit { limit < 2 ^ 41 }
-    ensures whole { IfOk result (λ bytes. MakesCalls S.Store store.old store.new (ReadsWhole path.now limit bytes.items)) }
-    ensures refused { IfErr result (λ refusal. MakesCalls S.Store store.old store.new (StopsReading path.now limit refusal)) }
+    ensures whole { IfOk result
+        (λ bytes. MakesCalls S.Store store.old store.new (ReadsWhole path.now limit bytes.items)) }
+    ensures refused { IfErr result
+        (λ refusal. MakesCalls S.Store store.old store.new (StopsReading path.now limit refusal)) }
     ensures short { IfOk result (λ bytes. length bytes.items ≤ limit) }
     ensures memory { IsErrOf result FileRefusal.OutOfMemory → vec_capacity empty < limit + 1 }
 {

@@ -35,8 +35,10 @@ fn shared_path<'a>(words: &CompileWords<'a>) -> Option<&'a str>
 
 // Makes a file of these bytes.
 fn write_file<S: Store>(store: &mut S, path: &str, bytes: &[u8]) -> Result<(), Failed>
-    ensures written { OnOk result (MakesCalls S.Store store.old store.new (Are (writes_of ((path.now, bytes.now) ∷ [])))) }
-    ensures stopped { OnErr result (MakesCalls S.Store store.old store.new (StopsWithin (writes_of ((path.now, bytes.now) ∷ [])))) }
+    ensures written { OnOk result
+        (MakesCalls S.Store store.old store.new (Are (writes_of ((path.now, bytes.now) ∷ [])))) }
+    ensures stopped { OnErr result (MakesCalls S.Store store.old store.new
+        (StopsWithin (writes_of ((path.now, bytes.now) ∷ [])))) }
 {
     store.create(path)?;
     store.append(path, bytes)
@@ -49,8 +51,10 @@ fn write_files<S: Store>(
     code: &[u8],
     report: &[u8],
 ) -> Result<(), Failed>
-    ensures written { OnOk result (MakesCalls S.Store store.old store.new (Are (writes_of (files_of (compile_given_in words.now) code.now report.now)))) }
-    ensures stopped { OnErr result (MakesCalls S.Store store.old store.new (StopsWithin (writes_of (files_of (compile_given_in words.now) code.now report.now)))) }
+    ensures written { OnOk result (MakesCalls S.Store store.old store.new
+        (Are (writes_of (files_of (compile_given_in words.now) code.now report.now)))) }
+    ensures stopped { OnErr result (MakesCalls S.Store store.old store.new
+        (StopsWithin (writes_of (files_of (compile_given_in words.now) code.now report.now)))) }
 {
     write_file(store, words.code, code)?;
     write_file(store, words.report, report)
@@ -58,7 +62,8 @@ fn write_files<S: Store>(
 
 // Writes what was made of a network.
 fn write<'a, S: Store>(words: &CompileWords<'a>, made: Made<'a>, store: &mut S) -> Outcome<'a>
-    ensures { (net : Net) → IsReady net made.entry → MakesCalls S.Store store.old store.new (Compiles (compile_given_in words.now) net result.status result.line) }
+    ensures { (net : Net) → IsReady net made.entry → MakesCalls S.Store store.old store.new
+        (Compiles (compile_given_in words.now) net result.status result.line) }
 {
     match write_files(store, words, &made.code, &made.report) {
         Ok(()) => Outcome {
@@ -79,7 +84,8 @@ fn compile_net<'a, S: Store, G: Gate + Sync, R: Threads + Sync>(
     gate: &G,
 ) -> Outcome<'a>
     requires { IsAcyclic net.now.links }
-    ensures { MakesCalls S.Store store.old store.new (Compiles (compile_given_in words.now) net.now result.status result.line) }
+    ensures { MakesCalls S.Store store.old store.new
+        (Compiles (compile_given_in words.now) net.now result.status result.line) }
 {
     match make(rt, alloc, net, gate) {
         Ok(made) => write(words, made, store),
@@ -96,7 +102,8 @@ pub fn compile<'a, S: Store, G: Gate + Sync, R: Threads + Sync>(
     store: &mut S,
     gate: &G,
 ) -> Outcome<'a>
-    ensures { RunsOnStore S.Store (compile_command (compile_given_in words.now)) store.old store.new result }
+    ensures { RunsOnStore S.Store
+        (compile_command (compile_given_in words.now)) store.old store.new result }
 {
     if let Some(path) = shared_path(words) {
         return Outcome {

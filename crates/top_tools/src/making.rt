@@ -89,7 +89,8 @@ fn code_in<F: Field, G: Gate + Sync, L: Ledger, R: Threads + Sync>(
     requires name { blank.name ≡ L.name }
     requires parts { blank.parts ≡ L.parts }
     requires some_part { 0 < blank.parts }
-    ensures compiled { IfOk result (λ made. IsCompiled net.now (marked_kind F.MARK) made.0 made.1.items) }
+    ensures compiled { IfOk result
+        (λ made. IsCompiled net.now (marked_kind F.MARK) made.0 made.1.items) }
     ensures refused { IfErr result (IsRefusal net.now F.SIZE) }
 {
     lif_compiler::compile::<F, G, L, R>(rt, alloc, net, gate, &mut Steps::<L>::start(blank))

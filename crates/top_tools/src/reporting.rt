@@ -17,7 +17,8 @@ fn push_entries(
     certs: &[Cert],
 ) -> Result<(), AllocError>
     requires { AreCertificates net.now certs.now }
-    ensures { OnOk result (text.new.items ≡ text.old.items ++ flat_map (entry_text net.now) certs.now) }
+    ensures { OnOk result
+        (text.new.items ≡ text.old.items ++ flat_map (entry_text net.now) certs.now) }
 {
     for cert in certs {
         let lines = entry(alloc, net, cert)?;

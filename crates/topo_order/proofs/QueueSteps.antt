@@ -2,6 +2,7 @@
 use Rattle.std.specs.Prelude.{◌≡◌, ◌≢◌, ◌<◌, ◌≤◌, ◌+◌, ℕ, Bool, true, false, not, ◌&&◌, ◌||◌, ◌==◌, cond, List, [], ◌∷◌, ◌++◌, length, Some, None}
 use Rattle.std.specs.List.{list_any}
 use Rattle.std.specs.BTreeMap.{is_at}
+use Rattle.std.specs.Cmp.{both_ways as same_truth}
 use Rattle.std.specs.Ordering.{nat_cmp, is_eq, is_gt}
 use Rattle.std.proofs.Common.{refl, sym, ◌∙◌, ap, subst, arith, inl, inr}
 use Rattle.std.proofs.lemmas.Bool.{and_from, and_left, and_right, or_right, eq-eqb, ne_eqb, lt-ltb, le-ltb, not_from_true, not_from_false, cases_lt, cases_eq, cases_order, both_ways, false_from_ne_true}
@@ -62,12 +63,6 @@ ready_skip links placed link has are blocked = record {
   ];
 }
 
--- two tests that imply each other
-same_test : (a b : Bool) → (a ≡ true → b ≡ true) → (b ≡ true → a ≡ true) → a ≡ b
-same_test true b there back = sym (there refl)
-same_test false true there back = back refl
-same_test false false there back = refl
-
 -- what may be placed once a link was
 module _ (links : List Link) (placed : List ℕ) (x : ℕ) (sound : IsPlaced links placed) (within : x < length links) (ready : is_ready links placed x ≡ true) where
   fresh : is_among placed x ≡ false
@@ -77,7 +72,7 @@ module _ (links : List Link) (placed : List ℕ) (x : ℕ) (sound : IsPlaced lin
   among_other = is_among-append_other placed x
 
   reached_other : (node : ℕ) → node ≢ head_of links x → is_reached links (placed ++ x ∷ []) node ≡ is_reached links placed node
-  reached_other node other = same_test _ _
+  reached_other node other = same_truth _ _
       (λ new. reached_from links placed node (λ l inside leads. sym (among_other l (λ same. other (sym leads ∙ ap (head_of links) same))) ∙ reached_at links (placed ++ x ∷ []) node new l inside leads))
       (is_reached-append links placed x node)
 

@@ -2,6 +2,7 @@
 ghost use Rattle.std.specs.Prelude.{◌≡◌, ◌<◌, ◌++◌, ◌∷◌, [], Some, IfOk, OnOk, length, slice_index_or, true, false};
 ghost use Rattle.net_model.specs.Walks.{head_of};
 ghost use Rattle.link_chains.specs.Chains.{AreFirstsAt, AreNextsAt};
+ghost use Rattle.link_chains.specs.declared.chains.LinkEnd.TheVariants.{Head};
 ghost use Rattle.topo_order.specs.Order.{next_link};
 ghost use Rattle.topo_order.specs.Placing.{IsNextInto, IsPlacingIn};
 
@@ -24,7 +25,7 @@ pub(crate) fn nothing_placed(
     net: &Net,
     first_into: Vec<u32>,
 ) -> Result<Placing, AllocError>
-    requires { AreFirstsAt net.now true first_into.items }
+    requires { AreFirstsAt net.now Head first_into.items }
     ensures empty { IfOk result (λ placing. placing.order.items ≡ []) }
     ensures placing { IfOk result (IsPlacingIn net.now) }
 {
@@ -46,7 +47,7 @@ pub(crate) fn place(
 ) -> Result<(), AllocError>
     requires placing { IsPlacingIn net.now placing.old }
     requires room { length placing.old.order.items < length net.now.links }
-    requires chain { AreNextsAt net.now true next_into.now }
+    requires chain { AreNextsAt net.now Head next_into.now }
     requires next { next_link net.now.links placing.old.order.items ≡ Some link }
     ensures placing { OnOk result (IsPlacingIn net.now placing.new) }
     ensures order { OnOk result (placing.new.order.items ≡ placing.old.order.items ++ link ∷ []) }
@@ -65,7 +66,7 @@ pub(crate) fn place(
 // links.
 fn next_unplaced(net: &Net, placed: &[bool], next_into: &[u32], link: u32) -> u32
     requires flags { length placed.now ≡ length net.now.links }
-    requires chain { AreNextsAt net.now true next_into.now }
+    requires chain { AreNextsAt net.now Head next_into.now }
     requires within { link < length net.now.links }
     requires placed { slice_index_or placed.now link false ≡ true }
     ensures { IsNextInto net.now.links placed.now (head_of net.now.links link) link result }

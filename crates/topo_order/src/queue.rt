@@ -1,11 +1,12 @@
 //! The links that may be placed next.
 ghost use Rattle.std.specs.Prelude.{◌≡◌, ◌<◌, [], true, false, IfOk, OnOk, length};
 ghost use Rattle.link_chains.specs.Chains.{AreFirstsAt, AreNextsAt};
+ghost use Rattle.link_chains.specs.declared.chains.LinkEnd.TheVariants.{Tail};
 ghost use Rattle.topo_order.specs.Placing.{HasSameOrder, IsOneLonger, IsPlacingIn, IsStuck};
 ghost use Rattle.topo_order.specs.Queue.{HasAlso, HasReady, IsQueueIn};
 
 use crate::placing::{Placing, nothing_placed, place};
-use link_chains::{Chains, chains_of};
+use link_chains::{Chains, LinkEnd, chains_of};
 use net_model::Net;
 use std::alloc::{AllocError, Global};
 use std::collections::BTreeSet;
@@ -25,8 +26,8 @@ pub(crate) fn start(alloc: Global, net: &Net) -> Result<(Placing, Queue), AllocE
     ensures placing { IfOk result (λ start. IsPlacingIn net.now start.0) }
     ensures queue { IfOk result (λ start. IsQueueIn net.now start.0 start.1) }
 {
-    let into = chains_of(alloc, net, true)?;
-    let from = chains_of(alloc, net, false)?;
+    let into = chains_of(alloc, net, LinkEnd::Head)?;
+    let from = chains_of(alloc, net, LinkEnd::Tail)?;
     let Chains {
         firsts: first_into,
         nexts: next_into,
@@ -102,8 +103,8 @@ fn add_leaving(
     nexts: &[u32],
     node: u32,
 ) -> Result<(), AllocError>
-    requires firsts { AreFirstsAt net.now false firsts.now }
-    requires nexts { AreNextsAt net.now false nexts.now }
+    requires firsts { AreFirstsAt net.now Tail firsts.now }
+    requires nexts { AreNextsAt net.now Tail nexts.now }
     requires node { node < length net.now.nodes }
     ensures { OnOk result (HasAlso net.now node ready.old ready.new) }
 {

@@ -6,11 +6,11 @@ use Rattle.std.proofs.Common.{refl, sym, ◌∙◌, ap, arith, inl, inr, ◌⊎�
 use Rattle.std.proofs.lemmas.Bool.{and_parts, and_left, cases_eq, eq-eqb, eqb-true, ltb-true, ne_eqb, not-true, eqb-false}
 use Rattle.std.proofs.lemmas.List.{length-set}
 use Rattle.std.proofs.lemmas.List.Sums.{sum_by-cons}
+use Rattle.list_laws.proofs.Ranges.{find_passes}
+use Rattle.list_laws.proofs.Tests.{passes_at}
 use Rattle.net_model.proofs.EndLaws.{ends_below}
 use Rattle.net_model.specs.Flows.{FlowNetwork, flow_network}
-use Rattle.net_model.proofs.ListLaws.{find_passes}
 use Rattle.net_model.specs.Network.{is_sink_among}
-use Rattle.net_model.proofs.NetworkLaws.{passes_at}
 use Rattle.net_model.specs.Walks.{head_of, tail_of}
 use Rattle.net_model.specs.declared.Demand.{Demand}
 use Rattle.net_model.specs.declared.Link.{Link}

@@ -8,9 +8,10 @@ use Rattle.std.proofs.lemmas.Option.{none-some}
 use Rattle.std.proofs.lemmas.List.Folds.{list_any-append, list_any_at}
 use Rattle.std.proofs.lemmas.List.FromFn.{length-range_with_len}
 use Rattle.std.proofs.lemmas.List.Sums.{count_by-le-length}
+use Rattle.list_laws.proofs.Ranges.{find_least}
 use Rattle.net_model.proofs.FlowLaws.{flow-le-cut}
 use Rattle.net_model.specs.Flows.{FlowNetwork, IsCut, IsFlow, IsPath}
-use Rattle.net_model.proofs.ListLaws.{are_distinct-append, find_least, is_among-from_list_any, list_all-from_is_among}
+use Rattle.net_model.proofs.ListLaws.{are_distinct-append, is_among-from_list_any, list_all-from_is_among}
 use Rattle.net_model.specs.Lists.{are_distinct, is_among, is_rising}
 use Rattle.net_model.specs.Walks.{IsWalk, head_of, tail_of}
 use Rattle.unit_flow.specs.Conservation.{IsConserved, IsConservedFrom, IsFlowNetwork}

@@ -6,8 +6,8 @@ use Rattle.std.proofs.lemmas.List.{length-set, length-replicate, length-take-le,
 use Rattle.std.proofs.lemmas.List.Sums.{list_all-from_AllPass}
 use Rattle.std.proofs.lemmas.Map.Keys.{IsDistinct-from_apart}
 use Rattle.std.proofs.lemmas.Map.Steps.{length-le_from_distinct_below}
+use Rattle.list_laws.proofs.Tests.{below_bound}
 use Rattle.net_model.specs.Flows.{FlowNetwork, is_on}
-use Rattle.net_model.proofs.ListLaws.{below_bound}
 use Rattle.unit_flow.specs.Residual.{passage}
 use Rattle.unit_flow.specs.Searching.{HasPlaces, CameByLink, IsLonger, IsQueue, link_at, node_at}
 use Rattle.unit_flow.specs.declared.residual.LinkState.{LinkState}

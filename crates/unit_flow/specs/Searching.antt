@@ -2,6 +2,7 @@
 use Rattle.std.specs.Prelude.{◌≡◌, ◌≢◌, ◌<◌, ◌≤◌, ◌+◌, ℕ, true, false, ◌==◌, List, Bool, length, slice_index, take, count_by, Some}
 use Rattle.std.specs.List.{range_with_len}
 use Rattle.link_chains.specs.Chains.{end_of}
+use Rattle.link_chains.specs.declared.chains.LinkEnd.{LinkEnd}
 use Rattle.net_model.specs.Flows.{FlowNetwork, flow_network, is_on}
 use Rattle.net_model.specs.Walks.{head_of, tail_of}
 use Rattle.net_model.specs.declared.Link.{Link}
@@ -71,10 +72,10 @@ links_at end count node bound =
 abbrev pub looked_at : Search → ℕ
 looked_at search = node_at search search.done
 
--- how many links leave the node that is looked at, or lead into it (`heads`)
-abbrev pub links_looked_at : Net → Bool → Search → ℕ
-links_looked_at net heads search =
-    links_at (end_of net.links heads) (length net.links) (looked_at search) (length net.links)
+-- how many links have an end at the node that is looked at
+abbrev pub links_looked_at : Net → LinkEnd → Search → ℕ
+links_looked_at net end search =
+    links_at (end_of net.links end) (length net.links) (looked_at search) (length net.links)
 
 -- the queue of a search in a residual network of a network
 abbrev pub IsQueueIn : Net → ResidualNetwork → Search → Type 0
@@ -86,10 +87,10 @@ HasPassed net residual link old new =
     (next : ℕ) → passage net.links residual.states link (looked_at old) ≡ Some next
     → is_on new.reached.items next ≡ true
 
--- and so is what the links lead to that leave that node, or lead into it (`heads`)
-abbrev pub AllPassed : Net → ResidualNetwork → Bool → Search → Search → Type 0
-AllPassed net residual heads old new =
-    LeadsOn net.links residual.states (end_of net.links heads) (looked_at old) (length net.links)
+-- and so is what the links lead to that have an end at that node
+abbrev pub AllPassed : Net → ResidualNetwork → LinkEnd → Search → Search → Type 0
+AllPassed net residual end old new =
+    LeadsOn net.links residual.states (end_of net.links end) (looked_at old) (length net.links)
     new.reached.items
 
 -- whether a search reached the sink

@@ -1,6 +1,7 @@
 //! The used links of a residual network, decomposed into paths.
 ghost use Rattle.std.specs.Prelude.{◌≡◌, ◌<◌, IfOk, IsSome, OnOk, Some, false, length};
 ghost use Rattle.link_chains.specs.Chains.{AreFirstsAt, AreNextsAt};
+ghost use Rattle.link_chains.specs.declared.chains.LinkEnd.TheVariants.{Tail};
 ghost use Rattle.unit_flow.specs.Decomposition.{used_leaving};
 ghost use Rattle.unit_flow.specs.FlowOf.{HasUnit, HasValue, IsWithoutFirst, flow_paths, taken_of};
 ghost use Rattle.unit_flow.specs.Taking.{HasCursors};
@@ -22,7 +23,7 @@ struct Undecomposed {
 impl Undecomposed {
     // The least used link that leaves a node.
     fn next_used(&self, net: &Net, nexts: &[u32], node: u32) -> u32
-        requires nexts { AreNextsAt net.now false nexts.now }
+        requires nexts { AreNextsAt net.now Tail nexts.now }
         requires states { length self.now.residual.states ≡ length net.now.links }
         requires cursors { HasCursors net.now self.now }
         requires node { node < length net.now.nodes }
@@ -38,7 +39,7 @@ impl Undecomposed {
 
     // Takes the first path from the source to the sink: from each node the least used link that leaves it.
     fn take_path(&mut self, alloc: Global, net: &Net, nexts: &[u32]) -> Result<LinkList, AllocError>
-        requires nexts { AreNextsAt net.now false nexts.now }
+        requires nexts { AreNextsAt net.now Tail nexts.now }
         requires sink { self.old.residual.demand.sink < length net.now.sinks }
         requires unit { HasUnit net.now self.old.residual }
         requires cursors { HasCursors net.now self.old }
@@ -69,8 +70,8 @@ pub(crate) fn decompose(
     residual: Residual,
     value: u32,
 ) -> Result<Paths, AllocError>
-    requires firsts { AreFirstsAt net.now false from.now.firsts.items }
-    requires nexts { AreNextsAt net.now false from.now.nexts.items }
+    requires firsts { AreFirstsAt net.now Tail from.now.firsts.items }
+    requires nexts { AreNextsAt net.now Tail from.now.nexts.items }
     requires sink { residual.demand.sink < length net.now.sinks }
     requires conserved { HasValue net.now residual value }
     ensures { IfOk result (λ paths. paths ≡ flow_paths net.now residual value) }

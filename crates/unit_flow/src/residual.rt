@@ -32,7 +32,8 @@ impl Model for Residual {
 
     ghost Value = { ResidualNetwork };
 
-    ghost view = { λ residual. record { demand = residual.demand; states = residual.states.items } };
+    ghost view = { λ residual.
+        record { demand = residual.demand; states = residual.states.items } };
 }
 
 impl Residual {

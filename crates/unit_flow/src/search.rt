@@ -7,7 +7,7 @@ ghost use Rattle.unit_flow.specs.Searching.{AllPassed, HasPassed, HasPlaces, Has
 
 use crate::residual::Residual;
 use counted_steps::Steps;
-use link_chains::Wiring;
+use link_chains::{LinkEnd, Wiring};
 use net_model::Net;
 use std::alloc::{AllocError, Global};
 use std::sync::ledger::Ledger;
@@ -105,13 +105,12 @@ impl Search {
         next == sink
     }
 
-    // Passes the links that lead into the node that is looked at (`heads`), or those that leave it, and says
-    // whether one leads to the sink.
+    // Passes the links that have an end at the node that is looked at, and says whether one leads to the sink.
     fn pass_chain<L: Ledger>(
         &mut self,
         net: &Net,
         wiring: &Wiring,
-        heads: bool,
+        end: LinkEnd,
         residual: &Residual,
         sink: u32,
         steps: &mut Steps<L>,
@@ -123,11 +122,11 @@ impl Search {
         requires more { self.old.done < self.old.queued }
         ensures queue { IsQueueIn net.now residual.now self.new }
         ensures longer { IsLonger self.old self.new }
-        ensures passed { result ≡ false → AllPassed net.now residual.now heads self.old self.new }
+        ensures passed { result ≡ false → AllPassed net.now residual.now end self.old self.new }
         ensures sink { is_on self.new.reached.items sink ≡ result }
-        ensures ticks { RoseByAtMost (links_looked_at net.now heads self.old) steps.old steps.new }
+        ensures ticks { RoseByAtMost (links_looked_at net.now end self.old) steps.old steps.new }
     {
-        let chains = wiring.chains(heads);
+        let chains = wiring.chains(end);
         let count = net.links.len() as u32;
         let node = self.queue[self.done];
         let mut link = chains.firsts[node as usize];
@@ -160,8 +159,8 @@ impl Search {
         let sink = residual.sink(net);
         self.begin(net, residual);
         while self.done < self.queued {
-            if self.pass_chain(net, wiring, false, residual, sink, steps)
-                || self.pass_chain(net, wiring, true, residual, sink, steps)
+            if self.pass_chain(net, wiring, LinkEnd::Tail, residual, sink, steps)
+                || self.pass_chain(net, wiring, LinkEnd::Head, residual, sink, steps)
             {
                 return true;
             }

@@ -11,5 +11,6 @@ pub fn butterfly_is_routed()
 
 /// A source whose coefficient is zero is no operand.
 pub fn zero_coefficients_are_left_out()
-    ensures { operands_of (2 ∷ 4 ∷ 7 ∷ []) (5 ∷ 0 ∷ 1 ∷ []) ≡ record { from = 2; times = 5 } ∷ record { from = 7; times = 1 } ∷ [] }
+    ensures { operands_of (2 ∷ 4 ∷ 7 ∷ []) (5 ∷ 0 ∷ 1 ∷ [])
+        ≡ record { from = 2; times = 5 } ∷ record { from = 7; times = 1 } ∷ [] }
 {}

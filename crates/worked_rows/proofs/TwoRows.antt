@@ -6,7 +6,7 @@ use Rattle.gf_tables.specs.Product.{shift, repeated_shift, sum_of_shifts, octet_
 use Rattle.gf_tables.specs.declared.kind.FieldKind.TheVariants.{Eight}
 use Rattle.linear_algebra.specs.Rows.{add_rows, zero_row, combination}
 use Rattle.linear_algebra.proofs.CombinationLaws.{combination-one}
-use Rattle.linear_algebra.proofs.RowLaws.{scale_row-one, scale_row-zero, add_rows-zero_row, add_rows-comm, add_rows-twice, add_rows-elements, length-add_rows}
+use Rattle.linear_algebra.proofs.RowLaws.{scale_row-one, scale_row-zero, add_rows-zero_row, add_rows-comm, add_rows-twice, add_rows-elements, length-add_rows, zero_row-zero_row}
 use Rattle.node_program.specs.Decoding.{IsBlock, IsAccepted, decoding_of}
 use Rattle.node_program.specs.Value.{row_at, value_within}
 use Rattle.worked_rows.specs.Butterfly.{butterfly, changed_butterfly}
@@ -20,16 +20,11 @@ combination-both : (width : ℕ) (x y : List ℕ) → length y ≡ width → Are
 combination-both width x y wide h k =
     rw (scale_row-one Eight x h, scale_row-one Eight y k, ← wide) (ap (add_rows x) (add_rows-zero_row y))
 
--- the row of zeros twice
-zero_row-twice : (width : ℕ) → add_rows (zero_row width) (zero_row width) ≡ zero_row width
-zero_row-twice zero = refl
-zero_row-twice (suc width) = ap (λ (row : List ℕ). 0 ∷ row) (zero_row-twice width)
-
 -- a combination of two rows with the coefficients 1 and 0
 combination-first : (width : ℕ) (x y : List ℕ) → length x ≡ width → length y ≡ width → AreElements x
     → combination Eight width (1 ∷ 0 ∷ []) (x ∷ y ∷ []) ≡ x
 combination-first width x y wide_x wide_y h =
-    rw (scale_row-one Eight x h, scale_row-zero Eight y, wide_y, zero_row-twice width, ← wide_x) (add_rows-zero_row x)
+    rw (scale_row-one Eight x h, scale_row-zero Eight y, wide_y, zero_row-zero_row width, ← wide_x) (add_rows-zero_row x)
 
 -- two rows of one length, of elements
 module _ (x y : List ℕ) (same : length y ≡ length x) (h : AreElements x) (k : AreElements y) where

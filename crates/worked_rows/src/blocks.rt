@@ -28,6 +28,8 @@ pub fn lengths_of_blocks()
 
 /// The first six bytes of each block: the count in four bytes, then the file, then zeros.
 pub fn fronts_of_blocks()
-    ensures rate_1 { fronts (blocks_of_sevens 1021 1) ≡ (0 ∷ 0 ∷ 3 ∷ 252 ∷ 7 ∷ 7 ∷ []) ∷ (0 ∷ 0 ∷ 0 ∷ 1 ∷ 7 ∷ 0 ∷ []) ∷ [] }
-    ensures rate_2 { fronts (blocks_of_sevens 2044 2) ≡ (0 ∷ 0 ∷ 7 ∷ 252 ∷ 7 ∷ 7 ∷ []) ∷ (0 ∷ 0 ∷ 0 ∷ 0 ∷ 0 ∷ 0 ∷ []) ∷ [] }
+    ensures rate_1 { fronts (blocks_of_sevens 1021 1)
+        ≡ (0 ∷ 0 ∷ 3 ∷ 252 ∷ 7 ∷ 7 ∷ []) ∷ (0 ∷ 0 ∷ 0 ∷ 1 ∷ 7 ∷ 0 ∷ []) ∷ [] }
+    ensures rate_2 { fronts (blocks_of_sevens 2044 2)
+        ≡ (0 ∷ 0 ∷ 7 ∷ 252 ∷ 7 ∷ 7 ∷ []) ∷ (0 ∷ 0 ∷ 0 ∷ 0 ∷ 0 ∷ 0 ∷ []) ∷ [] }
 {}

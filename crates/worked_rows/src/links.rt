@@ -13,7 +13,8 @@ pub fn butterfly_vectors()
     ensures { let x : List ℕ = 1 ∷ 0 ∷ [] in
         let y : List ℕ = 0 ∷ 1 ∷ [] in
         let sum : List ℕ = 1 ∷ 1 ∷ [] in
-        map (vector_in butterfly 0) (range_with_len 0 9) ≡ x ∷ y ∷ x ∷ y ∷ x ∷ y ∷ sum ∷ sum ∷ sum ∷ [] }
+        map (vector_in butterfly 0) (range_with_len 0 9)
+        ≡ x ∷ y ∷ x ∷ y ∷ x ∷ y ∷ sum ∷ sum ∷ sum ∷ [] }
 {}
 
 /// Where the link from `s` to `a` fails, no link carries the first row.
@@ -21,7 +22,8 @@ pub fn cut_vectors()
     ensures failed { vector_in cut_butterfly 1 0 ≡ 0 ∷ 0 ∷ [] }
     ensures each { let none : List ℕ = 0 ∷ 0 ∷ [] in
         let y : List ℕ = 0 ∷ 1 ∷ [] in
-        map (vector_in cut_butterfly 1) (range_with_len 0 9) ≡ none ∷ y ∷ none ∷ y ∷ none ∷ y ∷ y ∷ y ∷ y ∷ [] }
+        map (vector_in cut_butterfly 1) (range_with_len 0 9)
+        ≡ none ∷ y ∷ none ∷ y ∷ none ∷ y ∷ y ∷ y ∷ y ∷ [] }
 {}
 
 /// Where the link from `s` to `a` fails, the links that only it feeds aren't live, and the others are.
@@ -33,6 +35,8 @@ pub fn live_links()
 /// With the coefficient 2 the link carries each byte of a block doubled, and the sink gets the block back: here
 /// the front of the block of a file of one byte.
 pub fn doubled_value()
-    ensures carried { value_in doubled_one_link 0 ((0 ∷ 0 ∷ 0 ∷ 1 ∷ 0x41 ∷ 0 ∷ []) ∷ []) 0 ≡ 0 ∷ 0 ∷ 0 ∷ 2 ∷ 0x82 ∷ 0 ∷ [] }
-    ensures taken { decoding_of doubled_one_link 0 ((0 ∷ 0 ∷ 0 ∷ 1 ∷ 0x41 ∷ 0 ∷ []) ∷ []) ≡ (0 ∷ 0 ∷ 0 ∷ 1 ∷ 0x41 ∷ 0 ∷ []) ∷ [] }
+    ensures carried { value_in doubled_one_link 0 ((0 ∷ 0 ∷ 0 ∷ 1 ∷ 0x41 ∷ 0 ∷ []) ∷ []) 0
+        ≡ 0 ∷ 0 ∷ 0 ∷ 2 ∷ 0x82 ∷ 0 ∷ [] }
+    ensures taken { decoding_of doubled_one_link 0 ((0 ∷ 0 ∷ 0 ∷ 1 ∷ 0x41 ∷ 0 ∷ []) ∷ [])
+        ≡ (0 ∷ 0 ∷ 0 ∷ 1 ∷ 0x41 ∷ 0 ∷ []) ∷ [] }
 {}

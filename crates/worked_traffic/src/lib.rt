@@ -19,7 +19,8 @@ pub fn one_link_keys()
 pub fn butterfly_keys()
     ensures all { length (keys_of butterfly 0 (record { first = 0; blocks = [] ∷ [] ∷ [] })) ≡ 144 }
     ensures live { live_links_of cut_butterfly 1 ≡ 1 ∷ 3 ∷ 5 ∷ 6 ∷ 7 ∷ 8 ∷ [] }
-    ensures cut { length (keys_of cut_butterfly 1 (record { first = 0; blocks = [] ∷ [] ∷ [] })) ≡ 96 }
+    ensures cut { length (keys_of cut_butterfly 1 (record { first = 0; blocks = [] ∷ [] ∷ [] }))
+        ≡ 96 }
 {}
 
 /// With the coefficient 2 the first packet of a block has its bytes doubled: here the front of the block of a file

@@ -4,6 +4,7 @@ use super::numbered::{element, row, two_by_two};
 use counted_steps::Steps;
 use field_vectors::{Matrix, dot};
 use gf_tables::{Field, Gf8, Gf16};
+use net_model::HIGHEST_RATE;
 use sink_basis::Basis;
 use std::alloc::{AllocError, Global};
 use std::sync::ledger::Ledger;
@@ -150,7 +151,7 @@ impl Counted for Rounds {
     // How many were renewals, and whether the products were right after each.
     fn run<F: Field, L: Ledger>(self, alloc: Global, mut steps: Steps<L>) -> Option<(u32, bool)> {
         let Rounds { h, rounds } = self;
-        if h < 1 || h > 32 {
+        if h < 1 || h > HIGHEST_RATE {
             return None;
         }
         let mut basis = Basis::<F>::start(alloc, h).ok()?;

@@ -2,7 +2,7 @@
 use super::steps::certificate_at;
 use super::{are_paths, numbered};
 use cut_witness::{Cert, certify_all, rate};
-use failure_patterns::demands;
+use failure_patterns::{PAIR_DEMANDS, demands};
 use lif_outside::{Gate, NoGate};
 use net_model::{Demand, Net};
 use std::alloc::Global;
@@ -195,7 +195,7 @@ fn are_made<G: Gate + Sync, R: Threads + Sync>(
     workers: u32,
     gate: &G,
 ) -> bool {
-    if workers == 0 || demands(net) > 65536 {
+    if workers == 0 || demands(net) > PAIR_DEMANDS {
         return false;
     }
     match certify_all(rt, alloc, net, workers, gate) {

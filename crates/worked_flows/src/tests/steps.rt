@@ -24,7 +24,8 @@ fn counted_flow<L: Ledger>(
     requires name { blank.name ≡ L.name }
     requires parts { blank.parts ≡ L.parts }
     requires some_part { 0 < blank.parts }
-    ensures visits { IfOk result (λ counted. counted.1 ≤ 2 * length net.now.links * (length counted.0.paths + 1)) }
+    ensures visits { IfOk result
+        (λ counted. counted.1 ≤ 2 * length net.now.links * (length counted.0.paths + 1)) }
 {
     let mut steps = Steps::<L>::start(blank);
     let flow = max_flow(alloc, net, demand, &mut steps)?;

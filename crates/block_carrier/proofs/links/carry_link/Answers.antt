@@ -1,7 +1,6 @@
 use Rattle.std.proofs.Common.{ℕ, List, [], length, true, false, ◌≡◌, ◌≢◌, ◌<◌, ◌++◌, sym, ap, ◌∙◌, arith, get_or}
 use Rattle.std.specs.Prelude.{Option, unwrap_or}
 use Rattle.std.specs.List.{All}
-use Rattle.std.proofs.lemmas.Bool.{eq-eqb, ne_eqb}
 use Rattle.std.proofs.lemmas.List.Elements.{All-from_get_or}
 use Rattle.field_rows.specs.Bytes.{elements_of}
 use Rattle.node_program.proofs.LiveLaws.{length-operands, operands_of_link}
@@ -9,10 +8,11 @@ use Rattle.node_program.specs.Operands.{IsOperand}
 use Rattle.net_model.specs.Walks.{leaves_source}
 use Rattle.node_program.specs.Value.{operands_at}
 use Rattle.node_program.specs.declared.Operand.{Operand}
-use Rattle.block_carrier.proofs.BlockLaws.{row_at-block_elements}
+use Rattle.coded_traffic.proofs.BlockLaws.{row_at-block_elements}
 use Rattle.block_carrier.proofs.CarriedLaws.{value_from-sum}
-use Rattle.block_carrier.specs.LinkRows.{row_of, elements_at, IsBlockOf}
-use Rattle.block_carrier.proofs.RowLaws.{row_lies_within, row_of-other, row_of-at, row_of-front}
+use Rattle.coded_traffic.specs.CodeBlocks.{row_of, elements_at, IsBlockOf}
+use Rattle.block_carrier.proofs.RowLaws.{row_of-other, row_of-at, row_of-front}
+use Rattle.coded_traffic.proofs.RowLaws.{row_lies_within}
 use Rattle.block_carrier.proofs.links.carry_link.Goals as goal
 use Rattle.block_carrier.proofs.links.carry_link.Goals.{After-split_at_mut-row}
 

@@ -13,8 +13,10 @@ use Rattle.node_program.specs.Decoding.{IsDecoder}
 use Rattle.node_program.proofs.DecodingLaws.{decoder_of_demand, link_within}
 use Rattle.node_program.specs.declared.Decoder.{Decoder}
 use Rattle.block_carrier.proofs.DecodedLaws.{block_elements-decoded}
-use Rattle.block_carrier.specs.LinkRows.{elements_at, sum_of_rows, IsRowWritten}
-use Rattle.block_carrier.proofs.RowLaws.{row_lies_within, IsRowWritten-put}
+use Rattle.block_carrier.specs.LinkRows.{sum_of_rows, IsRowWritten}
+use Rattle.coded_traffic.specs.CodeBlocks.{elements_at}
+use Rattle.block_carrier.proofs.RowLaws.{IsRowWritten-put}
+use Rattle.coded_traffic.proofs.RowLaws.{row_lies_within}
 use Rattle.block_carrier.proofs.links.decode_rows.Goals as goal
 use Rattle.block_carrier.proofs.links.decode_rows.Goals.{After-as_slice-links}
 

@@ -1,5 +1,6 @@
 use Rattle.std.proofs.Common.{◌≡◌, ◌<◌, ℕ, length, take, drop, ◌*◌}
-use Rattle.block_carrier.specs.LinkRows.{elements_at, sum_of_rows}
+use Rattle.block_carrier.specs.LinkRows.{sum_of_rows}
+use Rattle.coded_traffic.specs.CodeBlocks.{elements_at}
 use Rattle.block_carrier.proofs.links.decode_rows.Given as goal
 
 -- the rows so far are the sums that the decoder names

@@ -1,6 +1,7 @@
 use Rattle.std.proofs.Common.{ap, ◌∙◌, arith, get_or, refl}
 use Rattle.field_rows.specs.Bytes.{elements_of}
-use Rattle.block_carrier.proofs.RowLaws.{sum_of_rows-added, elements_of-zeros}
+use Rattle.block_carrier.proofs.RowLaws.{sum_of_rows-added}
+use Rattle.coded_traffic.proofs.RowLaws.{elements_of-zeros}
 use Rattle.block_carrier.proofs.sums.sum_links.Goals as goal
 
 pub loop-j-init : goal.loop-j-init

@@ -2,7 +2,8 @@ use Rattle.std.proofs.Common.{ap, ◌∙◌, sym, arith, get_or, map}
 use Rattle.std.proofs.lemmas.List.{length-map, get_or-map}
 use Rattle.field_rows.specs.Bytes.{elements_of}
 use Rattle.node_program.specs.declared.Operand.{Operand}
-use Rattle.block_carrier.proofs.RowLaws.{sum_of_rows-added, elements_of-zeros}
+use Rattle.block_carrier.proofs.RowLaws.{sum_of_rows-added}
+use Rattle.coded_traffic.proofs.RowLaws.{elements_of-zeros}
 use Rattle.block_carrier.proofs.sums.sum_operands.Goals as goal
 
 pub loop-operand-init : goal.loop-operand-init

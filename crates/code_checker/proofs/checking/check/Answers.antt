@@ -1,5 +1,6 @@
 use Rattle.std.proofs.Common.{length, subst}
 use Rattle.std.specs.Prelude.{Option}
+use Rattle.cut_bound.proofs.RateLaws.{accepted-within_cuts}
 use Rattle.code_checker.proofs.CheckingLaws.{FailsFirst-refuses}
 use Rattle.code_checker.specs.First.{IsFirstBefore}
 use Rattle.code_checker.specs.declared.products.Failure.{Failure}
@@ -10,6 +11,11 @@ pub of-requires : goal.of-requires
 of-requires g c =
     let First : Option Failure → Type 0 = IsFirstBefore c.args.code (length c.args.code.net.patterns) 0 in
     accepted c.args.code (subst First c.in-Ok-None.field-0-is c.in-Ok-None.ensures)
+
+pub returns-in-Ok-None-clause-cuts : goal.returns-in-Ok-None-clause-cuts
+returns-in-Ok-None-clause-cuts g c =
+    let First : Option Failure → Type 0 = IsFirstBefore c.args.code (length c.args.code.net.patterns) 0 in
+    accepted-within_cuts c.args.code (accepted c.args.code (subst First c.in-Ok-None.field-0-is c.in-Ok-None.ensures))
 
 pub returns-in-Ok-Some-clause-rejected : goal.returns-in-Ok-Some-clause-rejected
 returns-in-Ok-Some-clause-rejected g c =

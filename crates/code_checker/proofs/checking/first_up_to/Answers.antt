@@ -1,4 +1,4 @@
-use Rattle.std.proofs.Common.{◌≡◌, ◌+◌, ◌*◌, ◌%◌, ℕ, length, sym, ap, subst, ◌∙◌, arith, IfSome, IfNone}
+use Rattle.std.proofs.Common.{◌≡◌, ◌%◌, ℕ, length, sym, ap, subst, ◌∙◌, arith, IfSome, IfNone}
 use Rattle.std.specs.Prelude.{Option}
 use Rattle.linear_algebra.specs.Matrices.{identity}
 use Rattle.node_program.specs.Vectors.{AreVectors}

@@ -1,5 +1,5 @@
 use Rattle.std.proofs.Common.{◌+◌, ◌*◌, ◌<◌, ap, sym, subst, ◌∙◌, length, List, arith, slice_index, ℕ}
-use Rattle.linear_algebra.proofs.EntryLaws.{place_within}
+use Rattle.list_laws.proofs.Places.{place_within}
 use Rattle.linear_algebra.specs.Matrices.{rows_of}
 use Rattle.linear_algebra.specs.Rows.{AreElements}
 use Rattle.code_checker.specs.Loaded.{Shows}

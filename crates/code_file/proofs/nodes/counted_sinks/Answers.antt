@@ -1,9 +1,9 @@
 use Rattle.std.proofs.Common.{◌≡◌, ℕ, ◌+◌, List, ◌++◌, length, drop, take, Ok, ap, ◌∙◌, arith}
 use Rattle.std.proofs.lemmas.Result.{err_from_is_err_and}
 use Rattle.std.proofs.lemmas.List.{length_push}
+use Rattle.list_laws.proofs.Writes.{written_back}
 use Rattle.code_file.specs.Reading.{Rest, Reading, sink_at}
 use Rattle.code_file.specs.Gives.{Fails, left_of}
-use Rattle.code_file.proofs.Lists.{kept_size}
 use Rattle.code_file.proofs.Loop.{goes_on, ends, is_done}
 use Rattle.code_file.proofs.nodes.counted_sinks.Goals as goal
 
@@ -19,7 +19,7 @@ loop-preserved c =
     let part : List (ℕ) → Rest → Reading (ℕ) = sink_at c.args.nodes c.args.source in
     let read : part c.loop.sinks.items (left_of c.loop.rest) ≡ Ok (c.in_ok-one.one, left_of c.in_ok-one.after) = rw (← c.deref.ensures.value) (c.in_ok-one.ensures.gives) in
     let kept : take c.loop.marks.len (c.sink.new.marks ++ drop (length c.sink.new.marks) c.loop.marks.items) ≡ c.sink.new.marks =
-    kept_size _ _ _ (omega (arith, c.in_ok-one.ensures.marked.size, c.loop.invariant.marks.size)) (omega (arith, c.loop.marks.ok.0)) in
+    written_back _ _ _ (omega (arith, c.loop.marks.ok.0)) (omega (arith, c.in_ok-one.ensures.marked.size, c.loop.invariant.marks.size)) in
     record {
       so_far = rw c.in_ok-push.ensures.items (goes_on part c.args.count c.loop.counter c.loop.sinks.items (left_of c.loop.rest) _ c.in_ok-one.one (left_of c.in_ok-one.after) c.loop-test.true read c.loop.invariant.so_far);
       marks = rw (c.in_ok-push.ensures.items, kept, ← c.deref.ensures.value) c.in_ok-one.ensures.marked;

@@ -1,4 +1,5 @@
-use Rattle.lif_cli.proofs.Handles.{none_stays, at_err}
+use Rattle.lif_cli.proofs.Handles.{none_stays}
+use Rattle.top_base.proofs.Exits.{on_err}
 use Rattle.lif_cli.proofs.files.append_to.Goals as goal
 
 -- a file that wasn't kept isn't after others were closed
@@ -6,7 +7,7 @@ pub keep-requires : goal.keep-requires
 keep-requires g c = none_stays c.in_default.ensures.still (c.open.ensures c.args.path.now)
 
 pub returns-in_err-opened-clause-closes : goal.returns-in_err-opened-clause-closes
-returns-in_err-opened-clause-closes g c = at_err c.from_residual.result (none_stays c.in_default.ensures.still (c.open.ensures c.args.path.now))
+returns-in_err-opened-clause-closes g c = on_err c.from_residual.result (none_stays c.in_default.ensures.still (c.open.ensures c.args.path.now))
 
 pub returns-in_err-file-clause-closes : goal.returns-in_err-file-clause-closes
-returns-in_err-file-clause-closes g c = at_err c.from_residual-in_err-file.result (none_stays c.in_default.ensures.still (c.open.ensures c.args.path.now))
+returns-in_err-file-clause-closes g c = on_err c.from_residual-in_err-file.result (none_stays c.in_default.ensures.still (c.open.ensures c.args.path.now))

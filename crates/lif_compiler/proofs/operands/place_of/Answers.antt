@@ -3,7 +3,7 @@ use Rattle.std.proofs.Common.{arith, get_or, inl, inr}
 use Rattle.std.proofs.lemmas.Bool.{cases_lt}
 use Rattle.std.proofs.lemmas.List.Sorted.{searched}
 use Rattle.std.proofs.lemmas.Result.{MatchResult-at_err}
-use Rattle.lif_compiler.proofs.RisingLaws.{rising-at_most, rising-place, place-from_is_among}
+use Rattle.net_model.proofs.RisingLaws.{rising-at_most, rising-place, place-from_is_among}
 use Rattle.lif_compiler.proofs.operands.place_of.Goals as goal
 
 pub overflow_cast-result : goal.overflow_cast-result

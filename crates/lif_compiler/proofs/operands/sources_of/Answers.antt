@@ -5,7 +5,7 @@ use Rattle.std.proofs.lemmas.List.Filters.{dedup_is}
 use Rattle.std.proofs.lemmas.List.Sorted.{list_any-IsPermutation}
 use Rattle.net_model.specs.Lists.{is_among}
 use Rattle.lif_compiler.specs.Operands.{AreSources, befores}
-use Rattle.lif_compiler.proofs.RisingLaws.{is_among-dedup, is_rising-dedup}
+use Rattle.net_model.proofs.RisingLaws.{is_among-dedup, is_rising-dedup}
 use Rattle.lif_compiler.proofs.operands.sources_of.Goals as goal
 
 pub returns : goal.returns

@@ -4,7 +4,7 @@ use Rattle.lif_compiler.proofs.RatingLaws.{IsFirstOfValue-within, IsRateOver-fir
 use Rattle.lif_compiler.specs.Rating.{IsFirstOfValue}
 use Rattle.lif_compiler.specs.Refused.{IsZeroRate}
 use Rattle.lif_compiler.proofs.rating.bounded_rate.Goals as goal
-use Rattle.lif_compiler.proofs.rating.bounded_rate.Goals.{else-least-ge1-via-then-least-ge1+else-least-le-GREATEST_RATE, else-least-ge1-via-else-least-ge1}
+use Rattle.lif_compiler.proofs.rating.bounded_rate.Goals.{else-least-ge1-via-then-least-ge1+else-least-le-HIGHEST_RATE, else-least-ge1-via-else-least-ge1}
 
 pub rate-least-requires : goal.rate-least-requires
 rate-least-requires c = some_certificate c.args.net.now c.args.certs.now c.requires
@@ -12,9 +12,9 @@ rate-least-requires c = some_certificate c.args.net.now c.args.certs.now c.requi
 pub overflow_cast-demand : goal.overflow_cast-demand
 overflow_cast-demand c = omega (arith, IsFirstOfValue-small c.args.net.now c.args.certs.now c.requires c.rate-least.result c.first_with_value-number.result c.first_with_value-number.ensures)
 
-pub returns-then-least-gt-GREATEST_RATE-clause-refused : goal.returns-then-least-gt-GREATEST_RATE-clause-refused
-returns-then-least-gt-GREATEST_RATE-clause-refused c =
-    IsRateOver-first c.args.net.now c.args.certs.now c.requires c.first_with_value-number.result c.rate-least.result c.if-least-gt-GREATEST_RATE.true c.rate-least.ensures c.first_with_value-number.ensures
+pub returns-then-least-gt-HIGHEST_RATE-clause-refused : goal.returns-then-least-gt-HIGHEST_RATE-clause-refused
+returns-then-least-gt-HIGHEST_RATE-clause-refused c =
+    IsRateOver-first c.args.net.now c.args.certs.now c.requires c.first_with_value-number.result c.rate-least.result c.if-least-gt-HIGHEST_RATE.true c.rate-least.ensures c.first_with_value-number.ensures
 
 pub offset_bounds-certs-number : goal.offset_bounds-certs-number
 offset_bounds-certs-number c = omega (arith, IsFirstOfValue-small c.args.net.now c.args.certs.now c.requires c.rate-least.result c.first_with_value-number.result c.first_with_value-number.ensures)
@@ -29,7 +29,7 @@ returns-clause-refused c =
     let number = c.first_with_value-number.result in
     let cert = c.index-certs-number.result in
     let none : c.rate-least.result ≡ 0 = elim c.else-least-ge1.branch [
-      | else-least-ge1-via-then-least-ge1+else-least-le-GREATEST_RATE w ↦ omega arith
+      | else-least-ge1-via-then-least-ge1+else-least-le-HIGHEST_RATE w ↦ omega arith
       | else-least-ge1-via-else-least-ge1 w ↦ omega arith
     ] in
     let First = IsFirstOfValue certs in

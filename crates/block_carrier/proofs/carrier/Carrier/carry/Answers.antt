@@ -8,7 +8,8 @@ use Rattle.block_carrier.specs.Carried.{Carried}
 use Rattle.block_carrier.proofs.CarriedLaws.{AreLinkRows-written, AreCarried-written, AreCarried-dead}
 use Rattle.block_carrier.proofs.DecodedLaws.{decoded_block-first}
 use Rattle.block_carrier.proofs.CarrierLaws.{IsCarrier-carried}
-use Rattle.block_carrier.specs.LinkRows.{AreLinkRows, AreCarried, IsLiveTable, IsBlockOf, IsCarrier, decoded_block}
+use Rattle.block_carrier.specs.LinkRows.{AreLinkRows, AreCarried, IsLiveTable, IsCarrier, decoded_block}
+use Rattle.coded_traffic.specs.CodeBlocks.{IsBlockOf}
 use Rattle.block_carrier.proofs.carrier.Carrier.carry.Goals as goal
 use Rattle.block_carrier.proofs.carrier.Carrier.carry.Goals.{After-as_mut_slice-rows, After-loop-link, then-at, else-at}
 

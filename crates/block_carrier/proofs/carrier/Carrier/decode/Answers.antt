@@ -2,10 +2,11 @@ use Rattle.std.proofs.Common.{ℕ, List, Bool, true, ◌≡◌, ◌<◌, ◌+◌
 use Rattle.std.proofs.lemmas.List.Elements.{All-from_get_or}
 use Rattle.node_program.specs.declared.code.Code.{Code}
 use Rattle.node_program.specs.Decoding.{IsAccepted}
-use Rattle.block_carrier.specs.Carried.{Carried, HasBlock, block_elements}
+use Rattle.block_carrier.specs.Carried.{Carried, HasBlock}
+use Rattle.coded_traffic.specs.CodeBlocks.{block_elements, IsBlockOf}
 use Rattle.block_carrier.proofs.DecodedLaws.{decoded-carried}
 use Rattle.block_carrier.proofs.CarrierLaws.{has_block}
-use Rattle.block_carrier.specs.LinkRows.{IsBlockOf, decoded_rows, decoded_block, carried_of}
+use Rattle.block_carrier.specs.LinkRows.{decoded_rows, decoded_block, carried_of}
 use Rattle.block_carrier.proofs.carrier.Carrier.decode.Goals as goal
 
 pub returns : goal.returns

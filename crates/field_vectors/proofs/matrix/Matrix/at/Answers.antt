@@ -1,8 +1,8 @@
 use Rattle.std.proofs.Common.{◌<◌, length, arith, ap, ◌∙◌, sym, subst, get_or}
 use Rattle.std.proofs.lemmas.List.{get_or_read}
 use Rattle.std.proofs.lemmas.List.Elements.{All-get_or}
+use Rattle.list_laws.proofs.Places.{place_within}
 use Rattle.field_vectors.proofs.CutLaws.{get_or-cut_entry}
-use Rattle.linear_algebra.proofs.EntryLaws.{place_within}
 use Rattle.field_vectors.proofs.GridSteps.{shown-IsMatrix, row_below, columns_are}
 use Rattle.field_vectors.specs.Grid.{entry_of}
 use Rattle.field_vectors.proofs.matrix.Matrix.at.Goals as goal

@@ -1,4 +1,5 @@
-use Rattle.std.proofs.Common.{◌≡◌, ◌++◌, ◌∙◌, List, All, drop, length, take, arith, ap, refl, sym, subst}
+use Rattle.std.proofs.Common.{◌≡◌, ◌∙◌, All, length, arith, ap, refl, sym, subst}
+use Rattle.list_laws.proofs.Writes.{written_back}
 use Rattle.lif_compiler.specs.Bases.{HasMatrices, HasWidth}
 use Rattle.lif_compiler.specs.Operands.{befores}
 use Rattle.lif_compiler.specs.PartialCodes.{HaveProducts}
@@ -8,7 +9,7 @@ use Rattle.lif_compiler.proofs.BasesLaws.{LawsOf}
 use Rattle.lif_compiler.proofs.ReadySteps.{among, feeding, few_hops, item_of, own_product, shape, some_basis, widths}
 use Rattle.lif_compiler.proofs.RenewSteps.{renewed_at}
 use Rattle.lif_compiler.proofs.StandSteps.{visited_more}
-use Rattle.lif_compiler.proofs.VisitSteps.{carried_here, carry_links, carry_rows, carry_shape, carry_times, carry_zeros, chosen_here, new_back, renew_nonzero, renew_shape, written_back}
+use Rattle.lif_compiler.proofs.VisitSteps.{carried_here, carry_links, carry_rows, carry_shape, carry_times, carry_zeros, chosen_here, new_back, renew_nonzero, renew_shape}
 use Rattle.lif_compiler.proofs.partial_code.PartialCode.visit.Goals as goal
 
 pub choose_operands-requires-clause-vectors : goal.choose_operands-requires-clause-vectors

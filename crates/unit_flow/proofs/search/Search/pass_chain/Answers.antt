@@ -16,13 +16,13 @@ loop-link-init g c =
     let net = c.args.net.now in
     let search = c.args.self.now in
     let network = flow_network net c.args.residual.now.demand in
-    let end : ℕ → ℕ = end_of net.links c.args.heads in
+    let end : ℕ → ℕ = end_of net.links c.args.end in
     let chains = c.chains-chains.result.now in
     let node = c.index-node.result.now in
     let place : search.done < length search.queue.items = omega (arith, c.requires.more, c.requires.queue.within, c.requires.queue.places.queue) in
     let node_is : node ≡ node_at search search.done = get_or_read search.queue.items search.done node place c.index-node.ensures 0 in
     let Firsts : Chains → Type 0 = λ some. AreFirsts end (length net.links) (length net.nodes) 0 some.firsts.items in
-    let firsts : Firsts chains = subst Firsts (sym c.chains-chains.ensures) (AreFirsts-wiring net.links (length net.nodes) c.args.wiring.now c.args.heads c.requires.wiring) in
+    let firsts : Firsts chains = subst Firsts (sym c.chains-chains.ensures) (AreFirsts-wiring net.links (length net.nodes) c.args.wiring.now c.args.end c.requires.wiring) in
     let below : node < length net.nodes = rw node_is (c.requires.queue.nodes search.done c.requires.more) in
     let inside : node < length chains.firsts.items = omega (arith, firsts.each_node) in
     let Next : ℕ → Type 0 = λ link. IsNextAt end (length net.links) node 0 link in
@@ -41,9 +41,9 @@ returns-then-pass-clause-ticks g c =
     let search = c.loop-link.self in
     let inside : c.loop-link.link < length net.links = omega (arith, c.loop-link-test.true, c.len-count.ensures) in
     let From : ℕ → ℕ → Type 0 = λ to node. passage net.links states c.loop-link.link node ≡ Some to in
-    let Rose : ℕ → Type 0 = λ n. RoseByAtMost (links_at (end_of net.links c.args.heads) (length net.links) (node_at old old.done) (length net.links)) c.args.steps.now n in
+    let Rose : ℕ → Type 0 = λ n. RoseByAtMost (links_at (end_of net.links c.args.end) (length net.links) (node_at old old.done) (length net.links)) c.args.steps.now n in
     subst Rose (sym c.pass.ensures.ticks)
-    (counted_most (flow_network net c.args.residual.now.demand) states (end_of net.links c.args.heads) old search c.pass.new.self (node_at old old.done) c.args.sink c.loop-link.link
+    (counted_most (flow_network net c.args.residual.now.demand) states (end_of net.links c.args.end) old search c.pass.new.self (node_at old old.done) c.args.sink c.loop-link.link
     c.args.steps.now c.loop-link.steps c.loop-link.invariant inside c.pass.ensures.longer
     (λ to leads. c.pass.ensures.passed to (subst (From to) (sym (node_stays old search c.loop-link.invariant.longer c.requires.more)) leads)))
 
@@ -52,7 +52,7 @@ loop-link-preserved g c =
     let net = c.args.net.now in
     let states = c.args.residual.now.states in
     let network = flow_network net c.args.residual.now.demand in
-    let end : ℕ → ℕ = end_of net.links c.args.heads in
+    let end : ℕ → ℕ = end_of net.links c.args.end in
     let old = c.args.self.now in
     let search = c.loop-link.self in
     let link = c.loop-link.link in
@@ -60,7 +60,7 @@ loop-link-preserved g c =
     let next = c.index-link-in-loop-link.result.now in
     let within : link < length net.links = omega (arith, c.loop-link-test.true, c.len-count.ensures) in
     let Nexts : Chains → Type 0 = λ some. AreNexts end (length net.links) 0 some.nexts.items in
-    let nexts : Nexts chains = subst Nexts (sym c.chains-chains.ensures) (AreNexts-wiring net.links (length net.nodes) c.args.wiring.now c.args.heads c.requires.wiring) in
+    let nexts : Nexts chains = subst Nexts (sym c.chains-chains.ensures) (AreNexts-wiring net.links (length net.nodes) c.args.wiring.now c.args.end c.requires.wiring) in
     let inside : link < length chains.nexts.items = omega (arith, nexts.each_link) in
     let Next : ℕ → Type 0 = λ to. IsNextAt end (length net.links) (end link) (link + 1) to in
     let From : ℕ → ℕ → Type 0 = λ to node. passage net.links states link node ≡ Some to in

@@ -1,0 +1,5 @@
+pub mod CountLaws
+pub mod DownLaws
+pub mod ReaderLaws
+pub mod TableLaws
+pub mod WaitingLaws

@@ -1,0 +1,11 @@
+use Rattle.std.proofs.Common.{◌∙◌, All, subst, sym}
+use Rattle.std.proofs.lemmas.List.{with_items_is}
+use Rattle.due_sums.specs.Counts.{IsFresh}
+use Rattle.due_sums.proofs.WaitingLaws.{HasNothing-fresh}
+use Rattle.due_sums.proofs.due_sums.DueSums.clear.Goals as goal
+
+pub returns-clause-nothing : goal.returns-clause-nothing
+returns-clause-nothing c =
+    let inside = c.self.inside in
+    HasNothing-fresh inside.inputs inside.sums _
+    (subst (All (IsFresh inside.inputs inside.sums)) (sym (with_items_is inside.tables c.clear_tables.new.tables (c.clear_tables.auto.tables ∙ c.deref_mut.ensures.len))) c.clear_tables.ensures)

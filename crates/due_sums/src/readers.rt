@@ -1,0 +1,43 @@
+//! For each input the sums that read it.
+ghost use Rattle.std.specs.Prelude.{◌≡◌, ◌<◌, ◌≤◌, ℕ, [], All, IfOk, OnOk, length};
+ghost use Rattle.due_sums.specs.Counts.{AreReaders, GainReader, list_at, lists_of};
+
+use crate::SumTable;
+use std::alloc::{AllocError, Global};
+
+// For each of so many inputs the sums that read it.
+pub fn readers_of(alloc: Global, inputs: u32, sums: &SumTable) -> Result<Vec<Vec<u32>>, AllocError>
+    requires few { length sums.now ≤ 8192 }
+    requires below { All (All (λ input. input < inputs)) sums.now }
+    ensures { IfOk result (λ readers. AreReaders inputs sums.now (lists_of readers.items)) }
+{
+    let mut readers = empty_lists(alloc, inputs)?;
+    for (sum, inputs) in sums.as_slice().iter().enumerate() {
+        add_reader(&mut readers, sum as u32, inputs.as_slice())?;
+    }
+    Ok(readers)
+}
+
+// So many empty lists.
+fn empty_lists(alloc: Global, count: u32) -> Result<Vec<Vec<u32>>, AllocError>
+    ensures count { IfOk result (λ lists. length (lists_of lists.items) ≡ count) }
+    ensures empty { IfOk result (λ lists. (at : ℕ) → list_at (lists_of lists.items) at ≡ []) }
+{
+    let mut lists = Vec::with_capacity(alloc, count as usize)?;
+    for _ in 0..count {
+        lists.push(Vec::new(alloc))?;
+    }
+    Ok(lists)
+}
+
+// Adds a sum to the readers of each of its inputs.
+fn add_reader(readers: &mut [Vec<u32>], sum: u32, inputs: &[u32]) -> Result<(), AllocError>
+    requires { All (λ input. input < length readers.old) inputs.now }
+    ensures { OnOk result
+        (GainReader sum inputs.now (lists_of readers.old) (lists_of readers.new)) }
+{
+    for input in inputs {
+        readers[*input as usize].push(sum)?;
+    }
+    Ok(())
+}

@@ -1,0 +1,3 @@
+pub mod SubsetLaws
+pub mod NameLaws
+pub mod NetworkLaws

@@ -1,0 +1,6 @@
+pub mod ListLaws
+pub mod OrderLaws
+pub mod InputLaws
+pub mod PlanLaws
+pub mod ListedLaws
+pub mod WiringLaws

@@ -1,0 +1,115 @@
+//! The live links at each node.
+ghost use Rattle.std.specs.Prelude.{◌≡◌, ◌<◌, IfOk, length};
+ghost use Rattle.std.specs.Arc.{arc_value};
+ghost use Rattle.due_sums.specs.Waiting.{AreSums};
+
+use crate::Plan;
+use crate::listing::{Listed, list_links};
+use crate::live_operands::operands_of_links;
+use item_list::ItemList;
+use net_model::LinkList;
+use node_program::{Code, LiveLinks, live_links};
+use std::alloc::{AllocError, Global};
+use std::marker::Model;
+use std::sync::Arc;
+
+/// For each link a place.
+pub type PlaceTable = ItemList<u32>;
+
+/// The live links of a code under a pattern: those into each node and out of it, and the place of each among those
+/// into its head. It is made once for all nodes.
+#[derive(Drop)]
+pub struct Wiring {
+    live: LiveLinks,
+    ins: Vec<Vec<u32>>,
+    outs: Vec<Vec<u32>>,
+    places: Arc<PlaceTable>,
+}
+
+impl Model for Wiring {
+    ghost use Rattle.node_plans.specs.Wired.{Wired};
+
+    ghost Value = { Wired };
+
+    ghost use Rattle.std.specs.Arc.{arc_value};
+    ghost use Rattle.node_plans.specs.Listed.{items_of};
+
+    ghost view = { λ wiring. record {
+      live = wiring.live;
+      ins = items_of wiring.ins.items;
+      outs = items_of wiring.outs.items;
+      places = arc_value wiring.places;
+    } };
+}
+
+impl Wiring {
+    ghost use Rattle.node_plans.specs.Plans.{IsPlan, input_count, plan_of, sums_of};
+    ghost use Rattle.node_plans.specs.Wired.{HasPlaces, IsWiringOf};
+
+    /// The wiring of a code under a pattern, in time linear in its links and operands.
+    pub fn of(alloc: Global, code: &Code, pattern: u32) -> Result<Wiring, AllocError>
+        requires { pattern < length code.now.net.patterns }
+        ensures { IfOk result (IsWiringOf code.now pattern) }
+    {
+        let live = live_links(alloc, code, pattern)?;
+        let Listed { ins, outs, places } = list_links(alloc, code, live.as_slice())?;
+        let places = Arc::new(alloc, ItemList::of(places))?;
+        Ok(Wiring {
+            live,
+            ins,
+            outs,
+            places,
+        })
+    }
+
+    /// Which links are live.
+    pub fn live(&self) -> &LiveLinks
+        ensures { result.now ≡ self.now.live }
+    {
+        &self.live
+    }
+
+    /// The place of each live link among those into its head.
+    pub fn places(&self) -> &Arc<PlaceTable>
+        ensures { arc_value result.now ≡ self.now.places }
+    {
+        &self.places
+    }
+
+    /// The plan of a node, in time linear in the links at it and their operands.
+    pub fn plan(
+        &self,
+        alloc: Global,
+        code: &Code,
+        pattern: u32,
+        node: u32,
+    ) -> Result<Plan, AllocError>
+        requires wiring { IsWiringOf code.now pattern self.now }
+        requires pattern { pattern < length code.now.net.patterns }
+        requires node { node < length code.now.net.nodes }
+        ensures value { IfOk result (λ plan. plan ≡ plan_of code.now pattern node) }
+        ensures plan { IfOk result IsPlan }
+        ensures sums { IfOk result (λ plan. AreSums (input_count plan) (sums_of plan)) }
+        ensures places { IfOk result (λ plan. HasPlaces plan self.now.places) }
+    {
+        let ins = copied(alloc, self.ins[node as usize].as_slice())?;
+        let outs = copied(alloc, self.outs[node as usize].as_slice())?;
+        let operands = operands_of_links(alloc, code, self.live.as_slice(), outs.as_slice())?;
+        Ok(Plan {
+            field: code.field,
+            rate: code.rate,
+            is_source: node == code.net.source,
+            ins,
+            outs,
+            operands,
+        })
+    }
+}
+
+// A list of these links.
+fn copied(alloc: Global, links: &[u32]) -> Result<LinkList, AllocError>
+    ensures { IfOk result (λ list. list ≡ links.now) }
+{
+    let list = links.iter().copied().collect(alloc)?;
+    Ok(ItemList::of(list))
+}

@@ -1,0 +1,6 @@
+pub mod DeliveryLaws
+pub mod GivingLaws
+pub mod SendingLaws
+pub mod SinkLaws
+pub mod SourceLaws
+pub mod StateLaws

@@ -1,0 +1,4 @@
+pub mod GivenLaws
+pub mod PassingLaws
+pub mod PuttingLaws
+pub mod ReceivingLaws

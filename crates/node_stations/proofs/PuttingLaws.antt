@@ -1,0 +1,76 @@
+-- Packets given and put, one after another.
+use Rattle.std.specs.Prelude.{◌≡◌, ◌≤◌, ◌<◌, ◌+◌, ◌-◌, ◌++◌, ℕ, Bool, List, [], ◌∷◌, Result, Ok, Err, OnErr, OnOk, length}
+use Rattle.std.proofs.Common.{refl, ap, subst, ◌∙◌, arith}
+use Rattle.std.proofs.lemmas.List.{length-append}
+use Rattle.std.proofs.lemmas.List.Sorted.{length_permutation}
+use Rattle.generation_frame.specs.Frames.{frame_of}
+use Rattle.generation_frame.specs.declared.frame.Packet.{Packet}
+use Rattle.lif_outside.specs.Moves.{FollowMoves, InFlight, Move, put, put_failed}
+use Rattle.node_states.specs.Shown.{GivesEach}
+use Rattle.node_stations.specs.Putting.{flight_of, puts_of}
+use Rattle.relay_node.specs.Relay.{Gives, Relay}
+
+-- packets given, and then one more
+pub gives_more : (packets : List Packet) (packet : Packet) (old mid new : Relay) → GivesEach old packets mid → Gives packet mid new
+    → GivesEach old (packets ++ packet ∷ []) new
+gives_more [] packet old mid new is gives = (new, subst (λ (r : Relay). Gives packet r new) is gives, refl)
+gives_more (first ∷ packets) packet old mid new given gives = (given.0, given.1, gives_more packets packet given.0 mid new given.2 gives)
+
+-- puts, and then one more
+pub puts_more : (packets : List Packet) (packet : Packet) → puts_of packets ++ put (flight_of packet) ∷ [] ≡ puts_of (packets ++ packet ∷ [])
+puts_more [] packet = refl
+puts_more (first ∷ packets) packet = ap (λ (moves : List Move). put (flight_of first) ∷ moves) (puts_more packets packet)
+
+-- a put of the frame made of a packet, and one that failed
+module _ (P : Move → Type 0) (packet : Packet) (frame : List ℕ) (made : frame ≡ frame_of packet) where
+  pub put_of : P (put (record { link = packet.link; frame = frame })) → P (put (flight_of packet))
+  put_of is = subst (λ (f : List ℕ). P (put (record { link = packet.link; frame = f }))) made is
+
+  pub failed_of : P (put_failed (record { link = packet.link; frame = frame })) → P (put_failed (flight_of packet))
+  failed_of is = subst (λ (f : List ℕ). P (put_failed (record { link = packet.link; frame = f }))) made is
+
+-- as many pairs fly more as were put, and the room stays
+pub record AddsFlying (count : ℕ) (old new : InFlight) : Type 0 where
+  pub flying : length new.flying ≡ length old.flying + count
+  pub room : new.room ≡ old.room
+
+pub puts-fly : (faithful : Bool) (packets : List Packet) (old new : InFlight) → FollowMoves faithful (puts_of packets) old new → AddsFlying (length packets) old new
+puts-fly faithful [] old new is =
+    record {
+      flying = omega (arith, ap (λ (held : InFlight). length held.flying) is);
+      room = ap (λ (held : InFlight). held.room) is;
+    }
+puts-fly faithful (packet ∷ packets) old new is =
+    let rest = puts-fly faithful packets is.0 new is.2 in
+    record {
+      flying = omega (arith, rest.flying, length_permutation (flight_of packet ∷ old.flying) is.0.flying is.1.flying);
+      room = rest.room ∙ is.1.as_opened.same_room;
+    }
+
+-- where there was room for one more, there still is
+pub has_room : (faithful : Bool) (packets : List Packet) (packet : Packet) (old new : InFlight) → FollowMoves faithful (puts_of packets) old new
+    → length old.flying + length (packets ++ packet ∷ []) ≤ old.room → length new.flying < new.room
+has_room faithful packets packet old new follows fits =
+    let adds = puts-fly faithful packets old new follows in
+    omega (arith, adds.flying, adds.room, fits, length-append packets (packet ∷ []))
+
+-- a put leaves less
+pub less_room : (faithful : Bool) (packet : Packet) (old new : InFlight) → FollowMoves faithful (puts_of (packet ∷ [])) old new
+    → length old.flying < old.room → new.room - length new.flying < old.room - length old.flying
+less_room faithful packet old new follows room =
+    let adds = puts-fly faithful (packet ∷ []) old new follows in
+    omega (arith, adds.flying, adds.room, room)
+
+-- what follows of an answer in each case of it
+pub on_ok-then : {T E P Q : Type 0} (r : Result T E) → (P → Q) → OnOk r P → OnOk r Q
+on_ok-then (Ok x) then p = then p
+on_ok-then (Err e) then p = tt
+
+pub on_err-then : {T E P Q : Type 0} (r : Result T E) → (P → Q) → OnErr r P → OnErr r Q
+on_err-then (Ok x) then p = tt
+on_err-then (Err e) then p = then p
+
+-- what holds at an exit, said of the error there
+pub on_err : {T E P : Type 0} (r : Result T E) → P → OnErr r P
+on_err (Ok x) p = tt
+on_err (Err e) p = p

@@ -1,0 +1,5 @@
+pub mod Delivering
+pub mod Given
+pub mod Opening
+pub mod Passing
+pub mod Putting

@@ -1,0 +1,10 @@
+pub mod ListLaws
+pub mod PacketLaws
+pub mod LinkLaws
+pub mod TrafficLaws
+pub mod Kept
+pub mod OpeningLaws
+pub mod StepLaws
+pub mod FaithfulLaws
+pub mod RunLaws
+pub mod NodeLaws

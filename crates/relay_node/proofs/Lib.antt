@@ -1,0 +1,5 @@
+pub mod TrafficLaws
+pub mod WorkLaws
+pub mod GivingLaws
+pub mod FeedingLaws
+pub mod PayloadLaws

@@ -1,0 +1,4 @@
+pub mod Relay
+pub mod Feeding
+pub mod Summed
+pub mod Giving

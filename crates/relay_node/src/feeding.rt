@@ -1,0 +1,51 @@
+//! Rows of a block that are taken in, piece by piece.
+ghost use Rattle.std.specs.Prelude.{◌≡◌, ◌<◌, ◌+◌, ◌*◌, ◌≤◌, ℕ, false, length};
+ghost use Rattle.coded_traffic.specs.CodeBlocks.{row_of};
+ghost use Rattle.due_sums.specs.Waiting.{has_input};
+ghost use Rattle.generation_frame.specs.Blocks.{piece_of_row, pieces, row_bytes};
+ghost use Rattle.relay_node.specs.Feeding.{ArePiecesTaken, AreRowsTaken};
+
+use due_sums::DueSums;
+use generation_frame::{PIECE, PIECES, ROW};
+
+// A piece of a row.
+fn piece_of(row: &[u8], piece: usize) -> [u8; 128]
+    requires row { length row.now ≡ row_bytes }
+    requires piece { piece < pieces }
+    ensures { result ≡ piece_of_row row.now piece }
+{
+    let mut payload = [0; PIECE];
+    let start = piece * PIECE;
+    payload.copy_from_slice(&row[start..start + PIECE]);
+    payload
+}
+
+// Takes all pieces of an input in, of which none has come in the generation.
+fn take_row(sums: &mut DueSums, generation: usize, input: u32, row: &[u8])
+    requires generation { generation < length sums.old.tables }
+    requires input { input < sums.old.inputs }
+    requires row { length row.now ≡ row_bytes }
+    requires none { (p : ℕ) → p < pieces → has_input sums.old generation input p ≡ false }
+    ensures { ArePiecesTaken generation input pieces row.now sums.old sums.new }
+{
+    for piece in 0..PIECES {
+        let payload = piece_of(row, piece);
+        let _ = sums.accept(generation, input, piece as u8, &payload);
+    }
+}
+
+/// Takes the rows of a block in as the inputs of a generation, of which none has come.
+pub fn take_rows(sums: &mut DueSums, generation: usize, rows: u32, block: &[u8])
+    requires generation { generation < length sums.old.tables }
+    requires inputs { sums.old.inputs ≡ rows }
+    requires few { rows ≤ 32 }
+    requires block { length block.now ≡ rows * row_bytes }
+    requires none { (row p : ℕ) → row < rows → p < pieces
+        → has_input sums.old generation row p ≡ false }
+    ensures { AreRowsTaken generation rows block.now sums.old sums.new }
+{
+    for row in 0..rows {
+        let start = row as usize * ROW;
+        take_row(sums, generation, row, &block[start..start + ROW]);
+    }
+}

@@ -1,0 +1,178 @@
+//! A node at work.
+ghost use Rattle.std.specs.Prelude.{◌≡◌, ◌<◌, ◌≤◌, ◌+◌, ◌*◌, ◌^◌, ℕ, Contains, true, false, length, IfOk, IfSome, IsNone};
+ghost use Rattle.generation_frame.specs.Blocks.{pieces, row_bytes};
+ghost use Rattle.generation_frame.specs.Frames.{accepted};
+ghost use Rattle.gf_tables.specs.Kind.{IsOfKind};
+ghost use Rattle.std.specs.Arc.{arc_value};
+
+use crate::feeding::take_rows;
+use crate::giving::{Taken, take_first};
+use crate::summing::payload_of;
+use code_checker::Checked;
+use due_sums::DueSums;
+use field_rows::RowTables;
+use generation_frame::{Accepted, Packet};
+use gf_tables::Field;
+use node_plans::{PlaceTable, Plan, Wiring, sum_table};
+use std::alloc::{AllocError, Global};
+use std::marker::{Model, PhantomData};
+use std::sync::Arc;
+
+/// The most generations of a window.
+const GENERATIONS: usize = 4;
+
+/// A node at work, over the code's field: it takes in the packets of the live links into it, and gives those of the live
+/// links out of it. Contracts see its plan, which is all that it has of the code, the generations begun, what came, and
+/// what was given.
+#[derive(Drop)]
+pub struct Node<F> {
+    plan: Plan,
+    places: Arc<PlaceTable>,
+    tables: Arc<RowTables>,
+    first: u32,
+    count: u32,
+    sums: DueSums,
+    of_field: PhantomData<F>,
+}
+
+impl<F> Model for Node<F> {
+    ghost use Rattle.relay_node.specs.Relay.{Relay};
+
+    ghost Value = { Relay };
+
+    ghost use Rattle.std.specs.Arc.{arc_value};
+    ghost use Rattle.relay_node.specs.Relay.{IsNode};
+
+    ghost view = { λ n. record { plan = n.plan; first = n.first; count = n.count; sums = n.sums } };
+
+    ghost invariant = { λ n. IsNode n.plan (arc_value n.places) n.first n.count n.sums };
+}
+
+impl<F: Field> Node<F> {
+    ghost use Rattle.coded_traffic.specs.Traffic.{Key, Window, key_of, packet_of};
+    ghost use Rattle.node_plans.specs.Plans.{plan_of};
+    ghost use Rattle.node_plans.specs.Wired.{IsWiringOf};
+    ghost use Rattle.node_program.specs.declared.code.Code.{Code};
+    ghost use Rattle.relay_node.specs.Relay.{Gains, Gives, HasNothing, IsBegun, IsDue, IsFed, TakesTraffic, has_input};
+
+    /// The node of a number, before any generation. `F` is the code's field. It takes all memory that the work needs.
+    pub fn open(
+        alloc: Global,
+        code: &Checked,
+        pattern: u32,
+        node: u32,
+    ) -> Result<Node<F>, AllocError>
+        requires pattern { pattern < length code.now.net.patterns }
+        requires node { node < length code.now.net.nodes }
+        requires field { IsOfKind code.now.field F.SIZE F.BYTES F.MARK F.product }
+        ensures plan { IfOk result (λ opened. opened.plan ≡ plan_of code.now pattern node) }
+        ensures count { IfOk result (λ opened. opened.count ≡ 0) }
+    {
+        let wiring = Wiring::of(alloc, code.code(), pattern)?;
+        let tables = Arc::new(alloc, RowTables::new())?;
+        Node::open_with(alloc, code, pattern, node, &wiring, &tables)
+    }
+
+    /// The same, where the wiring of the code under the pattern and the tables of products are at hand, so that the nodes
+    /// of a code share them. It costs what the links at the node and their operands do.
+    pub fn open_with(
+        alloc: Global,
+        code: &Checked,
+        pattern: u32,
+        node: u32,
+        wiring: &Wiring,
+        tables: &Arc<RowTables>,
+    ) -> Result<Node<F>, AllocError>
+        requires pattern { pattern < length code.now.net.patterns }
+        requires node { node < length code.now.net.nodes }
+        requires field { IsOfKind code.now.field F.SIZE F.BYTES F.MARK F.product }
+        requires wiring { IsWiringOf code.now pattern wiring.now }
+        ensures plan { IfOk result (λ opened. opened.plan ≡ plan_of code.now pattern node) }
+        ensures count { IfOk result (λ opened. opened.count ≡ 0) }
+    {
+        let plan = wiring.plan(alloc, code.code(), pattern, node)?;
+        let sums = sum_table(alloc, &plan, wiring.places().as_slice())?;
+        let sums = DueSums::new(alloc, plan.input_count(), sums, GENERATIONS)?;
+        Ok(Node {
+            plan,
+            places: wiring.places().clone()?,
+            tables: tables.clone()?,
+            first: 0,
+            count: 0,
+            sums,
+            of_field: PhantomData,
+        })
+    }
+
+    /// Forgets what came and what was given, and begins these generations.
+    pub fn begin(&mut self, first: u32, count: u32)
+        requires some { 1 ≤ count }
+        requires few { count ≤ 4 }
+        requires last { first + count ≤ 2 ^ 32 }
+        ensures plan { self.new.plan ≡ self.old.plan }
+        ensures first { self.new.first ≡ first }
+        ensures count { self.new.count ≡ count }
+        ensures nothing { HasNothing self.new }
+    {
+        self.sums.clear();
+        self.first = first;
+        self.count = count;
+    }
+
+    /// Takes in the block of a generation, at the source.
+    pub fn feed(&mut self, generation: u32, block: &[u8])
+        requires source { self.old.plan.is_source ≡ true }
+        requires begun { IsBegun self.old generation }
+        requires unfed { (row piece : ℕ) → row < self.old.plan.rate → piece < pieces
+            → has_input self.old generation row piece ≡ false }
+        requires block { length block.now ≡ self.old.plan.rate * row_bytes }
+        ensures { IsFed generation block.now self.old self.new }
+    {
+        let generation = (generation - self.first) as usize;
+        take_rows(&mut self.sums, generation, self.plan.rate, block);
+    }
+
+    /// Takes a packet in, if its piece hasn't come before.
+    pub fn accept(&mut self, packet: &Packet) -> Accepted
+        requires link { Contains self.old.plan.ins packet.now.link }
+        requires begun { IsBegun self.old packet.now.generation }
+        requires piece { packet.now.piece < pieces }
+        ensures value { result
+            ≡ accepted (has_input self.old packet.now.generation packet.now.link packet.now.piece) }
+        ensures known { result ≡ Accepted.Known → self.new ≡ self.old }
+        ensures new { result ≡ Accepted.New → Gains packet.now self.old self.new }
+    {
+        let input = self.plan.input_place(self.places.as_slice(), packet.link);
+        let generation = (packet.generation - self.first) as usize;
+        self.sums
+            .accept(generation, input, packet.piece, &packet.payload)
+    }
+
+    /// Gives the least packet that is due, by generation, link and piece, if there is any. Where what came is the rows
+    /// and the traffic of blocks through a code, it is a packet of that traffic.
+    pub fn next_out(&mut self) -> Option<Packet>
+        ensures given { IfSome result (λ packet. Gives packet self.old self.new) }
+        ensures none { IsNone result → (key : Key) → ¬ IsDue self.old key }
+        ensures same { IsNone result → self.new ≡ self.old }
+        ensures traffic { IfSome result
+            (λ packet. (code : Code) (pattern node : ℕ) (window : Window)
+            → TakesTraffic code pattern node window self.old
+            → packet ≡ packet_of code pattern window (key_of packet)) }
+    {
+        let Taken { generation, due } = take_first(&mut self.sums, self.count)?;
+        let payload = payload_of(
+            &self.tables,
+            &self.plan,
+            self.places.as_slice(),
+            &self.sums,
+            generation as usize,
+            due,
+        );
+        Some(Packet {
+            link: *self.plan.outs.at(due.sum as usize),
+            generation: self.first + generation,
+            piece: due.piece,
+            payload,
+        })
+    }
+}

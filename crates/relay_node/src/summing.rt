@@ -1,0 +1,67 @@
+//! What a link out of a node carries, by what came on the links into it.
+ghost use Rattle.std.specs.Prelude.{◌≡◌, length};
+ghost use Rattle.generation_frame.specs.Blocks.{piece_bytes};
+ghost use Rattle.linear_algebra.specs.Rows.{zero_row};
+ghost use Rattle.relay_node.specs.Summed.{CanSum, IsSummed, came_of, sum_at, summands_at};
+
+use due_sums::{Due, DueSums};
+use field_rows::RowTables;
+use generation_frame::PIECE;
+use node_plans::Plan;
+
+// A piece of a sum: over the operands of a link out of the node, the coefficient times what came of the operand.
+pub(crate) fn payload_of(
+    tables: &RowTables,
+    plan: &Plan,
+    places: &[u32],
+    sums: &DueSums,
+    generation: usize,
+    due: Due,
+) -> [u8; 128]
+    requires { CanSum plan.now places.now sums.now generation due.sum due.piece }
+    ensures { result ≡ sum_at plan.now sums.now generation due.sum due.piece }
+{
+    let mut payload = [0; PIECE];
+    sum_up(tables, plan, places, sums, generation, due, &mut payload);
+    payload
+}
+
+// Makes a payload of zeros the sum.
+fn sum_up(
+    tables: &RowTables,
+    plan: &Plan,
+    places: &[u32],
+    sums: &DueSums,
+    generation: usize,
+    due: Due,
+    payload: &mut [u8],
+)
+    requires sum { CanSum plan.now places.now sums.now generation due.sum due.piece }
+    requires zeros { payload.old ≡ zero_row piece_bytes }
+    ensures { payload.new ≡ sum_at plan.now sums.now generation due.sum due.piece }
+{
+    add_operands(tables, plan, places, sums, generation, due, payload);
+}
+
+// Adds operand after operand to a payload of zeros.
+fn add_operands(
+    tables: &RowTables,
+    plan: &Plan,
+    places: &[u32],
+    sums: &DueSums,
+    generation: usize,
+    due: Due,
+    payload: &mut [u8],
+)
+    requires sum { CanSum plan.now places.now sums.now generation due.sum due.piece }
+    requires zeros { payload.old ≡ zero_row piece_bytes }
+    ensures { IsSummed plan.now.field (summands_at plan.now due.sum)
+        (came_of plan.now sums.now generation due.piece) (length (summands_at plan.now due.sum))
+        payload.new }
+{
+    for operand in plan.operands.at(due.sum as usize).as_slice() {
+        let input = plan.input_place(places, operand.from);
+        let came = sums.input(generation, input, due.piece);
+        tables.add_scaled(plan.field, payload, operand.times, came);
+    }
+}
