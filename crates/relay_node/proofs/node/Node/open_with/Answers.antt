@@ -13,7 +13,7 @@ input_count-requires g c =
     let code : Code = c.code.result.now in
     let same : length c.in_ok-plan.plan.ins ≡ length (ins_of code c.args.pattern c.args.node) = ap (λ (plan : Plan). length plan.ins) c.in_ok-plan.ensures.value in
     let few : length (ins_of code c.args.pattern c.args.node) ≤ length (range_with_len 0 (length code.net.links)) =
-        length-filter-le _ (range_with_len 0 (length code.net.links)) in
+    length-filter-le _ (range_with_len 0 (length code.net.links)) in
     let all : length (range_with_len 0 (length code.net.links)) ≡ length code.net.links = length-range_with_len 0 (length code.net.links) in
     let most : length code.net.links ≤ 8192 = code.net.network.few_links in
     omega (arith, same, few, all, most)
