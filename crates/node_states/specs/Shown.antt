@@ -69,8 +69,8 @@ pub record Shows (code : Code) (pattern : ℕ) (window : Window) (relays : List 
   pub shows : (node : ℕ) (relay : Relay) → slice_get relays node ≡ Some relay → ShowsHeld code pattern node window relay held
   pub shown : (node : ℕ) (relay : Relay) → slice_get relays node ≡ Some relay → ShowsSent relay sent
 
--- one of some nodes is another
-pub record IsReplaced (node : ℕ) (new : Relay) (before after : List Relay) : Type 0 where
+-- one of some nodes, or of what stands at them, is another
+pub record IsReplaced {X : Type 0} (node : ℕ) (new : X) (before after : List X) : Type 0 where
   pub count : length after ≡ length before
   pub at : slice_get after node ≡ Some new
   pub others : (other : ℕ) → other ≢ node → slice_get after other ≡ slice_get before other

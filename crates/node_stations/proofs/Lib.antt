@@ -1,4 +1,2 @@
 pub mod GivenLaws
-pub mod PassingLaws
 pub mod PuttingLaws
-pub mod ReceivingLaws

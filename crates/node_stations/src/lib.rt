@@ -1,8 +1,8 @@
 //! The nodes of a code at work, each with the sink at it: a packet that came is taken in by both, and what the node gives
 //! is put on links.
 //!
-//! Begin with `Station`. Read `specs/Passing.antt`. The law that matters is that of `pass_on`: where a station shows what
-//! is held and what was sent, a packet that came and what is put then are a step of the core at that node.
+//! Begin with `Station`. Read `specs/Passing.antt`. The clause that matters is `passed` of `pass_on`: a packet that came is
+//! taken in, and what is put then is what the node gives, until nothing is due.
 #![tactic(auto)]
 
 mod given;

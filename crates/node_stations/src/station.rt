@@ -1,19 +1,13 @@
 //! A node with the sink at it.
-ghost use Rattle.std.specs.Prelude.{◌≡◌, ◌<◌, ◌≤◌, ◌+◌, ◌^◌, ◌==◌, ℕ, Contains, IfOk, IfSome, List, OnErr, OnOk, Some, length, position};
-ghost use Rattle.coded_traffic.specs.Traffic.{Window};
+ghost use Rattle.std.specs.Prelude.{◌≡◌, ◌<◌, ◌≤◌, ◌+◌, ◌^◌, ◌==◌, Contains, IfOk, IfSome, OnErr, OnOk, length, position};
 ghost use Rattle.generation_frame.specs.Blocks.{pieces};
-ghost use Rattle.generation_frame.specs.declared.frame.Packet.{Packet};
 ghost use Rattle.gf_tables.specs.Kind.{IsOfKind};
 ghost use Rattle.node_plans.specs.Wired.{IsWiringOf};
-ghost use Rattle.node_program.specs.declared.code.Code.{Code};
-ghost use Rattle.relay_core.specs.Core.{Delivery, held_after};
 ghost use Rattle.relay_node.specs.Relay.{IsBegun};
 ghost use Rattle.sink_decoder.specs.Receiving as sinks;
-ghost use Rattle.sink_decoder.specs.Receiving.{Receiver};
-ghost use Rattle.node_states.specs.Shown.{ShowsSink};
 ghost use Rattle.node_stations.specs.Delivering.{AtSink, NodeTakes, SinkTakes};
 ghost use Rattle.node_stations.specs.Opening.{IsSinkOf};
-ghost use Rattle.node_stations.specs.Passing.{Comes, ComesToSink, HasRoomAfter, PassesOn, StopsPassing};
+ghost use Rattle.node_stations.specs.Passing.{FailsPassing, HasRoomAfter, Passes};
 
 use crate::put_due;
 use code_checker::Checked;
@@ -98,8 +92,8 @@ impl<F: Field> Station<F> {
         }
     }
 
-    /// Takes in a packet that came on a link into the node, and puts what the node gives then. By each code of which the
-    /// node shows what is held and what was sent, it is a step of the core at that node.
+    /// Takes in a packet that came on a link into the node, and puts what the node gives then. Where a put fails the
+    /// packets before it were put.
     pub fn pass_on<K: Links>(&mut self, packet: &Packet, links: &mut K) -> Result<(), Failed>
         requires link { Contains self.old.node.plan.ins packet.now.link }
         requires begun { IsBegun self.old.node packet.now.generation }
@@ -108,22 +102,10 @@ impl<F: Field> Station<F> {
         requires piece { packet.now.piece < pieces }
         requires room { HasRoomAfter K.Links links.old packet.now self.old.node }
         ensures sink { AtSink (SinkTakes packet.now) self.old.sink self.new.sink }
-        ensures received { (code : Code) (demand : ℕ) (window : Window) (delivery : Delivery)
-            (held : List Packet) (sink : Receiver) → self.old.sink ≡ Some sink
-            → ComesToSink code demand window delivery held packet.now sink
-            → IfSome self.new.sink
-            (λ after. ShowsSink code demand window after (held_after delivery held)) }
         ensures passed { OnOk result
-            ((code : Code) (pattern node : ℕ) (window : Window) (delivery : Delivery)
-            (held sent : List Packet)
-            → Comes code pattern node window delivery held sent packet.now self.old.node
-            → PassesOn K.Links code pattern node window delivery held sent
-            links.old links.new self.new.node) }
-        ensures stopped { OnErr result
-            ((code : Code) (pattern node : ℕ) (window : Window) (delivery : Delivery)
-            (held sent : List Packet)
-            → Comes code pattern node window delivery held sent packet.now self.old.node
-            → StopsPassing K.Links code pattern node delivery held sent links.old links.new) }
+            (Passes K.Links packet.now links.old links.new self.old.node self.new.node) }
+        ensures failed { OnErr result
+            (FailsPassing K.Links packet.now links.old links.new self.old.node self.new.node) }
     {
         self.deliver(packet);
         put_due(&mut self.node, links)

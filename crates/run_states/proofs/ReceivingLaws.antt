@@ -10,7 +10,7 @@ use Rattle.sink_decoder.specs.Receiving.{Receiver, SinkPlan, has_piece, sink_pla
 use Rattle.node_states.proofs.SinkLaws.{shows-unwanted, shows_sink-known, shows_sink-new}
 use Rattle.node_states.specs.Shown.{IsWanted, ShowsSink}
 use Rattle.node_stations.specs.Delivering.{AtSink, SinkTakes}
-use Rattle.node_stations.specs.Passing.{ComesToSink}
+use Rattle.run_states.specs.Passing.{ComesToSink}
 
 module _ (code : Code) (demand : ℕ) (window : Window) (delivery : Delivery) (held : List Packet) (packet : Packet) (old new : Receiver)
     (comes : ComesToSink code demand window delivery held packet old) (takes : SinkTakes packet old new) where

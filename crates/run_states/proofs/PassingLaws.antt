@@ -19,7 +19,7 @@ use Rattle.node_states.proofs.GivingLaws.{out_before}
 use Rattle.node_states.proofs.SendingLaws.{given-all, given-each}
 use Rattle.node_states.specs.Shown.{IsInto, ShowsHeld, ShowsSent}
 use Rattle.node_stations.specs.Delivering.{NodeTakes}
-use Rattle.node_stations.specs.Passing.{Comes, PassesOn, StopsPassing}
+use Rattle.run_states.specs.Passing.{Comes, PassesOn, StopsPassing}
 use Rattle.node_stations.specs.Putting.{PutsDue, StopsPutting}
 
 module _ (code : Code) (pattern node : ℕ) (window : Window) (delivery : Delivery) (held sent : List Packet) (packet : Packet) (old : Relay) (comes : Comes code pattern node window delivery held sent packet old)
@@ -41,14 +41,14 @@ module _ (code : Code) (pattern node : ℕ) (window : Window) (delivery : Delive
   taken : NodeTakes (record delivery.pair { payload = delivery.payload }) old mid
   taken = subst (λ (p : Packet). NodeTakes p old mid) comes.is takes
 
-  shows-mid : ShowsHeld code pattern node window mid now
+  pub shows-mid : ShowsHeld code pattern node window mid now
   shows-mid = elim (cases_Bool (has_input old delivery.pair.generation delivery.pair.link delivery.pair.piece)) [
     | inl came ↦
         subst (λ (relay : Relay). ShowsHeld code pattern node window relay now) (sym (taken.known came)) (shows-known code pattern node window delivery held into old comes.shows came)
     | inr absent ↦ shows-new code pattern node window delivery held into old mid comes.shows absent (taken.gained absent)
   ]
 
-  shown-mid : ShowsSent mid sent
+  pub shown-mid : ShowsSent mid sent
   shown-mid = elim (cases_Bool (has_input old delivery.pair.generation delivery.pair.link delivery.pair.piece)) [
     | inl came ↦ subst (λ (relay : Relay). ShowsSent relay sent) (sym (taken.known came)) comes.shown
     | inr absent ↦ λ key is.

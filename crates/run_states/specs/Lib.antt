@@ -1,0 +1,4 @@
+pub mod Showing
+pub mod Ready
+pub mod Delivered
+pub mod Passing

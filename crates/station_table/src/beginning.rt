@@ -1,0 +1,19 @@
+//! Stations that begin generations.
+ghost use Rattle.std.specs.Prelude.{◌≤◌, ◌+◌, ◌^◌};
+ghost use Rattle.station_table.specs.Table.{HaveBegun, relays_of, sinks_of};
+
+use gf_tables::Field;
+use node_stations::Station;
+
+/// Lets all stations forget what came and what was given, and begin these generations.
+pub fn begin_stations<F: Field>(stations: &mut [Station<F>], first: u32, count: u32)
+    requires some { 1 ≤ count }
+    requires few { count ≤ 4 }
+    requires last { first + count ≤ 2 ^ 32 }
+    ensures { HaveBegun first count (relays_of stations.old) (relays_of stations.new)
+        (sinks_of stations.old) (sinks_of stations.new) }
+{
+    'stations: for station in stations.iter_mut() {
+        station.begin(first, count);
+    }
+}

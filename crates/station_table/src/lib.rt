@@ -1,0 +1,14 @@
+//! The stations of a code at work under a pattern, one for each node: they are made together, begin generations together,
+//! and the blocks of a window are fed to the source.
+//!
+//! Begin with `open_stations`. Read `specs/Table.antt`. The law that matters is `ready` in proofs/ReadyLaws: where all have
+//! begun a window and the source was fed its blocks, nothing else came anywhere.
+#![tactic(auto)]
+
+mod beginning;
+mod feeding;
+mod opening;
+
+pub use beginning::begin_stations;
+pub use feeding::feed_blocks;
+pub use opening::open_stations;
