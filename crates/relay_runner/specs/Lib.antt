@@ -1,0 +1,4 @@
+pub mod Running
+pub mod Stepping
+pub mod Carrying
+pub mod Runner

@@ -1,0 +1,25 @@
+-- What a runner keeps, and what a step leaves of it.
+use Rattle.std.specs.Prelude.{◌≡◌, ◌⊎◌, ◌<◌, ◌∷◌, ℕ, Bool, false, List, [], Option, length}
+use Rattle.lif_outside.specs.Moves.{Move, open_refused}
+use Rattle.node_program.specs.declared.code.Code.{Code}
+use Rattle.relay_node.specs.Relay.{Relay}
+use Rattle.relay_runner.specs.Running.{Running}
+use Rattle.sink_decoder.specs.Receiving.{Receiver}
+use Rattle.station_table.specs.Table.{ArePlanned}
+
+-- the pattern is one of the code's, and as long as no call has failed the nodes and sinks have their plans
+pub record IsRunner (code : Code) (pattern : ℕ) (relays : List Relay) (sinks : List (Option Receiver)) (failed : Bool) : Type 0 where
+  pub pattern_is : pattern < length code.net.patterns
+  pub planned : failed ≡ false → ArePlanned code pattern relays sinks
+
+-- the code, the pattern and the window stay
+pub record IsSameWork (old new : Running) : Type 0 where
+  pub code : new.code ≡ old.code
+  pub pattern : new.pattern ≡ old.pattern
+  pub first : new.first ≡ old.first
+  pub count : new.count ≡ old.count
+  pub next : new.next ≡ old.next
+
+-- the links weren't called, or were and refused to be opened
+abbrev pub IsRefused : {L : Type 0} → (List Move → L → L → Type 0) → ℕ → ℕ → L → L → Type 0
+IsRefused moves seed most old new = moves [] old new ⊎ moves (open_refused seed most ∷ []) old new

@@ -1,0 +1,26 @@
+//! The run of a code over links: blocks are fed to the source, what flies is taken and given to the node at its link's head,
+//! and what that gives is put, until nothing flies. Then each sink has its block.
+//!
+//! Begin with `Runner::open`; `carry` sends a window of 1 to 4 blocks, in whatever order the links deliver, and `block` writes
+//! what a sink decodes. Read `specs/Carrying.antt`. The clause that matters is `carried` of `carry`: it is a run of the core,
+//! from its opening state to one where nothing flies, so all of the traffic was put, nothing twice.
+#![tactic(auto)]
+
+mod runner;
+mod running;
+mod sharing;
+
+pub use runner::Runner;
+
+/// What a step of a run did.
+#[derive(Clone, Copy, Debug, PartialEq, Eq)]
+pub enum Turn {
+    /// A frame was taken and given to a node.
+    Moved,
+    /// Nothing flew.
+    Quiet,
+}
+
+/// A put or a take on the links failed, and has raised their count. The run is over.
+#[derive(Clone, Copy, Debug, PartialEq, Eq)]
+pub struct LinkFault;

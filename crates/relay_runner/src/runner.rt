@@ -1,0 +1,201 @@
+//! A code at work over links.
+ghost use Rattle.std.specs.Prelude.{◌≡◌, ◌<◌, ◌≤◌, ◌+◌, ◌*◌, ◌∷◌, ℕ, [], List, IfErr, IfOk, OnErr, OnOk, Ok, Some, length, slice_get, slice_index_or, true, false, is_err};
+ghost use Rattle.coded_traffic.specs.Traffic.{Window};
+ghost use Rattle.generation_frame.specs.Blocks.{row_bytes};
+ghost use Rattle.gf_tables.specs.Kind.{IsOfKind};
+ghost use Rattle.lif_outside.specs.Moves.{open_refused, opened, took_none};
+ghost use Rattle.relay_core.specs.Core.{Delivery, IsFaithful, RelayState};
+ghost use Rattle.sink_decoder.specs.Receiving.{Receiver, decoded};
+
+use crate::running::{carry_window, step};
+use crate::{LinkFault, Turn};
+use code_checker::Checked;
+use generation_frame::ROW;
+use gf_tables::Field;
+use lif_outside::Links;
+use node_stations::Station;
+use station_table::{begin_stations, feed_blocks, open_stations};
+use std::alloc::{AllocError, Global};
+use std::marker::Model;
+
+/// How many frames may fly for each link: those of 4 generations, of 8 pieces each.
+const FRAMES: u32 = 32;
+
+/// A code at work under one pattern, over links: one station for each node. Contracts see the code, the pattern, what the
+/// nodes and sinks show, the window carried last, the number of the next generation, and whether a call has failed.
+#[derive(Drop)]
+pub struct Runner<'c, F> {
+    code: &'c Checked,
+    pattern: u32,
+    stations: Vec<Station<F>>,
+    first: u32,
+    count: u32,
+    next: u64,
+    failed: bool,
+}
+
+impl<'c, F> Model for Runner<'c, F> {
+    ghost use Rattle.relay_runner.specs.Running.{Running};
+
+    ghost Value = { Running };
+
+    ghost use Rattle.relay_runner.specs.Runner.{IsRunner};
+    ghost use Rattle.station_table.specs.Table.{relays_of, sinks_of};
+
+    ghost view = { λ r. record {
+      code = r.code.now;
+      pattern = r.pattern;
+      relays = relays_of r.stations.items;
+      sinks = sinks_of r.stations.items;
+      first = r.first;
+      count = r.count;
+      next = r.next;
+      has_failed = r.failed;
+    } };
+
+    ghost invariant = { λ r. IsRunner r.code.now r.pattern
+        (relays_of r.stations.items) (sinks_of r.stations.items) r.failed };
+}
+
+impl<'c, F: Field> Runner<'c, F> {
+    ghost use Rattle.relay_runner.specs.Carrying.{Carries, StopsCarrying};
+    ghost use Rattle.relay_runner.specs.Runner.{IsRefused, IsSameWork};
+    ghost use Rattle.relay_runner.specs.Running.{AreBlocks, HasCarried, IsRunning, StandAt, count_in, window_from};
+    ghost use Rattle.relay_runner.specs.Stepping.{Steps, StopsStepping};
+
+    /// A runner of a code under a pattern. It takes all memory that the work needs, and opens the links with the number
+    /// given and room for the frames of a window of 4 generations. `F` is the code's field.
+    pub fn open<K: Links>(
+        alloc: Global,
+        code: &'c Checked,
+        pattern: u32,
+        seed: u64,
+        links: &mut K,
+    ) -> Result<Runner<'c, F>, AllocError>
+        requires pattern { pattern < length code.now.net.patterns }
+        requires field { IsOfKind code.now.field F.SIZE F.BYTES F.MARK F.product }
+        requires nothing_flies { K.flying links.old ≡ [] }
+        ensures code { IfOk result (λ runner. runner.code ≡ code.now) }
+        ensures pattern { IfOk result (λ runner. runner.pattern ≡ pattern) }
+        ensures next { IfOk result (λ runner. runner.next ≡ 0) }
+        ensures works { IfOk result (λ runner. runner.has_failed ≡ false) }
+        ensures opened { OnOk result (K.moves (opened seed (32 * length code.now.net.links) ∷ [])
+            links.old links.new) }
+        ensures refused { OnErr result (IsRefused K.moves seed
+            (32 * length code.now.net.links) links.old links.new) }
+    {
+        let stations = open_stations(alloc, code, pattern)?;
+        links.open(alloc, seed, FRAMES * code.code().net.links.len() as u32)?;
+        Ok(Runner {
+            code,
+            pattern,
+            stations,
+            first: 0,
+            count: 0,
+            next: 0,
+            failed: false,
+        })
+    }
+
+    /// Whether a call has answered `LinkFault`.
+    pub fn has_failed(&self) -> bool
+        ensures { result ≡ self.now.has_failed }
+    {
+        self.failed
+    }
+
+    /// One step of the run: a frame that flies is given to the node at its link's head, and to the sink there, where it wants
+    /// it, and what the node gives then is put. `Quiet` is answered where nothing flies. It takes no memory.
+    pub fn turn<K: Links>(&mut self, links: &mut K) -> Result<Turn, LinkFault>
+        requires works { self.old.has_failed ≡ false }
+        requires stand { StandAt self.old.code self.old.relays self.old.sinks
+            (K.flying links.old) }
+        requires room { 32 * length self.old.code.net.links ≤ K.room links.old }
+        ensures work { IsSameWork self.old self.new }
+        ensures failed { self.new.has_failed ≡ is_err result }
+        ensures moved { result ≡ Ok Turn.Moved
+            → (window : Window) (run : List Delivery) (state : RelayState)
+            → IsRunning self.old.code self.old.pattern window run self.old.relays self.old.sinks
+            (K.flying links.old) state
+            → Steps K.Links self.old.code self.old.pattern window run state links.old links.new
+            self.new.relays self.new.sinks }
+        ensures quiet { result ≡ Ok Turn.Quiet → K.flying links.old ≡ [] }
+        ensures none { result ≡ Ok Turn.Quiet → K.moves (took_none ∷ []) links.old links.new }
+        ensures same { result ≡ Ok Turn.Quiet → self.new ≡ self.old }
+        ensures stopped { OnErr result
+            ((window : Window) (run : List Delivery) (state : RelayState)
+            → IsRunning self.old.code self.old.pattern window run self.old.relays self.old.sinks
+            (K.flying links.old) state
+            → StopsStepping K.Links self.old.code self.old.pattern window run state
+            links.old links.new) }
+    {
+        match step(self.code.code(), &mut self.stations, links) {
+            Ok(turn) => Ok(turn),
+            Err(_) => {
+                self.failed = true;
+                Err(LinkFault)
+            }
+        }
+    }
+
+    /// Carries 1 to 4 blocks, which stand one after another, under the next numbers: a run from the opening state to one where
+    /// nothing flies. `LinkFault` comes only where the links' count rose, and then the run is over. It takes no memory.
+    pub fn carry<K: Links>(&mut self, blocks: &[u8], links: &mut K) -> Result<(), LinkFault>
+        requires works { self.old.has_failed ≡ false }
+        requires blocks { AreBlocks self.old.code self.old.next blocks.now }
+        requires nothing_flies { K.flying links.old ≡ [] }
+        requires room { 32 * length self.old.code.net.links ≤ K.room links.old }
+        ensures code { self.new.code ≡ self.old.code }
+        ensures pattern { self.new.pattern ≡ self.old.pattern }
+        ensures first { self.new.first ≡ self.old.next }
+        ensures count { self.new.count ≡ count_in self.old.code blocks.now }
+        ensures next { self.new.next ≡ self.old.next + count_in self.old.code blocks.now }
+        ensures failed { self.new.has_failed ≡ is_err result }
+        ensures carried { OnOk result (Carries K.Links self.old.code self.old.pattern
+            (window_from self.old.code self.old.next blocks.now) links.old links.new
+            self.new.relays self.new.sinks) }
+        ensures whole { OnOk result (HasCarried self.new) }
+        ensures stopped { OnErr result (StopsCarrying K.Links self.old.code self.old.pattern
+            (window_from self.old.code self.old.next blocks.now) links.old links.new) }
+    {
+        let code = self.code.code();
+        let size = code.rate as usize * ROW;
+        let first = self.next as u32;
+        let count = (blocks.len() / size) as u32;
+        begin_stations(&mut self.stations, first, count);
+        let source = code.net.source as usize;
+        feed_blocks(&mut self.stations[source].node, first, count, size, blocks);
+        self.first = first;
+        self.count = count;
+        self.next += count as u64;
+        match carry_window(code, &mut self.stations, links) {
+            Ok(()) => Ok(()),
+            Err(_) => {
+                self.failed = true;
+                Err(LinkFault)
+            }
+        }
+    }
+
+    /// Writes the block that a sink decodes, of those carried last, by its place. The sink is given by its place among the
+    /// network's sinks. It takes no memory.
+    pub fn block(&self, sink: u32, place: u32, into: &mut [u8])
+        requires carried { HasCarried self.now }
+        requires sink { sink < length self.now.code.net.sinks }
+        requires place { place < self.now.count }
+        requires room { length into.old ≡ self.now.code.rate * row_bytes }
+        ensures value { (node : ℕ) (receiver : Receiver)
+            → slice_get self.now.code.net.sinks sink ≡ Some node
+            → slice_get self.now.sinks node ≡ Some (Some receiver)
+            → into.new ≡ decoded receiver (self.now.first + place) }
+        ensures carried { (window : Window) (run : List Delivery) (state : RelayState)
+            → IsRunning self.now.code self.now.pattern window run self.now.relays self.now.sinks
+            [] state → IsFaithful run → into.new ≡ slice_index_or window.blocks place [] }
+    {
+        let node = *self.code.code().net.sinks.at(sink as usize);
+        match &self.stations[node as usize].sink {
+            Some(decoder) => decoder.block(self.first + place, into),
+            None => unreachable!(),
+        }
+    }
+}
