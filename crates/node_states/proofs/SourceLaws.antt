@@ -38,7 +38,7 @@ module _ (code : Code) (pattern : ℕ) (window : Window) where
   IsOfTraffic packet = packet ≡ packet_of code pattern window (key_of packet)
 
   -- the source takes in the traffic, and all that it needs has come
-  record Ready (relay : Relay) : Type 0 where
+  pub record Ready (relay : Relay) : Type 0 where
     pub takes : TakesTraffic code pattern source window relay
     pub fed : (generation row piece : ℕ) → IsBegun relay generation → row < code.rate → piece < pieces → has_input relay generation row piece ≡ true
 
@@ -64,14 +64,14 @@ module _ (code : Code) (pattern : ℕ) (window : Window) where
       }
 
   -- what was given so far: packets of the traffic that the source can give, and no key twice
-  record AreFirst (relay new : Relay) (sent more : List Packet) : Type 0 where
+  pub record AreFirst (relay new : Relay) (sent more : List Packet) : Type 0 where
     pub ready : Ready new
     pub sends : ShowsSent new (more ++ sent)
     pub out : (key : Key) → has_key key more ≡ true → IsOut relay key × (has_key key sent ≡ false)
     pub once : (key : Key) → times_of key more ≤ 1
     pub are : All IsOfTraffic more
 
-  first-each : (more : List Packet) (relay new : Relay) (sent : List Packet) → Ready relay → ShowsSent relay sent → GivesEach relay more new → AreFirst relay new sent more
+  pub first-each : (more : List Packet) (relay new : Relay) (sent : List Packet) → Ready relay → ShowsSent relay sent → GivesEach relay more new → AreFirst relay new sent more
   first-each [] relay new sent ready shown is =
       record {
         ready = subst Ready (sym is) ready;
@@ -114,95 +114,101 @@ module _ (code : Code) (pattern : ℕ) (window : Window) where
               times_more key packet more (given.once key) (λ same. false_from_ne_true (has_key key more) (λ has.
               false≢true (sym (given.out key has).1 ∙ ap (λ b. b || has_key key sent) same)))
 
-  -- Where nothing is due any more, they are what flies first.
-  module _ (relay new : Relay) (more : List Packet) (fed : IsFedAll code pattern window relay) (each : GivesEach relay more new) (none : (key : Key) → IsDue new key → ⊥) where
-    given : AreFirst relay new [] more
+  module _ (relay new : Relay) (more : List Packet) (fed : IsFedAll code pattern window relay) (each : GivesEach relay more new) where
+    pub given : AreFirst relay new [] more
     given = first-each more relay new [] (record { takes = fed.takes; fed = fed.fed }) (λ key is. fed.not_given key is) each
 
-    -- each operand of a link out of the source is a row
-    complete : (key : Key) → IsOut new key → is_complete new key ≡ true
-    complete key is =
-        let rows : All (λ (operand : Operand). operand.from < code.rate) (operands_of new.plan key.link) =
-        λ k d within.
-        let place = place_in-within new.plan.outs key.link is.leaves in
-        let below = is_plan.inputs (out_place new.plan key.link) [] (omega (arith, place, is_plan.each_out)) k d within in
-        subst (λ n. (get_or (operands_of new.plan key.link) k d).from < n) (ap (λ (plan : Plan). plan.rate) given.ready.takes.plan)
-        (subst (λ b. (if b then (get_or (operands_of new.plan key.link) k d).from else place_in new.plan.ins (get_or (operands_of new.plan key.link) k d).from) < (if b then new.plan.rate else length new.plan.ins)) is_source below) in
-        all_pass (λ (operand : Operand). operand.from < code.rate) (λ operand. has_input new key.generation operand.from key.piece) (operands_of new.plan key.link)
-        (λ operand low. given.ready.fed key.generation operand.from key.piece is.begun low is.of_piece) rows
-      where
-        is_plan : IsPlan new.plan
-        is_plan = subst IsPlan (sym given.ready.takes.plan) (IsPlan-plan_of code pattern source)
-
-        is_source : new.plan.is_source ≡ true
-        is_source = ap (λ (plan : Plan). plan.is_source) given.ready.takes.plan ∙ eq-eqb source source refl
-
     -- a key given is one of the traffic on a link that leaves the source
-    given-first : (key : Key) → has_key key more ≡ true → has_key key first ≡ true
-    given-first key has =
+    pub given-key : (key : Key) → has_key key more ≡ true → IsKey code pattern window key × (leaves_source code.net key.link ≡ true)
+    given-key key has =
         let is = (given.out key has).0 in
         let leaves : Contains (outs_of code pattern source) key.link = subst (λ (plan : Plan). Contains plan.outs key.link) fed.takes.plan is.leaves in
-        let live = live_out code pattern source key.link leaves in
-        let from : leaves_source code.net key.link ≡ true = leaves_source-out code pattern source key.link leaves ∙ eq-eqb source source refl in
-        let is_key : IsKey code pattern window key =
-        record {
-          begun = omega (arith, fed.takes.first, is.begun.from_first);
-          numbered = omega (arith, fed.takes.first, fed.takes.count, is.begun.to_last);
-          of_link = live-below code pattern key.link live;
-          live = live;
-          of_piece = is.of_piece;
-        } in
-        has_key-passing (leaves_source code.net) key (packets_of code pattern window) ∙ and_from _ _ from (has_key-packets code pattern window key is_key)
-
-    -- and all those were given
-    first-given : (key : Key) → has_key key first ≡ true → has_key key more ≡ true
-    first-given key has =
-        let parts = and_parts _ _ (sym (has_key-passing (leaves_source code.net) key (packets_of code pattern window)) ∙ has) in
-        let is_key = is_key-packets code pattern window key parts.1 in
-        let leaves : Contains (outs_of code pattern source) key.link =
-        subst (λ n. Contains (outs_of code pattern n) key.link) (tail_of-source code.net key.link parts.0) (outs-contains code pattern key.link is_key.live) in
-        let is : IsOut new key =
-        record {
-          leaves = subst (λ (plan : Plan). Contains plan.outs key.link) (sym given.ready.takes.plan) leaves;
-          begun = record {
-            from_first = omega (arith, given.ready.takes.first, is_key.begun);
-            to_last = omega (arith, given.ready.takes.first, given.ready.takes.count, is_key.numbered);
-          };
-          of_piece = is_key.of_piece;
-        } in
-        elim (cases_Bool (has_key key more)) [
-          | inl has ↦ has
-          | inr lacks ↦
-              absurd (none key (record {
-                out = is;
-                complete = complete key is;
-                not_given = given.sends key is ∙ has_key-append key more [] ∙ ap (λ b. b || false) lacks;
-              }))
-        ]
-
-    same_times : (key : Key) → times_of key more ≡ times_of key first
-    same_times key = elim (cases_Bool (has_key key more)) [
-      | inl has ↦ omega (arith, given.once key, times-has key more has, times-has key first (given-first key has), once-first key)
-      | inr lacks ↦ omega (arith, times-none key more lacks, times-none key first (false_from_ne_true (has_key key first) (λ has. false≢true (sym lacks ∙ first-given key has))))
-    ]
-      where
-        once-first : (key : Key) → times_of key first ≤ 1
-        once-first key = omega (
-          arith,
-          once-packets code pattern window key,
-          count-filter (λ packet. is_same_key (key_of packet) key) (λ packet. leaves_source code.net packet.link) (packets_of code pattern window),
+        let live = live_out code pattern source key.link leaves in (
+          record {
+            begun = omega (arith, fed.takes.first, is.begun.from_first);
+            numbered = omega (arith, fed.takes.first, fed.takes.count, is.begun.to_last);
+            of_link = live-below code pattern key.link live;
+            live = live;
+            of_piece = is.of_piece;
+          },
+          leaves_source-out code pattern source key.link leaves ∙ eq-eqb source source refl,
         )
 
-    pub source-gives : IsPermutation (opening code pattern window).sent more
-    source-gives =
-        let packet = packet_of code pattern window in
-        let same : IsPermutation (map key_of first) (map key_of more) =
-        same_counts is_same_key same_key itself (map key_of more) (map key_of first)
-        (λ key. sym (times_of-map key more) ∙ same_times key ∙ times_of-map key first) in
-        let back : (packets : List Packet) → All IsOfTraffic packets → map packet (map key_of packets) ≡ packets =
-        λ packets are. map-map packet key_of packets ∙ map_fixed (λ p. packet (key_of p)) packets (λ k d within. sym (are k d within)) in
-        let all : All IsOfTraffic (packets_of code pattern window) = All-map IsOfTraffic packet (keys_of code pattern window) (λ k d within. refl) in
-        let firsts : All IsOfTraffic first = All-filter (λ p. leaves_source code.net p.link) IsOfTraffic (packets_of code pattern window) all in
-        let moved : IsPermutation (map packet (map key_of first)) (map packet (map key_of more)) = IsPermutation-map packet (map key_of first) (map key_of more) same in
-        subst (λ (packets : List Packet). IsPermutation first packets) (back more given.are)
-        (subst (λ (packets : List Packet). IsPermutation packets (map packet (map key_of more))) (back first firsts) moved)
+    -- so it flies first
+    given-first : (key : Key) → has_key key more ≡ true → has_key key first ≡ true
+    given-first key has =
+        let is = given-key key has in
+        has_key-passing (leaves_source code.net) key (packets_of code pattern window) ∙ and_from _ _ is.1 (has_key-packets code pattern window key is.0)
+
+    -- Where nothing is due any more, they are what flies first.
+    module _ (none : (key : Key) → IsDue new key → ⊥) where
+      -- each operand of a link out of the source is a row
+      complete : (key : Key) → IsOut new key → is_complete new key ≡ true
+      complete key is =
+          let rows : All (λ (operand : Operand). operand.from < code.rate) (operands_of new.plan key.link) =
+          λ k d within.
+          let place = place_in-within new.plan.outs key.link is.leaves in
+          let below = is_plan.inputs (out_place new.plan key.link) [] (omega (arith, place, is_plan.each_out)) k d within in
+          subst (λ n. (get_or (operands_of new.plan key.link) k d).from < n) (ap (λ (plan : Plan). plan.rate) given.ready.takes.plan)
+          (subst (λ b. (if b then (get_or (operands_of new.plan key.link) k d).from else place_in new.plan.ins (get_or (operands_of new.plan key.link) k d).from) < (if b then new.plan.rate else length new.plan.ins)) is_source below) in
+          all_pass (λ (operand : Operand). operand.from < code.rate) (λ operand. has_input new key.generation operand.from key.piece) (operands_of new.plan key.link)
+          (λ operand low. given.ready.fed key.generation operand.from key.piece is.begun low is.of_piece) rows
+        where
+          is_plan : IsPlan new.plan
+          is_plan = subst IsPlan (sym given.ready.takes.plan) (IsPlan-plan_of code pattern source)
+
+          is_source : new.plan.is_source ≡ true
+          is_source = ap (λ (plan : Plan). plan.is_source) given.ready.takes.plan ∙ eq-eqb source source refl
+
+      -- and all those were given
+      first-given : (key : Key) → has_key key first ≡ true → has_key key more ≡ true
+      first-given key has =
+          let parts = and_parts _ _ (sym (has_key-passing (leaves_source code.net) key (packets_of code pattern window)) ∙ has) in
+          let is_key = is_key-packets code pattern window key parts.1 in
+          let leaves : Contains (outs_of code pattern source) key.link =
+          subst (λ n. Contains (outs_of code pattern n) key.link) (tail_of-source code.net key.link parts.0) (outs-contains code pattern key.link is_key.live) in
+          let is : IsOut new key =
+          record {
+            leaves = subst (λ (plan : Plan). Contains plan.outs key.link) (sym given.ready.takes.plan) leaves;
+            begun = record {
+              from_first = omega (arith, given.ready.takes.first, is_key.begun);
+              to_last = omega (arith, given.ready.takes.first, given.ready.takes.count, is_key.numbered);
+            };
+            of_piece = is_key.of_piece;
+          } in
+          elim (cases_Bool (has_key key more)) [
+            | inl has ↦ has
+            | inr lacks ↦
+                absurd (none key (record {
+                  out = is;
+                  complete = complete key is;
+                  not_given = given.sends key is ∙ has_key-append key more [] ∙ ap (λ b. b || false) lacks;
+                }))
+          ]
+
+      same_times : (key : Key) → times_of key more ≡ times_of key first
+      same_times key = elim (cases_Bool (has_key key more)) [
+        | inl has ↦ omega (arith, given.once key, times-has key more has, times-has key first (given-first key has), once-first key)
+        | inr lacks ↦ omega (arith, times-none key more lacks, times-none key first (false_from_ne_true (has_key key first) (λ has. false≢true (sym lacks ∙ first-given key has))))
+      ]
+        where
+          once-first : (key : Key) → times_of key first ≤ 1
+          once-first key = omega (
+            arith,
+            once-packets code pattern window key,
+            count-filter (λ packet. is_same_key (key_of packet) key) (λ packet. leaves_source code.net packet.link) (packets_of code pattern window),
+          )
+
+      pub source-gives : IsPermutation (opening code pattern window).sent more
+      source-gives =
+          let packet = packet_of code pattern window in
+          let same : IsPermutation (map key_of first) (map key_of more) =
+          same_counts is_same_key same_key itself (map key_of more) (map key_of first)
+          (λ key. sym (times_of-map key more) ∙ same_times key ∙ times_of-map key first) in
+          let back : (packets : List Packet) → All IsOfTraffic packets → map packet (map key_of packets) ≡ packets =
+          λ packets are. map-map packet key_of packets ∙ map_fixed (λ p. packet (key_of p)) packets (λ k d within. sym (are k d within)) in
+          let all : All IsOfTraffic (packets_of code pattern window) = All-map IsOfTraffic packet (keys_of code pattern window) (λ k d within. refl) in
+          let firsts : All IsOfTraffic first = All-filter (λ p. leaves_source code.net p.link) IsOfTraffic (packets_of code pattern window) all in
+          let moved : IsPermutation (map packet (map key_of first)) (map packet (map key_of more)) = IsPermutation-map packet (map key_of first) (map key_of more) same in
+          subst (λ (packets : List Packet). IsPermutation first packets) (back more given.are)
+          (subst (λ (packets : List Packet). IsPermutation packets (map packet (map key_of more))) (back first firsts) moved)

@@ -41,7 +41,7 @@ module _ (code : Code) (pattern : ℕ) (window : Window) (blocks : All (IsBlockO
       All-get_or (IsBlockOf code) window.blocks (generation - window.first) [] (omega (arith, begun, numbered)) blocks
 
   -- the sum over what is held is the traffic's payload
-  summed-is : (held : List Packet) (key : Key) → AreOfTraffic code pattern window held → IsKey code pattern window key → leaves_source code.net key.link ≡ false
+  pub summed-is : (held : List Packet) (key : Key) → AreOfTraffic code pattern window held → IsKey code pattern window key → leaves_source code.net key.link ≡ false
       → has_operands code pattern held key ≡ true → summed code pattern held key ≡ (packet_of code pattern window key).payload
   summed-is held key are is inner all =
       let live = live_operands code pattern key.link in
