@@ -1,2 +1,3 @@
+pub mod FlyingLaws
 pub mod PassingLaws
 pub mod ReceivingLaws
