@@ -20,8 +20,8 @@ use Rattle.run_states.specs.Showing.{IsPair, packets_in}
 -- a frame of a packet has the packet's fields
 pub packet_in-frame_of : (packet : Packet) → Fits packet → packet_in (frame_of packet) ≡ packet
 packet_in-frame_of packet fits =
-    ap (λ link. record { link = link; generation = from_be_bytes w32 (to_be_bytes w32 packet.generation); piece = packet.piece; payload = packet.payload }) (from_be_bytes-to_be_bytes_4 packet.link fits.link)
-    ∙ ap (λ generation. record { link = packet.link; generation = generation; piece = packet.piece; payload = packet.payload }) (from_be_bytes-to_be_bytes_4 packet.generation fits.generation)
+    ap (λ link. record packet { link = link; generation = from_be_bytes w32 (to_be_bytes w32 packet.generation) }) (from_be_bytes-to_be_bytes_4 packet.link fits.link)
+    ∙ ap (λ generation. record packet { generation = generation }) (from_be_bytes-to_be_bytes_4 packet.generation fits.generation)
 
 -- so the pair of a packet is one of a link and its frame
 pub pair-of : (packet : Packet) → Fits packet → IsPair (flight_of packet)
@@ -45,12 +45,14 @@ puts-fly faithful (packet ∷ packets) old new fit is pairs =
     let mid : InFlight = is.0 in
     let first : Fits packet = All-head Fits packet packets fit in
     let rest = puts-fly faithful packets mid new (All-tail Fits packet packets fit) is.2
-    (All-permutation IsPair (flight_of packet ∷ old.flying) mid.flying is.1.flying (All-cons IsPair (flight_of packet) old.flying (pair-of packet first) pairs)) in
+    (All-permutation IsPair (flight_of packet ∷ old.flying) mid.flying is.1.flying
+    (All-cons IsPair (flight_of packet) old.flying (pair-of packet first) pairs)) in
     let one : IsPermutation (packet ∷ packets_in old.flying) (packets_in mid.flying) =
     subst (λ (p : Packet). IsPermutation (p ∷ packets_in old.flying) (packets_in mid.flying)) (packet_in-frame_of packet first)
     (packets_in-permutation (flight_of packet ∷ old.flying) mid.flying is.1.flying) in
     let here : IsPermutation (packet ∷ (packets ++ packets_in old.flying)) (packets ++ packet ∷ packets_in old.flying) =
-    IsPermutation-sym (packets ++ packet ∷ packets_in old.flying) (packet ∷ (packets ++ packets_in old.flying)) (IsPermutation-middle packets packet (packets_in old.flying)) in
+    IsPermutation-sym (packets ++ packet ∷ packets_in old.flying) (packet ∷ (packets ++ packets_in old.flying))
+    (IsPermutation-middle packets packet (packets_in old.flying)) in
     let more : IsPermutation (packets ++ packet ∷ packets_in old.flying) (packets ++ packets_in mid.flying) =
     IsPermutation-append_right packets (packet ∷ packets_in old.flying) (packets_in mid.flying) one in
     record {
@@ -80,7 +82,8 @@ taken-delivers faithful flight old new pairs fit taken = elim taken.after [
   | inr stays ↦ (
     delivery true,
     delivered true
-        (subst (λ (flying : List Flight). IsPermutation (packets_in old.flying) (packets_in flying)) (sym stays.same_flying) (IsPermutation-refl (packets_in old.flying)))
+        (subst (λ (flying : List Flight). IsPermutation (packets_in old.flying) (packets_in flying)) (sym stays.same_flying)
+        (IsPermutation-refl (packets_in old.flying)))
         (subst (All IsPair) (sym stays.same_flying) pairs),
   )
 ]

@@ -34,7 +34,8 @@ next_of delivery state more flying =
     record { flying = packets_in flying; held = held_after delivery state.held; sent = more ++ state.sent }
 
 -- the core steps to that state, and it is shown
-pub record Steps (code : Code) (pattern : ℕ) (window : Window) (delivery : Delivery) (state : RelayState) (more : List Packet) (relays : List Relay) (sinks : List (Option Receiver)) (flying : List Flight) : Type 0 where
+pub record Steps (code : Code) (pattern : ℕ) (window : Window) (delivery : Delivery) (state : RelayState) (more : List Packet)
+    (relays : List Relay) (sinks : List (Option Receiver)) (flying : List Flight) : Type 0 where
   pub step : IsStep code pattern delivery state (next_of delivery state more flying)
   pub shown : IsShown code pattern window relays sinks flying (next_of delivery state more flying)
 
@@ -44,12 +45,14 @@ has_key-at packets k d within =
     let key = key_of (get_or packets k d) in
     list_any_at (λ packet. is_same_key (key_of packet) key) packets k d within (itself key)
 
-module _ (code : Code) (pattern : ℕ) (window : Window) (short : window.first + length window.blocks ≤ 2 ^ 32) (state : RelayState) (kept : Kept code pattern window state) where
+module _ (code : Code) (pattern : ℕ) (window : Window) (short : window.first + length window.blocks ≤ 2 ^ 32)
+    (state : RelayState) (kept : Kept code pattern window state) where
   abbrev OfKey : Packet → Type 0
   OfKey packet = IsKey code pattern window (key_of packet)
 
   -- what flies is of the traffic
-  pub flying-are : (flying : List Flight) → IsPermutation state.flying (packets_in flying) → All (λ packet. IsKey code pattern window (key_of packet)) (packets_in flying)
+  pub flying-are : (flying : List Flight) → IsPermutation state.flying (packets_in flying)
+      → All (λ packet. IsKey code pattern window (key_of packet)) (packets_in flying)
   flying-are flying flies =
       All-permutation OfKey state.flying (packets_in flying) flies (λ k d within.
       let key = key_of (get_or state.flying k d) in
@@ -86,11 +89,14 @@ module _ (code : Code) (pattern : ℕ) (window : Window) (short : window.first +
         }
 
   -- what is held after a delivery of the traffic is of the traffic
-  now-are : (delivery : Delivery) → IsKey code pattern window (key_of delivery.pair) → (key : Key) → has_key key (held_after delivery state.held) ≡ true → IsKey code pattern window key
-  now-are delivery is key has = elim (or_cases (is_same_key (key_of delivery.pair) key) (has_key key state.held) (sym (has_key-held_after key delivery state.held) ∙ has)) [
-    | inl same ↦ subst (IsKey code pattern window) (same_key (key_of delivery.pair) key same) is
-    | inr there ↦ held-are key there
-  ]
+  now-are : (delivery : Delivery) → IsKey code pattern window (key_of delivery.pair)
+      → (key : Key) → has_key key (held_after delivery state.held) ≡ true → IsKey code pattern window key
+  now-are delivery is key has =
+      let either = sym (has_key-held_after key delivery state.held) ∙ has in
+      elim (or_cases (is_same_key (key_of delivery.pair) key) (has_key key state.held) either) [
+        | inl same ↦ subst (IsKey code pattern window) (same_key (key_of delivery.pair) key same) is
+        | inr there ↦ held-are key there
+      ]
 
   -- so what is sent then fits into frames
   sent-fit : (delivery : Delivery) (node : ℕ) (more : List Packet) → IsKey code pattern window (key_of delivery.pair)
@@ -120,10 +126,10 @@ module _ (code : Code) (pattern : ℕ) (window : Window) (short : window.first +
           (IsPermutation-middle more delivery.pair (packets_in mid))
           (IsPermutation-cons delivery.pair (more ++ packets_in mid) (packets_in new) puts.flies))
 
-  -- A pair of the traffic was given, the node at its head and the sink there took its packet, and what the node then sends was
-  -- put.
-  pub stepped : (below : pattern < length code.net.patterns) (faithful : Bool) (flight : Flight) (delivery : Delivery) (old mid new : InFlight) (relays relays_after : List Relay)
-      (sinks sinks_after : List (Option Receiver)) (relay : Relay) (sink_before sink : Option Receiver) (more : List Packet)
+  -- A pair that flew was given, the node at its head and the sink there took its packet, and what the node sends then was put.
+  -- The pattern is one of the network's, so that each sink shows a demand of its own.
+  pub stepped : (below : pattern < length code.net.patterns) (faithful : Bool) (flight : Flight) (delivery : Delivery) (old mid new : InFlight)
+      (relays relays_after : List Relay) (sinks sinks_after : List (Option Receiver)) (relay : Relay) (sink_before sink : Option Receiver) (more : List Packet)
       → IsShown code pattern window relays sinks old.flying state → IsDelivered faithful flight delivery old.flying mid.flying
       → slice_get sinks (head_of code.net.links delivery.pair.link) ≡ Some sink_before
       → AreSent code pattern (head_of code.net.links delivery.pair.link) (held_after delivery state.held) state.sent more
@@ -134,12 +140,14 @@ module _ (code : Code) (pattern : ℕ) (window : Window) (short : window.first +
       → IsReplaced (head_of code.net.links delivery.pair.link) sink sinks sinks_after
       → FollowMoves faithful (puts_of more) mid new
       → Steps code pattern window delivery state more relays_after sinks_after new.flying
-  stepped below faithful flight delivery old mid new relays relays_after sinks sinks_after relay sink_before sink more shown delivered at sends shows shows_sent takes node_replaced sink_replaced put =
+  stepped below faithful flight delivery old mid new relays relays_after sinks sinks_after relay sink_before sink more
+      shown delivered at sends shows shows_sent takes node_replaced sink_replaced put =
       let node = head_of code.net.links delivery.pair.link in
       let is = delivered-key faithful flight delivery old.flying mid.flying shown.flies delivered in
       let puts = puts-fly faithful more mid new (sent-fit delivery node more is sends) put delivered.pairs in
       let flew : Contains state.flying delivery.pair =
-      Contains-permutation (packets_in old.flying) state.flying delivery.pair (IsPermutation-sym state.flying (packets_in old.flying) shown.flies) delivered.flew in
+      Contains-permutation (packets_in old.flying) state.flying delivery.pair
+      (IsPermutation-sym state.flying (packets_in old.flying) shown.flies) delivered.flew in
       record {
         step =
             step-made code pattern window delivery state.held state.sent more node refl sends state.flying (packets_in new.flying) flew
