@@ -1,3 +1,4 @@
 pub mod FlyingLaws
 pub mod PassingLaws
 pub mod ReceivingLaws
+pub mod WholeLaws
