@@ -66,7 +66,8 @@ module _ (code : Code) (pattern place : ℕ) (here : place < length code.net.sin
       ∙ sym (get_or-map live plan.links (place_of plan link) 0 false within)
       ∙ wanted
 
-module _ (code : Code) (pattern : ℕ) (window : Window) (run : List Delivery) (state : RelayState) (is : IsRun code pattern run (opening code pattern window) state)
+module _ (code : Code) (pattern : ℕ) (window : Window) (run : List Delivery) (state : RelayState)
+    (is : IsRun code pattern run (opening code pattern window) state)
     (quiet : state.flying ≡ []) (place : ℕ) (here : place < length code.net.sinks) (pattern_is : pattern < length code.net.patterns) (sink : Receiver)
     (shows : ShowsSink code (demand_of code pattern place) window sink state.held) (blocks : All (IsBlockOf code) window.blocks) where
   abbrev demand : ℕ
@@ -103,7 +104,8 @@ module _ (code : Code) (pattern : ℕ) (window : Window) (run : List Delivery) (
       live-whole at within live =
           let link = get_or sink.plan.links at 0 in
           let stands : place_of sink.plan link ≡ at = place_of-at sink.plan at rising within in
-          let wanted : wants (sink_plan_of code demand) link ≡ true = sym (ap (λ (plan : SinkPlan). wants plan link) shows.plan) ∙ ap (is_live_at sink.plan) stands ∙ live in
+          let wanted : wants (sink_plan_of code demand) link ≡ true =
+          sym (ap (λ (plan : SinkPlan). wants plan link) shows.plan) ∙ ap (is_live_at sink.plan) stands ∙ live in
           whole-pieces (came_of sink generation) at (λ piece low.
           let key : Key = record { link = link; generation = generation; piece = piece } in
           let is_wanted : IsWanted code demand window key = record { wanted = wanted; begun = begun; numbered = numbered; of_piece = low } in
