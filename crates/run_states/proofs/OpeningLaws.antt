@@ -34,11 +34,12 @@ use Rattle.run_states.specs.Ready.{AreReady, IsReadySink}
 use Rattle.run_states.specs.Showing.{IsPair, IsShown, ShowSinks, packets_in}
 use Rattle.sink_decoder.specs.Receiving.{Receiver}
 
--- a key stands among no packets or not, and among what was permuted
+-- one of two tests, where the other fails
 or_false : (b : Bool) → (b || false) ≡ b
 or_false true = refl
 or_false false = refl
 
+-- whether a key stands among packets, after a permutation
 has-permutation : (key : Key) (packets others : List Packet) → IsPermutation packets others → has_key key packets ≡ has_key key others
 has-permutation key = list_any-IsPermutation (λ packet. is_same_key (key_of packet) key)
 
@@ -175,6 +176,7 @@ module _ (code : Code) (pattern : ℕ) (window : Window) where
           ];
         }
 
+    -- so it is at all sinks
     sinks-shown : ShowSinks code pattern window sinks []
     sinks-shown =
         record {

@@ -41,11 +41,12 @@ whole-pieces held row each =
     ∙ get_or-drop (row * 8) held.marks piece false
     ∙ each piece low)
 
--- the demand of a sink is one of a code, and it is of the pattern
 module _ (code : Code) (pattern place : ℕ) (here : place < length code.net.sinks) (pattern_is : pattern < length code.net.patterns) where
+  -- the demand of a sink is one of the code
   demand-within : demand_of code pattern place < demand_count code.net
   demand-within = number_within code.net (record { sink = place; pattern = pattern }) here pattern_is
 
+  -- and it is of the pattern
   pattern-demand : pattern_of_demand code.net (demand_of code pattern place) ≡ pattern
   pattern-demand = ap (λ (demand : Demand). demand.pattern) (demand_of_number code.net (record { sink = place; pattern = pattern }) pattern_is)
 
@@ -73,6 +74,7 @@ module _ (code : Code) (pattern : ℕ) (window : Window) (run : List Delivery) (
   abbrev demand : ℕ
   demand = demand_of code pattern place
 
+  -- what holds in every run
   reaches : Reaches code pattern window run state
   reaches = run-reaches code pattern window run state blocks is
 
