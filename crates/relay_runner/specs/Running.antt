@@ -1,5 +1,5 @@
 -- A runner: a code at work under a pattern, window after window.
-use Rattle.std.specs.Prelude.{◌≡◌, ◌≤◌, ◌+◌, ◌*◌, ◌/◌, ◌^◌, ℕ, All, Bool, List, [], Option, length}
+use Rattle.std.specs.Prelude.{◌≡◌, ◌<◌, ◌≤◌, ◌+◌, ◌*◌, ◌/◌, ◌^◌, ℕ, All, Bool, List, [], Option, length}
 use Rattle.coded_traffic.specs.CodeBlocks.{IsBlockOf}
 use Rattle.coded_traffic.specs.Traffic.{Window}
 use Rattle.generation_frame.specs.Blocks.{row_bytes}
@@ -50,24 +50,24 @@ pub record AreBlocks (code : Code) (first : ℕ) (blocks : List ℕ) : Type 0 wh
 
 -- nodes and sinks that have begun a window, of which the source was fed the blocks
 pub record Starts (code : Code) (pattern : ℕ) (window : Window) (relays : List Relay) (sinks : List (Option Receiver)) : Type 0 where
+  pub pattern_is : pattern < length code.net.patterns
   pub is_window : IsWindow code window
   pub ready : AreReady code pattern window relays sinks
 
 -- they have begun some window
-pub record CanStart (code : Code) (relays : List Relay) (sinks : List (Option Receiver)) : Type 0 where
-  pub pattern : ℕ
+pub record CanStart (code : Code) (pattern : ℕ) (relays : List Relay) (sinks : List (Option Receiver)) : Type 0 where
   pub window : Window
   pub starts : Starts code pattern window relays sinks
 
 -- nodes, sinks and links that stand at a state of the core, which a run of the window has reached
 pub record IsRunning (code : Code) (pattern : ℕ) (window : Window) (run : List Delivery) (relays : List Relay) (sinks : List (Option Receiver)) (flying : List Flight) (state : RelayState) : Type 0 where
+  pub pattern_is : pattern < length code.net.patterns
   pub is_window : IsWindow code window
   pub is_run : IsRun code pattern run (opening code pattern window) state
   pub shown : IsShown code pattern window relays sinks flying state
 
 -- they stand at some state of some window
-pub record StandAt (code : Code) (relays : List Relay) (sinks : List (Option Receiver)) (flying : List Flight) : Type 0 where
-  pub pattern : ℕ
+pub record StandAt (code : Code) (pattern : ℕ) (relays : List Relay) (sinks : List (Option Receiver)) (flying : List Flight) : Type 0 where
   pub window : Window
   pub run : List Delivery
   pub state : RelayState

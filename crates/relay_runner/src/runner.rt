@@ -7,13 +7,13 @@ ghost use Rattle.lif_outside.specs.Moves.{open_refused, opened, took_none};
 ghost use Rattle.relay_core.specs.Core.{Delivery, IsFaithful, RelayState};
 ghost use Rattle.sink_decoder.specs.Receiving.{Receiver, decoded};
 
-use crate::running::{carry_window, step};
+use crate::running::step;
 use crate::{LinkFault, Turn};
 use code_checker::Checked;
 use generation_frame::ROW;
 use gf_tables::Field;
 use lif_outside::Links;
-use node_stations::Station;
+use node_stations::{Station, put_due};
 use station_table::{begin_stations, feed_blocks, open_stations};
 use std::alloc::{AllocError, Global};
 use std::marker::Model;
@@ -60,7 +60,7 @@ impl<'c, F> Model for Runner<'c, F> {
 impl<'c, F: Field> Runner<'c, F> {
     ghost use Rattle.relay_runner.specs.Carrying.{Carries, StopsCarrying};
     ghost use Rattle.relay_runner.specs.Runner.{IsRefused, IsSameWork};
-    ghost use Rattle.relay_runner.specs.Running.{AreBlocks, HasCarried, IsRunning, StandAt, count_in, window_from};
+    ghost use Rattle.relay_runner.specs.Running.{AreBlocks, CanStart, HasCarried, IsRunning, StandAt, Starts, count_in, window_from};
     ghost use Rattle.relay_runner.specs.Stepping.{Steps, StopsStepping};
 
     /// A runner of a code under a pattern. It takes all memory that the work needs, and opens the links with the number
@@ -108,7 +108,7 @@ impl<'c, F: Field> Runner<'c, F> {
     /// it, and what the node gives then is put. `Quiet` is answered where nothing flies. It takes no memory.
     pub fn turn<K: Links>(&mut self, links: &mut K) -> Result<Turn, LinkFault>
         requires works { self.old.has_failed ≡ false }
-        requires stand { StandAt self.old.code self.old.relays self.old.sinks
+        requires stand { StandAt self.old.code self.old.pattern self.old.relays self.old.sinks
             (K.flying links.old) }
         requires room { 32 * length self.old.code.net.links ≤ K.room links.old }
         ensures work { IsSameWork self.old self.new }
@@ -136,6 +136,32 @@ impl<'c, F: Field> Runner<'c, F> {
                 Err(LinkFault)
             }
         }
+    }
+
+    // Carries the window that the stations have begun: what the source gives is put, and then turn follows turn until nothing
+    // flies.
+    fn run<K: Links>(&mut self, links: &mut K) -> Result<(), LinkFault>
+        requires works { self.old.has_failed ≡ false }
+        requires start { CanStart self.old.code self.old.pattern self.old.relays self.old.sinks }
+        requires nothing_flies { K.flying links.old ≡ [] }
+        requires room { 32 * length self.old.code.net.links ≤ K.room links.old }
+        ensures work { IsSameWork self.old self.new }
+        ensures failed { self.new.has_failed ≡ is_err result }
+        ensures carried { OnOk result ((window : Window)
+            → Starts self.old.code self.old.pattern window self.old.relays self.old.sinks
+            → Carries K.Links self.old.code self.old.pattern window links.old links.new
+            self.new.relays self.new.sinks) }
+        ensures stopped { OnErr result ((window : Window)
+            → Starts self.old.code self.old.pattern window self.old.relays self.old.sinks
+            → StopsCarrying K.Links self.old.code self.old.pattern window links.old links.new) }
+    {
+        let source = self.code.code().net.source as usize;
+        let Ok(()) = put_due(&mut self.stations[source].node, links) else {
+            self.failed = true;
+            return Err(LinkFault);
+        };
+        'turns: while let Turn::Moved = self.turn(links)? {}
+        Ok(())
     }
 
     /// Carries 1 to 4 blocks, which stand one after another, under the next numbers: a run from the opening state to one where
@@ -168,13 +194,7 @@ impl<'c, F: Field> Runner<'c, F> {
         self.first = first;
         self.count = count;
         self.next += count as u64;
-        match carry_window(code, &mut self.stations, links) {
-            Ok(()) => Ok(()),
-            Err(_) => {
-                self.failed = true;
-                Err(LinkFault)
-            }
-        }
+        self.run(links)
     }
 
     /// Writes the block that a sink decodes, of those carried last, by its place. The sink is given by its place among the

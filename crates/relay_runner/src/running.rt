@@ -1,10 +1,9 @@
-//! Steps of a run at work, and all of a window.
-ghost use Rattle.std.specs.Prelude.{◌≡◌, ◌*◌, ◌≤◌, ◌∷◌, ℕ, [], List, OnErr, OnOk, Ok, length};
+//! A step of a run at work.
+ghost use Rattle.std.specs.Prelude.{◌≡◌, ◌*◌, ◌≤◌, ◌∷◌, ℕ, [], List, OnErr, Ok, length};
 ghost use Rattle.coded_traffic.specs.Traffic.{Window};
 ghost use Rattle.lif_outside.specs.Moves.{took_none};
 ghost use Rattle.relay_core.specs.Core.{Delivery, RelayState};
-ghost use Rattle.relay_runner.specs.Carrying.{Carries, StopsCarrying};
-ghost use Rattle.relay_runner.specs.Running.{CanStart, IsRunning, StandAt, Starts};
+ghost use Rattle.relay_runner.specs.Running.{IsRunning, StandAt};
 ghost use Rattle.relay_runner.specs.Stepping.{Steps, StopsStepping};
 ghost use Rattle.station_table.specs.Table.{relays_of, sinks_of};
 
@@ -12,7 +11,7 @@ use crate::Turn;
 use gf_tables::Field;
 use lif_outside::{Failed, Links};
 use node_program::Code;
-use node_stations::{Station, packet_given, put_due};
+use node_stations::{Station, packet_given};
 
 /// One step: a pair that flies is given to the station at its link's head, and what the node gives then is put.
 pub(crate) fn step<F: Field, K: Links>(
@@ -20,8 +19,8 @@ pub(crate) fn step<F: Field, K: Links>(
     stations: &mut [Station<F>],
     links: &mut K,
 ) -> Result<Turn, Failed>
-    requires stand { StandAt code.now (relays_of stations.old) (sinks_of stations.old)
-        (K.flying links.old) }
+    requires stand { (pattern : ℕ) × StandAt code.now pattern
+        (relays_of stations.old) (sinks_of stations.old) (K.flying links.old) }
     requires room { 32 * length code.now.net.links ≤ K.room links.old }
     ensures moved { result ≡ Ok Turn.Moved
         → (pattern : ℕ) (window : Window) (run : List Delivery) (state : RelayState)
@@ -45,27 +44,4 @@ pub(crate) fn step<F: Field, K: Links>(
     let node = code.net.links.at(packet.link as usize).head as usize;
     stations[node].pass_on(&packet, links)?;
     Ok(Turn::Moved)
-}
-
-/// Carries the window that the stations have begun: what the source gives is put, and then step follows step until nothing
-/// flies.
-pub(crate) fn carry_window<F: Field, K: Links>(
-    code: &Code,
-    stations: &mut [Station<F>],
-    links: &mut K,
-) -> Result<(), Failed>
-    requires start { CanStart code.now (relays_of stations.old) (sinks_of stations.old) }
-    requires nothing_flies { K.flying links.old ≡ [] }
-    requires room { 32 * length code.now.net.links ≤ K.room links.old }
-    ensures carried { OnOk result ((pattern : ℕ) (window : Window)
-        → Starts code.now pattern window (relays_of stations.old) (sinks_of stations.old)
-        → Carries K.Links code.now pattern window links.old links.new
-        (relays_of stations.new) (sinks_of stations.new)) }
-    ensures stopped { OnErr result ((pattern : ℕ) (window : Window)
-        → Starts code.now pattern window (relays_of stations.old) (sinks_of stations.old)
-        → StopsCarrying K.Links code.now pattern window links.old links.new) }
-{
-    put_due(&mut stations[code.net.source as usize].node, links)?;
-    'steps: while let Turn::Moved = step(code, stations, links)? {}
-    Ok(())
 }
