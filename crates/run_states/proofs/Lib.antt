@@ -1,2 +1,3 @@
 pub mod PassingLaws
 pub mod ReceivingLaws
+pub mod CountLaws
