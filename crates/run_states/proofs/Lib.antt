@@ -1,3 +1,4 @@
 pub mod PassingLaws
 pub mod ReceivingLaws
 pub mod CountLaws
+pub mod UnsentLaws
