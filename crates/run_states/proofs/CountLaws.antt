@@ -1,5 +1,5 @@
 -- How many packets fly, and how many are put: no more than there are keys of the window.
-use Rattle.std.specs.Prelude.{◌≡◌, ◌≤◌, ◌+◌, ◌*◌, ◌||◌, ◌++◌, ℕ, Bool, true, false, cond, Contains, List, [], ◌∷◌, filter, flat_map, length, map, count_by, sum_by}
+use Rattle.std.specs.Prelude.{◌≡◌, ◌≤◌, ◌+◌, ◌*◌, ◌||◌, ◌++◌, ℕ, true, false, cond, Contains, List, [], ◌∷◌, flat_map, length, map, count_by, sum_by}
 use Rattle.std.specs.List.{range_with_len}
 use Rattle.std.proofs.Common.{arith, ap, inl, inr, sym, subst, ◌∙◌}
 use Rattle.std.proofs.Math.Nat.{mul-le-mul_right}
@@ -23,8 +23,8 @@ use Rattle.relay_core.proofs.RunLaws.{reached-kept}
 use Rattle.relay_core.proofs.StepLaws.{step-count}
 use Rattle.relay_core.specs.Core.{Delivery, IsRun, RelayState, has_key, opening, times_of}
 use Rattle.relay_node.proofs.TrafficLaws.{live_out}
-use Rattle.relay_node.specs.Relay.{Gives, IsOut, Relay}
-use Rattle.node_states.proofs.GivingLaws.{has_key-append, or_none, out_before, shown_after, times_more}
+use Rattle.relay_node.specs.Relay.{IsOut, Relay}
+use Rattle.node_states.proofs.GivingLaws.{has_key-append, or_none, shown_after, times_more}
 use Rattle.node_states.specs.Shown.{GivesEach, IsFedAll, ShowsSent, WorksOn}
 use Rattle.node_stations.specs.Delivering.{NodeTakes}
 use Rattle.run_states.proofs.PassingLaws.{shown-mid, shows-mid}
@@ -39,7 +39,8 @@ length-pieced {X} f most xs few =
 -- each generation has a key for each piece of each live link
 pub few-keys : (code : Code) (pattern : ℕ) (window : Window) → length (keys_of code pattern window) ≤ length window.blocks * (length code.net.links * 8)
 few-keys code pattern window =
-    let on_link : ℕ → ℕ → List Key = λ generation link. map (λ piece. record { link = link; generation = generation; piece = piece }) (range_with_len 0 pieces) in
+    let on_link : ℕ → ℕ → List Key =
+    λ generation link. map (λ piece. record { link = link; generation = generation; piece = piece }) (range_with_len 0 pieces) in
     let of_generation : ℕ → List Key = λ generation. flat_map (on_link generation) (live_links_of code pattern) in
     let live : length (live_links_of code pattern) * 8 ≤ length code.net.links * 8 =
     omega (arith, length-filter-le (is_live_in code pattern) (range_with_len 0 (length code.net.links)), length-range_with_len 0 (length code.net.links)) in
@@ -48,7 +49,7 @@ few-keys code pattern window =
     let all = length-pieced of_generation (length code.net.links * 8) (range_with_len window.first (length window.blocks)) each in
     rw (length-range_with_len window.first (length window.blocks)) at all
 
--- what flies was sent, and each step that takes a pair makes one fewer of it fly
+-- over a run no more come to fly than are sent
 fewer-flying : (code : Code) (pattern : ℕ) (window : Window) (run : List Delivery) (old new : RelayState) → IsRun code pattern run old new
     → length new.flying + length old.sent ≤ length new.sent + length old.flying
 fewer-flying code pattern window [] old new is = rw is (omega arith)
@@ -56,21 +57,23 @@ fewer-flying code pattern window (delivery ∷ run) old new is =
     omega (arith, fewer-flying code pattern window run is.0 new is.2, step-count code pattern window delivery old is.0 is.1)
 
 -- no more flies than was sent
-pub flying-few : (code : Code) (pattern : ℕ) (window : Window) (run : List Delivery) (state : RelayState) → IsRun code pattern run (opening code pattern window) state
-    → length state.flying ≤ length state.sent
+pub flying-few : (code : Code) (pattern : ℕ) (window : Window) (run : List Delivery) (state : RelayState)
+    → IsRun code pattern run (opening code pattern window) state → length state.flying ≤ length state.sent
 flying-few code pattern window run state is = omega (arith, fewer-flying code pattern window run (opening code pattern window) state is)
 
--- packets of the window of which no two have the same key are no more than there are keys
-pub more-few : (code : Code) (pattern : ℕ) (window : Window) (packets : List Packet) → ((key : Key) → times_of key packets ≤ 1)
-    → ((key : Key) → has_key key packets ≡ true → IsKey code pattern window key) → length packets ≤ length (keys_of code pattern window)
-more-few code pattern window packets once are =
-    omega (arith, length-map packets key_of, length-fewer is_same_key same_key itself (map key_of packets) (keys_of code pattern window) few)
-  where
-    few : (key : Key) → count_by (λ other. is_same_key other key) (map key_of packets) ≤ count_by (λ other. is_same_key other key) (keys_of code pattern window)
-    few key = elim (cases_Bool (has_key key packets)) [
-      | inl has ↦ omega (arith, times_of-map key packets, once key, key-once code pattern window key (are key has))
-      | inr lacks ↦ omega (arith, times_of-map key packets, times-none key packets lacks)
-    ]
+module _ (code : Code) (pattern : ℕ) (window : Window) (packets : List Packet) (once : (key : Key) → times_of key packets ≤ 1)
+    (are : (key : Key) → has_key key packets ≡ true → IsKey code pattern window key) where
+  -- among packets of the window of which no two have the same key each key stands at most as often as among those of the window
+  pub few-times : (key : Key)
+      → count_by (λ other. is_same_key other key) (map key_of packets) ≤ count_by (λ other. is_same_key other key) (keys_of code pattern window)
+  few-times key = elim (cases_Bool (has_key key packets)) [
+    | inl has ↦ omega (arith, times_of-map key packets, once key, key-once code pattern window key (are key has))
+    | inr lacks ↦ omega (arith, times_of-map key packets, times-none key packets lacks)
+  ]
+
+  -- so they are no more than there are keys
+  pub more-few : length packets ≤ length (keys_of code pattern window)
+  more-few = omega (arith, length-map packets key_of, length-fewer is_same_key same_key itself (map key_of packets) (keys_of code pattern window) few-times)
 
 -- packets of a window of which none was sent, and no two have the same key
 record AreNew (code : Code) (pattern : ℕ) (window : Window) (sent packets : List Packet) : Type 0 where
@@ -93,8 +96,8 @@ module _ (code : Code) (pattern node : ℕ) (window : Window) where
       }
 
   -- what a node gives, one after another, is new
-  given-new : (packets : List Packet) (relay new : Relay) (sent : List Packet) → WorksOn code pattern node window relay → ShowsSent relay sent → GivesEach relay packets new
-      → AreNew code pattern window sent packets
+  given-new : (packets : List Packet) (relay new : Relay) (sent : List Packet) → WorksOn code pattern node window relay → ShowsSent relay sent
+      → GivesEach relay packets new → AreNew code pattern window sent packets
   given-new [] relay new sent works shown is =
       record { are = λ key has. absurd (false≢true has); unsent = λ key has. absurd (false≢true has); once = λ key. omega arith }
   given-new (packet ∷ packets) relay new sent works shown (mid, gives, rest) =
@@ -148,8 +151,9 @@ module _ (code : Code) (pattern : ℕ) (window : Window) where
       ]
 
 -- there is room for what flies and all that a node puts once a packet came
-pub room-after : (code : Code) (pattern node : ℕ) (window : Window) (run : List Delivery) (state : RelayState) → IsRun code pattern run (opening code pattern window) state
-    → length window.blocks ≤ 4 → (delivery : Delivery) (packet : Packet) (relay mid new : Relay) (packets : List Packet)
+pub room-after : (code : Code) (pattern node : ℕ) (window : Window) (run : List Delivery) (state : RelayState)
+    → IsRun code pattern run (opening code pattern window) state → length window.blocks ≤ 4
+    → (delivery : Delivery) (packet : Packet) (relay mid new : Relay) (packets : List Packet)
     → Comes code pattern node window delivery state.held state.sent packet relay → NodeTakes packet relay mid → GivesEach mid packets new
     → length state.flying + length packets ≤ 32 * length code.net.links
 room-after code pattern node window run state is few delivery packet relay mid new packets comes takes gives =

@@ -1,8 +1,8 @@
 -- What wasn't given yet of a window and what was sent are all of its keys.
-use Rattle.std.specs.Prelude.{◌≡◌, ◌≤◌, ◌+◌, ◌++◌, ℕ, Bool, true, false, not, cond, All, Contains, IsPermutation, List, [], ◌∷◌, Option, Some, count_by, length, map, replicate, slice_get}
+use Rattle.std.specs.Prelude.{◌≡◌, ◌≤◌, ◌+◌, ◌++◌, ℕ, Bool, true, false, not, cond, All, Contains, IsPermutation, List, [], ◌∷◌, Option, Some, count_by, length, map, slice_get}
 use Rattle.std.specs.Option.{option_map_or}
 use Rattle.std.proofs.Common.{arith, ap, refl, inl, inr, sym, subst, ◌∙◌, get_or}
-use Rattle.std.proofs.lemmas.Bool.{cases_Bool, false_from_ne_true}
+use Rattle.std.proofs.lemmas.Bool.{false_from_ne_true}
 use Rattle.std.proofs.lemmas.List.{length-append, length-map, length-replicate}
 use Rattle.std.proofs.lemmas.List.Elements.{All-head, All-map, All-tail}
 use Rattle.std.proofs.lemmas.List.Folds.{list_any_at}
@@ -11,7 +11,6 @@ use Rattle.std.proofs.lemmas.List.Sums.{get_or-le-sum_by, sum_by-append, sum_by-
 use Rattle.std.proofs.lemmas.Option.{slice_get_cases}
 use Rattle.coded_traffic.proofs.KeyLaws.{key-once, keys-are}
 use Rattle.coded_traffic.specs.Traffic.{IsKey, Key, Window, is_same_key, key_of, keys_of}
-use Rattle.generation_frame.specs.declared.frame.Packet.{Packet}
 use Rattle.net_model.proofs.EndLaws.{ends_below}
 use Rattle.net_model.specs.Walks.{tail_of}
 use Rattle.node_plans.proofs.PlanLaws.{outs-contains}
@@ -19,14 +18,15 @@ use Rattle.node_plans.specs.declared.plan.Plan.{Plan}
 use Rattle.node_program.specs.declared.code.Code.{Code}
 use Rattle.relay_core.proofs.Kept.{Kept}
 use Rattle.relay_core.proofs.ListLaws.{rest_of}
-use Rattle.relay_core.proofs.PacketLaws.{itself, same_key, times-has, times-none, times_of-map}
+use Rattle.relay_core.proofs.PacketLaws.{itself, same_key, times-has, times_of-map}
 use Rattle.relay_core.proofs.RunLaws.{reached-kept}
 use Rattle.relay_core.specs.Core.{Delivery, IsRun, RelayState, has_key, opening}
 use Rattle.relay_node.specs.Relay.{IsOut, Relay, is_given}
 use Rattle.node_states.specs.Shown.{Shows}
+use Rattle.run_states.proofs.CountLaws.{few-times}
 use Rattle.run_states.specs.Unsent.{is_given_at, unsent}
 
--- where all items pass a test, all are counted, and where all fail it, none
+-- where all items pass a test, all are counted
 count-all : {X : Type 0} (test : X → Bool) (xs : List X) → All (λ x. test x ≡ true) xs → count_by test xs ≡ length xs
 count-all test [] all = refl
 count-all {X} test (x ∷ xs) all =
@@ -35,6 +35,7 @@ count-all {X} test (x ∷ xs) all =
     let counted : one x ≡ 1 = rw here refl in
     omega (arith, counted, sum_by-cons one x xs, count-all test xs (All-tail (λ y. test y ≡ true) x xs all))
 
+-- and where all fail it, none
 count-not : {X : Type 0} (test : X → Bool) (xs : List X) → All (λ x. test x ≡ false) xs → count_by test xs ≡ 0
 count-not test [] all = refl
 count-not {X} test (x ∷ xs) all =
@@ -87,13 +88,7 @@ module _ (code : Code) (pattern : ℕ) (window : Window) (run : List Delivery) (
 
   -- each key that was sent stands once among those of the window, so those are the keys sent and the rest
   parted : (rest : List Key) × IsPermutation keys (sent ++ rest)
-  parted = rest_of is_same_key same_key itself sent keys few
-    where
-      few : (key : Key) → times key sent ≤ times key keys
-      few key = elim (cases_Bool (has_key key state.sent)) [
-        | inl has ↦ omega (arith, times_of-map key state.sent, kept.sent_once key, key-once code pattern window key (kept.of_traffic key has))
-        | inr lacks ↦ omega (arith, times_of-map key state.sent, times-none key state.sent lacks)
-      ]
+  parted = rest_of is_same_key same_key itself sent keys (few-times code pattern window state.sent kept.sent_once kept.of_traffic)
 
   -- the keys sent are given
   sent-given : All (λ key. not_given key ≡ false) sent
@@ -112,7 +107,8 @@ module _ (code : Code) (pattern : ℕ) (window : Window) (run : List Delivery) (
       let one : Key → ℕ = λ other. cond (is_same_key other key) 1 0 in
       let own : one key ≡ 1 = rw (itself key) refl in
       let here : one key ≤ times key parted.0 = get_or-le-sum_by one parted.0 k d within in
-      let both : times key keys ≡ times key sent + times key parted.0 = sym (sum_by-IsPermutation one keys (sent ++ parted.0) parted.1) ∙ sum_by-append one sent parted.0 in
+      let both : times key keys ≡ times key sent + times key parted.0 =
+      sym (sum_by-IsPermutation one keys (sent ++ parted.0) parted.1) ∙ sum_by-append one sent parted.0 in
       let lacks : has_key key state.sent ≡ false = false_from_ne_true (has_key key state.sent) (λ has.
       absurd (omega (arith, own, here, both, key-once code pattern window key is_key, times_of-map key state.sent, times-has key state.sent has))) in
       ap not (given-sent key is_key ∙ lacks)
@@ -120,7 +116,8 @@ module _ (code : Code) (pattern : ℕ) (window : Window) (run : List Delivery) (
   -- what isn't given and what was sent are all keys of the window
   pub unsent-sent : unsent code pattern window.first (length window.blocks) relays + length state.sent ≡ length keys
   unsent-sent =
-      let same : unsent code pattern window.first (length window.blocks) relays ≡ count_by not_given keys = rw (length-replicate {A = List ℕ} (length window.blocks) []) refl in
+      let same : unsent code pattern window.first (length window.blocks) relays ≡ count_by not_given keys =
+      rw (length-replicate {A = List ℕ} (length window.blocks) []) refl in
       let one : Key → ℕ = λ key. cond (not_given key) 1 0 in
       omega (
         arith,
