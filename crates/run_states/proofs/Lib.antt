@@ -1,7 +1,9 @@
+pub mod CountLaws
 pub mod FlyingLaws
 pub mod OpeningLaws
 pub mod PassingLaws
 pub mod ReceivingLaws
 pub mod SinkStepLaws
 pub mod StepLaws
+pub mod UnsentLaws
 pub mod WholeLaws
