@@ -24,7 +24,7 @@ use Rattle.relay_core.proofs.PacketLaws.{itself, payload_of-known}
 use Rattle.relay_core.proofs.StepLaws.{more-is}
 
 -- sums of payloads that agree on each operand
-sum_of-agree : (field : FieldKind) (operands : List Operand) (payload other : Operand → List ℕ) → All (λ operand. payload operand ≡ other operand) operands
+pub sum_of-agree : (field : FieldKind) (operands : List Operand) (payload other : Operand → List ℕ) → All (λ operand. payload operand ≡ other operand) operands
     → sum_of field operands payload ≡ sum_of field operands other
 sum_of-agree field operands payload other agree =
     let rows = map-agree (λ operand. elements_of field (payload operand)) (λ operand. elements_of field (other operand)) (λ operand. payload operand ≡ other operand)

@@ -63,6 +63,11 @@ held_after delivery held =
     if has_key (key_of delivery.pair) held then held
     else record delivery.pair { payload = delivery.payload } ∷ held
 
+-- and after some deliveries
+abbrev pub held_of : List Delivery → List Packet → List Packet
+held_of [] held = held
+held_of (delivery ∷ run) held = held_of run (held_after delivery held)
+
 -- A key that a node may send: its link is live and leaves the node but not the source, its operands are held, and it
 -- wasn't sent yet.
 pub record MaySend (code : Code) (pattern node : ℕ) (held sent : List Packet) (key : Key) : Type 0 where

@@ -1,9 +1,10 @@
 -- What holds in every run of the core from its opening state.
-use Rattle.std.specs.Prelude.{◌≡◌, ◌≤◌, ◌||◌, ℕ, true, not, IsPermutation, List, [], All, count_by, length}
+use Rattle.std.specs.Prelude.{◌≡◌, ◌≤◌, ◌||◌, ℕ, true, false, not, IsPermutation, List, [], All, count_by, length}
 use Rattle.generation_frame.specs.declared.frame.Packet.{Packet}
+use Rattle.net_model.specs.Walks.{leaves_source}
 use Rattle.node_program.specs.declared.code.Code.{Code}
 use Rattle.coded_traffic.specs.Traffic.{IsKey, Key, Window, key_of, keys_of, packet_of}
-use Rattle.relay_core.specs.Core.{Delivery, IsFaithful, RelayState, has_key, packets_of, times_of}
+use Rattle.relay_core.specs.Core.{Delivery, IsFaithful, RelayState, has_key, packets_of, summed, times_of}
 
 -- packets that are those of the traffic with their keys
 abbrev pub AreOfTraffic : Code → ℕ → Window → List Packet → Type 0
@@ -30,3 +31,9 @@ pub record Reaches (code : Code) (pattern : ℕ) (window : Window) (run : List D
   -- where each payload is given as it was sent, it is that of the traffic
   pub faithful : IsFaithful run → IsOfTraffic code pattern window state
   pub whole : IsFaithful run → state.flying ≡ [] → IsPermutation (packets_of code pattern window) state.sent
+
+-- What was sent says where it comes from: on a link that leaves the source it is of the traffic, and on another its payload is the sum over the
+-- live operands of the payloads held.
+pub record AreSums (code : Code) (pattern : ℕ) (window : Window) (held sent : List Packet) : Type 0 where
+  pub from_source : All (λ packet. leaves_source code.net packet.link ≡ true → packet ≡ packet_of code pattern window (key_of packet)) sent
+  pub others : All (λ packet. leaves_source code.net packet.link ≡ false → packet.payload ≡ summed code pattern held (key_of packet)) sent
