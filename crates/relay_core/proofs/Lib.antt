@@ -8,4 +8,4 @@ pub mod StepLaws
 pub mod FaithfulLaws
 pub mod RunLaws
 pub mod NodeLaws
-pub mod SumsLaws
+pub mod RelayedLaws

@@ -34,6 +34,6 @@ pub record Reaches (code : Code) (pattern : ℕ) (window : Window) (run : List D
 
 -- What was sent says where it comes from: on a link that leaves the source it is of the traffic, and on another its payload is the sum over the
 -- live operands of the payloads held.
-pub record AreSums (code : Code) (pattern : ℕ) (window : Window) (held sent : List Packet) : Type 0 where
+pub record AreRelayed (code : Code) (pattern : ℕ) (window : Window) (held sent : List Packet) : Type 0 where
   pub from_source : All (λ packet. leaves_source code.net packet.link ≡ true → packet ≡ packet_of code pattern window (key_of packet)) sent
   pub others : All (λ packet. leaves_source code.net packet.link ≡ false → packet.payload ≡ summed code pattern held (key_of packet)) sent

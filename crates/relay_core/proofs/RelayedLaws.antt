@@ -12,7 +12,7 @@ use Rattle.node_program.specs.declared.Operand.{Operand}
 use Rattle.node_program.specs.declared.code.Code.{Code}
 use Rattle.coded_traffic.specs.Traffic.{Key, Window, is_same_key, key_of, live_operands, packet_of}
 use Rattle.relay_core.specs.Core.{Delivery, IsRun, IsStep, RelayState, has_key, has_operands, held_after, held_of, key_on, opening, packets_of, payload_of, summed}
-use Rattle.relay_core.specs.Runs.{AreSums}
+use Rattle.relay_core.specs.Runs.{AreRelayed}
 use Rattle.relay_core.proofs.FaithfulLaws.{sum_of-agree}
 use Rattle.relay_core.proofs.ListLaws.{all_pass}
 use Rattle.relay_core.proofs.OpeningLaws.{opening-faithful}
@@ -114,9 +114,9 @@ module _ (code : Code) (pattern : ℕ) (window : Window) where
       }
 
   -- what was sent in a run says where it comes from
-  pub run-sums : (run : List Delivery) (state : RelayState) → IsRun code pattern run (opening code pattern window) state
-      → AreSums code pattern window state.held state.sent
-  run-sums run state is =
+  pub run-relayed : (run : List Delivery) (state : RelayState) → IsRun code pattern run (opening code pattern window) state
+      → AreRelayed code pattern window state.held state.sent
+  run-relayed run state is =
       let come = run-comes run (opening code pattern window) state is opening-comes in
       record {
         from_source = λ k d within. (come k d within).from_source;
