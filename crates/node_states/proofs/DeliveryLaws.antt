@@ -23,11 +23,11 @@ payload_of-other key delivery held apart = elim (cases_Bool (has_key (key_of del
 
 module _ (code : Code) (pattern node : ℕ) (window : Window) where
   -- a key of the window is of a generation that the node has begun, on a link into it
-  begun : (relay : Relay) (key : Key) → WorksOn code pattern node window relay → IsInto code pattern node window key → IsBegun relay key.generation
+  pub begun : (relay : Relay) (key : Key) → WorksOn code pattern node window relay → IsInto code pattern node window key → IsBegun relay key.generation
   begun relay key works into =
       record { from_first = omega (arith, works.first, into.begun); to_last = omega (arith, works.first, works.count, into.numbered) }
 
-  link_in : (relay : Relay) (key : Key) → WorksOn code pattern node window relay → IsInto code pattern node window key → Contains relay.plan.ins key.link
+  pub link_in : (relay : Relay) (key : Key) → WorksOn code pattern node window relay → IsInto code pattern node window key → Contains relay.plan.ins key.link
   link_in relay key works into = subst (λ (plan : Plan). Contains plan.ins key.link) (sym works.plan) into.into
 
   -- a packet on a link that doesn't lead into the node

@@ -22,6 +22,16 @@ use Rattle.node_stations.specs.Delivering.{NodeTakes}
 use Rattle.run_states.specs.Passing.{Comes, PassesOn, StopsPassing}
 use Rattle.node_stations.specs.Putting.{PutsDue, StopsPutting}
 
+-- its key is of a live link into the node
+pub comes-into : (code : Code) (pattern node : ℕ) (window : Window) (delivery : Delivery) (held sent : List Packet) (packet : Packet) (relay : Relay)
+    → Comes code pattern node window delivery held sent packet relay → IsInto code pattern node window (key_of delivery.pair)
+comes-into code pattern node window delivery held sent packet relay comes = record {
+  into = subst (λ n. Contains (ins_of code pattern n) delivery.pair.link) comes.to_node (ins-contains code pattern delivery.pair.link comes.of_traffic.live);
+  begun = comes.of_traffic.begun;
+  numbered = comes.of_traffic.numbered;
+  of_piece = comes.of_traffic.of_piece;
+}
+
 module _ (code : Code) (pattern node : ℕ) (window : Window) (delivery : Delivery) (held sent : List Packet) (packet : Packet) (old : Relay) (comes : Comes code pattern node window delivery held sent packet old)
     (mid : Relay) (takes : NodeTakes packet old mid) where
   abbrev now : List Packet
@@ -31,12 +41,7 @@ module _ (code : Code) (pattern node : ℕ) (window : Window) (delivery : Delive
   other same = source-no_ins code pattern delivery.pair.link comes.of_traffic.live (comes.to_node ∙ same)
 
   into : IsInto code pattern node window (key_of delivery.pair)
-  into = record {
-    into = subst (λ n. Contains (ins_of code pattern n) delivery.pair.link) comes.to_node (ins-contains code pattern delivery.pair.link comes.of_traffic.live);
-    begun = comes.of_traffic.begun;
-    numbered = comes.of_traffic.numbered;
-    of_piece = comes.of_traffic.of_piece;
-  }
+  into = comes-into code pattern node window delivery held sent packet old comes
 
   taken : NodeTakes (record delivery.pair { payload = delivery.payload }) old mid
   taken = subst (λ (p : Packet). NodeTakes p old mid) comes.is takes
