@@ -9,10 +9,10 @@ use Rattle.relay_node.specs.Relay.{HasNothing, Relay}
 use Rattle.sink_decoder.specs.Receiving.{Receiver, sink_plan_of}
 
 -- the nodes of some stations, and the sinks at them
-abbrev pub relays_of : List Station → List Relay
+abbrev pub relays_of : {F : Type 0} → List (Station F) → List Relay
 relays_of stations = map (λ station. station.node) stations
 
-abbrev pub sinks_of : List Station → List (Option Receiver)
+abbrev pub sinks_of : {F : Type 0} → List (Station F) → List (Option Receiver)
 sinks_of stations = map (λ station. station.sink) stations
 
 -- there is one for each node of a code, and each node and each sink has its plan
