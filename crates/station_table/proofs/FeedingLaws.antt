@@ -1,14 +1,13 @@
 -- Blocks that are fed one after another.
-use Rattle.std.specs.Prelude.{◌≡◌, ◌≢◌, ◌<◌, ◌≤◌, ◌+◌, ◌-◌, ◌*◌, ℕ, true, false, List, [], drop, length, map, take}
-use Rattle.std.specs.List.{range_with_len}
+use Rattle.std.specs.Prelude.{◌≡◌, ◌<◌, ◌≤◌, ◌+◌, ◌-◌, ◌*◌, ℕ, true, false, List, [], drop, take}
 use Rattle.std.proofs.Common.{refl, sym, ap, subst, ◌∙◌, arith, inl, inr}
 use Rattle.std.proofs.lemmas.Bool.{cases_lt}
 use Rattle.std.proofs.lemmas.List.FromFn.{get_or-map-range_with_len}
 use Rattle.coded_traffic.specs.CodeBlocks.{row_of}
-use Rattle.coded_traffic.specs.Traffic.{Key, Window, block_at}
+use Rattle.coded_traffic.specs.Traffic.{Key, block_at}
 use Rattle.generation_frame.specs.Blocks.{piece_of_row, pieces}
-use Rattle.node_states.proofs.GivingLaws.{begun_before, out_before}
 use Rattle.node_plans.specs.declared.plan.Plan.{Plan}
+use Rattle.node_states.proofs.GivingLaws.{begun_before, out_before}
 use Rattle.relay_node.specs.Relay.{HasNothing, IsBegun, IsFed, IsOut, IsSameWork, Relay, has_input, input_at, is_given}
 use Rattle.station_table.specs.Fed.{AreFed, window_of}
 
@@ -33,6 +32,7 @@ pub record AreFedTo (first size bound : ℕ) (blocks : List ℕ) (old new : Rela
       → has_input new generation row piece ≡ false
   pub given : (key : Key) → IsOut old key → is_given new key ≡ is_given old key
 
+-- none was yet
 pub fed_none : (first size : ℕ) (bytes : List ℕ) (relay : Relay) → relay.first ≡ first → HasNothing relay → AreFedTo first size 0 bytes relay relay
 fed_none first size bytes relay from nothing =
     record {
@@ -98,6 +98,7 @@ are_fed first count size bytes old new from many fed =
       bytes = λ generation row piece begun low short.
           let to : generation < first + count = omega (arith, from, many, begun.to_last) in
           fed.bytes generation row piece begun to low short
-          ∙ ap (λ block. piece_of_row (row_of block row) piece) (sym (block_at-window_of first count size bytes generation (omega (arith, from, begun.from_first)) to));
+          ∙ ap (λ block. piece_of_row (row_of block row) piece)
+          (sym (block_at-window_of first count size bytes generation (omega (arith, from, begun.from_first)) to));
       given = fed.given;
     }

@@ -1,12 +1,11 @@
 -- A source that was fed all blocks of a window takes in their rows, and nothing else came to it.
-use Rattle.std.specs.Prelude.{◌≡◌, ◌<◌, ◌≤◌, ◌+◌, ◌-◌, ◌*◌, ℕ, All, Contains, List, [], drop, length, map, take}
-use Rattle.std.specs.List.{range_with_len}
+use Rattle.std.specs.Prelude.{◌≡◌, ◌<◌, ◌-◌, ◌*◌, ℕ, All, Contains, List, [], drop, length}
 use Rattle.std.proofs.Common.{refl, sym, ap, subst, ◌∙◌, arith}
 use Rattle.std.proofs.lemmas.List.{length-drop, length-take}
 use Rattle.std.proofs.lemmas.List.Elements.{All-drop, All-from_get_or, All-get_or, All-take}
 use Rattle.std.proofs.lemmas.List.FromFn.{get_or-map-range_with_len, length-map-range_with_len}
 use Rattle.coded_traffic.specs.CodeBlocks.{IsBlockOf}
-use Rattle.coded_traffic.specs.Traffic.{Window, block_at}
+use Rattle.coded_traffic.specs.Traffic.{Window}
 use Rattle.generation_frame.specs.Blocks.{row_bytes}
 use Rattle.linear_algebra.specs.Elements.{AreBytes}
 use Rattle.list_laws.proofs.Places.{row_end}
@@ -17,7 +16,7 @@ use Rattle.node_plans.specs.declared.plan.Plan.{Plan}
 use Rattle.node_program.specs.declared.code.Code.{Code}
 use Rattle.node_states.proofs.GivingLaws.{begun_before, out_before}
 use Rattle.node_states.specs.Shown.{IsFedAll}
-use Rattle.relay_node.specs.Relay.{HasNothing, IsBegun, IsSameWork, Relay}
+use Rattle.relay_node.specs.Relay.{HasNothing, Relay}
 use Rattle.station_table.proofs.FeedingLaws.{block_of}
 use Rattle.station_table.specs.Fed.{AreFed, window_of}
 
@@ -33,7 +32,8 @@ fed_all code pattern window old new plan from many nothing are fed =
         blocks = λ generation begun.
             let old_begun = begun_before old new fed.work generation begun in
             All-get_or (IsBlockOf code) window.blocks (generation - window.first) [] (omega (arith, from, many, old_begun.from_first, old_begun.to_last)) are;
-        rows = λ is generation row piece begun low short came. fed.bytes generation row piece (begun_before old new fed.work generation begun) (low_old row low) short;
+        rows = λ is generation row piece begun low short came.
+            fed.bytes generation row piece (begun_before old new fed.work generation begun) (low_old row low) short;
         traffic = λ generation link piece begun into short came.
             let none : Contains [] link = subst (λ (links : List ℕ). Contains links link) no_ins into in
             absurd (omega (arith, place_in-within [] link none));
@@ -52,8 +52,8 @@ fed_all code pattern window old new plan from many nothing are fed =
     low_old row low = subst (λ (plan : Plan). row < plan.rate) (sym plan) low
 
 -- one of so many blocks of a code, which stand one after another
-one_block : (code : Code) (size count : ℕ) (bytes : List ℕ) → size ≡ code.rate * row_bytes → length bytes ≡ count * size → AreBytes bytes → (place : ℕ) → place < count
-    → IsBlockOf code (block_of size bytes place)
+one_block : (code : Code) (size count : ℕ) (bytes : List ℕ) → size ≡ code.rate * row_bytes → length bytes ≡ count * size → AreBytes bytes
+    → (place : ℕ) → place < count → IsBlockOf code (block_of size bytes place)
 one_block code size count bytes sized long are place below =
     record {
       size = simp (length-take, length-drop) (omega (arith, long, sized, row_end place count size below));

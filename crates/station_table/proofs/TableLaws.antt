@@ -59,9 +59,11 @@ module _ {F : Type 0} (code : Code) (pattern : ℕ) where
     pub made : length stations ≡ count
     pub each : Each IsStationOf stations
 
+  -- there is none yet
   pub first_none : AreFirst 0 []
   first_none = record { made = refl; each = λ k station found. absurd (none-some station found) }
 
+  -- one more
   pub first_more : (count : ℕ) (stations more : List (Station F)) (station : Station F) → AreFirst count stations → IsStationOf count station
       → more ≡ stations ++ station ∷ [] → AreFirst (count + 1) more
   first_more count stations more station first is pushed =
@@ -77,7 +79,8 @@ module _ {F : Type 0} (code : Code) (pattern : ℕ) where
   are_planned count stations first all =
       record {
         count = length-map stations (λ station. station.node) ∙ first.made ∙ all;
-        plans = each_made (λ station. station.node) (λ node relay. relay.plan ≡ plan_of code pattern node) stations (λ node station found. (first.each node station found).plan);
+        plans = each_made (λ station. station.node) (λ node relay. relay.plan ≡ plan_of code pattern node) stations
+            (λ node station found. (first.each node station found).plan);
         receivers = record {
           count = length-map stations (λ station. station.sink) ∙ first.made ∙ all;
           at = each_made (λ station. station.sink) (λ node sink. IsAt IsPlanned (place_of code node) sink) stations
@@ -118,6 +121,7 @@ module _ {F : Type 0} (first count : ℕ) where
         → (before : Station F) × (slice_get old k ≡ Some before) × IsBegunFrom before station
     pub others : (k : ℕ) → bound ≤ k → slice_get new k ≡ slice_get old k
 
+  -- none has yet
   pub begun_none : (stations : List (Station F)) → HaveBegunTo 0 stations stations
   begun_none stations = record { same_count = refl; begun = λ k station below. absurd (omega (arith, below)); others = λ k behind. refl }
 
@@ -131,7 +135,8 @@ module _ {F : Type 0} (first count : ℕ) where
           | inl earlier ↦ begun.begun k station earlier (sym (get_set_other mid bound k after (omega (arith, earlier))) ∙ found)
           | inr here ↦
               let is : bound ≡ k = omega (arith, here, below) in
-              let same : after ≡ station = same_Some after station (sym (get_set_same mid bound after within) ∙ ap (slice_get (slice_set mid bound after)) is ∙ found) in
+              let stands : Some after ≡ Some station = sym (get_set_same mid bound after within) ∙ ap (slice_get (slice_set mid bound after)) is ∙ found in
+              let same : after ≡ station = same_Some after station stands in
               let was : slice_get old bound ≡ Some (get_or mid bound none) = sym (begun.others bound (omega arith)) ∙ slice_get-get_or mid bound none within in
               (get_or mid bound none, ap (slice_get old) (sym is) ∙ was, subst (IsBegunFrom (get_or mid bound none)) same begins)
         ];
@@ -144,7 +149,8 @@ module _ {F : Type 0} (first count : ℕ) where
   have_begun bound old new begun all =
       record {
         same_count = length-map new (λ station. station.node) ∙ begun.same_count ∙ sym (length-map old (λ station. station.node));
-        nodes = each_made (λ station. station.node) (λ node relay. (before : Relay) × (slice_get (relays_of old) node ≡ Some before) × HasBegun first count before relay) new
+        nodes = each_made (λ station. station.node)
+            (λ node relay. (before : Relay) × (slice_get (relays_of old) node ≡ Some before) × HasBegun first count before relay) new
             (λ node station found.
             let from = begun.begun node station (below node station found) found in
             (from.0.node, slice_get-map (λ station. station.node) old node ∙ ap (option_map (λ station. station.node)) from.1, from.2.node));
