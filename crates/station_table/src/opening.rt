@@ -28,9 +28,7 @@ pub fn open_stations<F: Field>(
     let nodes = code.code().net.nodes.len();
     let mut stations = Vec::with_capacity(alloc, nodes)?;
     'nodes: for node in 0..nodes as u32 {
-        stations.push(Station::open_with(
-            alloc, code, pattern, node, &wiring, &tables,
-        )?)?;
+        stations.push(Station::open_with(alloc, code, pattern, node, &wiring, &tables)?)?;
     }
     Ok(stations)
 }

@@ -1,0 +1,3 @@
+pub mod FeedingLaws
+pub mod ReadyLaws
+pub mod TableLaws
