@@ -1,0 +1,2 @@
+pub mod StoppingLaws
+pub mod MeasureLaws
