@@ -87,4 +87,5 @@ module _ {L : Type 0} (g : LinksGhosts L) (code : Code) (pattern : ℕ) (window 
 -- where nothing flies on links, nothing does in the state
 pub flying-none : (state : RelayState) (flying : List Flight) → IsPermutation state.flying (packets_in flying) → flying ≡ [] → state.flying ≡ []
 flying-none state flying flies none =
-    nil_from_length state.flying (omega (arith, length_permutation state.flying (packets_in flying) flies, ap (λ (all : List Flight). length (packets_in all)) none))
+    let empty = ap (λ (all : List Flight). length (packets_in all)) none in
+    nil_from_length state.flying (omega (arith, length_permutation state.flying (packets_in flying) flies, empty))

@@ -138,9 +138,9 @@ module _ {L : Type 0} (g : LinksGhosts L) (code : Code) (pattern : ℕ) (window 
         → StopsStepping g code pattern window run state before after
     stops-put before after delivery is_key flew as_put mid stops taken more_moves =
         record {
-          moves = took (flight_of (packet_given delivery)) ∷ (puts_of stops.more ++ put_failed (flight_of stops.last) ∷ []);
+          moves = take ++ puts;
           more = stops.more;
-          calls = more_moves (took (flight_of (packet_given delivery)) ∷ []) (puts_of stops.more ++ put_failed (flight_of stops.last) ∷ []) before mid after taken stops.calls;
+          calls = more_moves take puts before mid after taken stops.calls;
           fault = stopped-fault stops.more stops.last;
           puts = stopped-pairs stops.more stops.last;
           put =
@@ -148,26 +148,36 @@ module _ {L : Type 0} (g : LinksGhosts L) (code : Code) (pattern : ℕ) (window 
               key-is (λ key has. (stops.may key has).unsent) (λ given. (faithful given.1).sent) are;
         }
       where
+        -- the take, and the puts after it
+        take : List Move
+        take = took (flight_of (packet_given delivery)) ∷ []
+
+        puts : List Move
+        puts = puts_of stops.more ++ put_failed (flight_of stops.last) ∷ []
+
         all : List Packet
         all = stops.more ++ stops.last ∷ []
 
         now : List Packet
         now = held_after delivery state.held
 
+        -- each of the packets is of the traffic by its key
         key-is : (key : Key) → has_key key all ≡ true → IsKey code pattern window key
         key-is key has =
             let may = stops.may key has in
             operands-are code pattern window now (now-keys delivery is_key) key may.live may.operands
 
+        -- and it is of the traffic where all payloads were given as they were put
         are : (g.faithful before ≡ true) × IsFaithful run → AreOfTraffic code pattern window all
         are given k d within =
             let packet = get_or all k d in
             let key = key_of packet in
             let has : has_key key all ≡ true = list_any_at (λ other. is_same_key (key_of other) key) all k d within (itself key) in
             let may = stops.may key has in
+            let held = now-are delivery flew (as_put given.0) given.1 in
             let payload : packet.payload ≡ (packet_of code pattern window key).payload =
             stops.payloads k d within
-            ∙ summed-is code pattern window running.is_window.blocks now key (now-are delivery flew (as_put given.0) given.1) (key-is key has) may.not_source may.operands in
+            ∙ summed-is code pattern window running.is_window.blocks now key held (key-is key has) may.not_source may.operands in
             ap (λ payload. record packet { payload = payload }) payload
 
   -- where the first puts fail, packets that the source gives were put before it
