@@ -1,1 +1,4 @@
+pub mod MeasureLaws
+pub mod StoppingLaws
+pub mod TurningLaws
 pub mod UnderwayLaws

@@ -1,5 +1,5 @@
 -- A step of a run at work: a pair is taken and given to the node at its link's head, and what the node gives then is put.
-use Rattle.std.specs.Prelude.{◌≡◌, ◌≤◌, ◌++◌, ◌∷◌, ℕ, true, IsPermutation, List, [], Option, map}
+use Rattle.std.specs.Prelude.{◌≡◌, ◌≤◌, ◌++◌, ◌∷◌, ℕ, true, List, [], Option, map}
 use Rattle.std.specs.List.{list_any}
 use Rattle.coded_traffic.specs.Traffic.{IsKey, Key, Window}
 use Rattle.generation_frame.specs.declared.frame.Packet.{Packet}

@@ -1,5 +1,5 @@
 //! The blocks of a window, fed to the source.
-ghost use Rattle.std.specs.Prelude.{◌≡◌, ◌*◌, length, true};
+ghost use Rattle.std.specs.Prelude.{◌≡◌, ◌≤◌, ◌+◌, ◌*◌, ◌^◌, length, true};
 ghost use Rattle.generation_frame.specs.Blocks.{row_bytes};
 ghost use Rattle.relay_node.specs.Relay.{HasNothing};
 ghost use Rattle.station_table.specs.Fed.{AreFed, window_of};
@@ -18,12 +18,13 @@ pub fn feed_blocks<F: Field>(
     requires source { source.old.plan.is_source ≡ true }
     requires first { source.old.first ≡ first }
     requires count { source.old.count ≡ count }
+    requires last { first + count ≤ 2 ^ 32 }
     requires nothing { HasNothing source.old }
     requires size { size ≡ source.old.plan.rate * row_bytes }
     requires blocks { length blocks.now ≡ count * size }
     ensures { AreFed (window_of first count size blocks.now) source.old source.new }
 {
-    'blocks: for place in 0..count {
+    'feeding: for place in 0..count {
         let start = place as usize * size;
         source.feed(first + place, &blocks[start..start + size]);
     }

@@ -4,21 +4,21 @@ use Rattle.relay_node.specs.Relay.{IsFed}
 use Rattle.station_table.proofs.FeedingLaws.{AreFedTo, are_fed, fed_more, fed_none}
 use Rattle.station_table.proofs.feeding.feed_blocks.Goals as goal
 
-pub blocks-2-init : goal.blocks-2-init
-blocks-2-init g c = fed_none c.args.first c.args.size c.args.blocks.now c.args.source.now c.requires.first c.requires.nothing
+pub feeding-init : goal.feeding-init
+feeding-init g c = fed_none c.args.first c.args.size c.args.blocks.now c.args.source.now c.requires.first c.requires.nothing
 
 -- one more block was fed
-pub blocks-2-preserved : goal.blocks-2-preserved
-blocks-2-preserved g c =
-    let start = c.blocks-2.place * c.args.size in
+pub feeding-preserved : goal.feeding-preserved
+feeding-preserved g c =
+    let start = c.feeding.place * c.args.size in
     let whole : start + c.args.size - start ≡ c.args.size = omega arith in
-    let Feeds = λ (n : ℕ). IsFed (c.args.first + c.blocks-2.place) (take n (drop start c.args.blocks.now)) c.blocks-2.source c.feed.new.self in
-    fed_more c.args.first c.args.size c.blocks-2.place c.args.blocks.now c.args.source.now c.blocks-2.source c.feed.new.self c.requires.first
-    c.blocks-2.invariant (subst Feeds whole c.feed.ensures)
+    let Feeds = λ (n : ℕ). IsFed (c.args.first + c.feeding.place) (take n (drop start c.args.blocks.now)) c.feeding.source c.feed.new.self in
+    fed_more c.args.first c.args.size c.feeding.place c.args.blocks.now c.args.source.now c.feeding.source c.feed.new.self c.requires.first
+    c.feeding.invariant (subst Feeds whole c.feed.ensures)
 
 pub returns : goal.returns
 returns g c =
-    let all : c.blocks-2.place ≡ c.args.count = omega arith in
-    let FedTo = λ (n : ℕ). AreFedTo c.args.first c.args.size n c.args.blocks.now c.args.source.now c.blocks-2.source in
-    are_fed c.args.first c.args.count c.args.size c.args.blocks.now c.args.source.now c.blocks-2.source c.requires.first c.requires.count
-    (subst FedTo all c.blocks-2.invariant)
+    let all : c.feeding.place ≡ c.args.count = omega arith in
+    let FedTo = λ (n : ℕ). AreFedTo c.args.first c.args.size n c.args.blocks.now c.args.source.now c.feeding.source in
+    are_fed c.args.first c.args.count c.args.size c.args.blocks.now c.args.source.now c.feeding.source c.requires.first c.requires.count
+    (subst FedTo all c.feeding.invariant)

@@ -1,0 +1,203 @@
+-- What is put when a call fails: packets of the traffic by their keys, none twice.
+use Rattle.std.specs.Prelude.{◌≡◌, ◌≤◌, ◌+◌, ◌++◌, ◌∷◌, ℕ, true, false, cond, All, Contains, IsPermutation, List, [], Option, Some, map, slice_get}
+use Rattle.std.specs.List.{list_any}
+use Rattle.std.proofs.Common.{arith, get_or, inl, inr, refl, sym, ap, subst, ◌∙◌}
+use Rattle.std.proofs.lemmas.Bool.{cases_Bool, or_cases, or_left, or_right}
+use Rattle.std.proofs.lemmas.List.Elements.{All-append, All-cons, All-contains, All-head, All-nil, All-tail}
+use Rattle.std.proofs.lemmas.List.Folds.{list_any_at}
+use Rattle.std.proofs.lemmas.List.Sorted.{IsPermutation-refl}
+use Rattle.std.proofs.lemmas.List.Sums.{sum_by-append}
+use Rattle.coded_traffic.specs.Traffic.{IsKey, Key, Window, is_same_key, key_of, packet_of}
+use Rattle.generation_frame.specs.declared.frame.Packet.{Packet}
+use Rattle.lif_outside.specs.Moves.{Move, is_fault, pairs_put, put_failed, take_failed, took}
+use Rattle.lif_outside.specs.declared.links.Flight.{Flight}
+use Rattle.lif_outside.specs.declared.links.Links.{Ghosts as LinksGhosts}
+use Rattle.net_model.specs.Walks.{head_of}
+use Rattle.node_program.specs.declared.code.Code.{Code}
+use Rattle.node_states.proofs.GivingLaws.{has_key-append}
+use Rattle.node_states.proofs.SourceLaws.{given, given-key}
+use Rattle.node_states.specs.Shown.{GivesEach, IsFedAll}
+use Rattle.node_stations.specs.Putting.{flight_of, puts_of}
+use Rattle.relay_core.proofs.FaithfulLaws.{summed-is}
+use Rattle.relay_core.proofs.Kept.{Kept}
+use Rattle.relay_core.proofs.PacketLaws.{has_key-held_after, itself, same_key, times-none}
+use Rattle.relay_core.proofs.RunLaws.{reached-kept, run-reaches}
+use Rattle.relay_core.proofs.StepLaws.{operands-are}
+use Rattle.relay_core.specs.Core.{Delivery, IsFaithful, RelayState, has_key, held_after, times_of}
+use Rattle.relay_core.specs.Runs.{AreOfTraffic, IsOfTraffic}
+use Rattle.relay_node.specs.Relay.{Relay}
+use Rattle.relay_runner.specs.Carrying.{StopsCarrying}
+use Rattle.relay_runner.specs.Running.{IsRunning, Starts}
+use Rattle.relay_runner.specs.Stepping.{ArePut, StopsStepping}
+use Rattle.run_states.specs.Delivered.{packet_given}
+use Rattle.run_states.specs.Passing.{StopsPassing}
+use Rattle.sink_decoder.specs.Receiving.{Receiver}
+
+-- what holds of all items of two lists holds of those of the first
+All-first : {X : Type 0} (P : X → Type 0) (xs ys : List X) → All P (xs ++ ys) → All P xs
+All-first P [] ys all = All-nil P
+All-first P (x ∷ xs) ys all = All-cons P x xs (All-head P x (xs ++ ys) all) (All-first P xs ys (All-tail P x (xs ++ ys) all))
+
+-- puts of which the last failed put the packets before it
+stopped-pairs : (packets : List Packet) (last : Packet) → pairs_put (puts_of packets ++ put_failed (flight_of last) ∷ []) ≡ map flight_of packets
+stopped-pairs [] last = refl
+stopped-pairs (packet ∷ packets) last = ap (λ (pairs : List Flight). flight_of packet ∷ pairs) (stopped-pairs packets last)
+
+-- and among them a call failed
+stopped-fault : (packets : List Packet) (last : Packet) → list_any is_fault (puts_of packets ++ put_failed (flight_of last) ∷ []) ≡ true
+stopped-fault [] last = refl
+stopped-fault (packet ∷ packets) last = stopped-fault packets last
+
+-- how often a key stands among two lists
+times-append : (key : Key) (packets others : List Packet) → times_of key (packets ++ others) ≡ times_of key packets + times_of key others
+times-append key = sum_by-append (λ packet. cond (is_same_key (key_of packet) key) 1 0)
+
+-- a key of packets is one of these and more
+has-first : (key : Key) (packets others : List Packet) → has_key key packets ≡ true → has_key key (packets ++ others) ≡ true
+has-first key packets others has = has_key-append key packets others ∙ or_left (has_key key packets) (has_key key others) has
+
+module _ {L : Type 0} (g : LinksGhosts L) (code : Code) (pattern : ℕ) (window : Window) where
+  abbrev Is : Packet → Type 0
+  Is packet = packet ≡ packet_of code pattern window (key_of packet)
+
+  -- Packets that stand before a last one, where they are all of the traffic by their keys, none twice, and none of what was sent.
+  -- They and what was sent are such packets too.
+  are-put : (GivenAsPut : Type 0) (sent more : List Packet) (last : Packet) → ((key : Key) → times_of key sent ≤ 1)
+      → ((key : Key) → has_key key sent ≡ true → IsKey code pattern window key) → ((key : Key) → times_of key (more ++ last ∷ []) ≤ 1)
+      → ((key : Key) → has_key key (more ++ last ∷ []) ≡ true → IsKey code pattern window key)
+      → ((key : Key) → has_key key (more ++ last ∷ []) ≡ true → has_key key sent ≡ false)
+      → (GivenAsPut → AreOfTraffic code pattern window sent) → (GivenAsPut → AreOfTraffic code pattern window (more ++ last ∷ []))
+      → ArePut code pattern window GivenAsPut (more ++ sent)
+  are-put GivenAsPut sent more last sent_once sent_are once are unsent sent_is is =
+      record {
+        once = λ key. elim (cases_Bool (has_key key more)) [
+          | inl has ↦
+              omega (
+                arith,
+                times-append key more sent,
+                times-append key more (last ∷ []),
+                once key,
+                times-none key sent (unsent key (has-first key more (last ∷ []) has)),
+              )
+          | inr lacks ↦ omega (arith, times-append key more sent, times-none key more lacks, sent_once key)
+        ];
+        keys = λ key has. elim (or_cases (has_key key more) (has_key key sent) (sym (has_key-append key more sent) ∙ has)) [
+          | inl later ↦ are key (has-first key more (last ∷ []) later)
+          | inr before ↦ sent_are key before
+        ];
+        payloads = λ as_put. All-append Is more sent (All-first Is more (last ∷ []) (is as_put)) (sent_is as_put);
+      }
+
+  module _ (run : List Delivery) (relays : List Relay) (sinks : List (Option Receiver)) (flying : List Flight) (state : RelayState)
+      (running : IsRunning code pattern window run relays sinks flying state) where
+    kept : Kept code pattern window state
+    kept = reached-kept code pattern window run state running.is_run
+
+    -- where all payloads were given as they were put, all packets are of the traffic
+    faithful : IsFaithful run → IsOfTraffic code pattern window state
+    faithful = (run-reaches code pattern window run state running.is_window.blocks running.is_run).faithful
+
+    -- what is held after a delivery of the traffic is of the traffic by its keys
+    now-keys : (delivery : Delivery) → IsKey code pattern window (key_of delivery.pair)
+        → (key : Key) → has_key key (held_after delivery state.held) ≡ true → IsKey code pattern window key
+    now-keys delivery is key has =
+        elim (or_cases (is_same_key (key_of delivery.pair) key) (has_key key state.held) (sym (has_key-held_after key delivery state.held) ∙ has)) [
+          | inl same ↦ subst (IsKey code pattern window) (same_key (key_of delivery.pair) key same) is
+          | inr there ↦ kept.of_traffic key (kept.sent_is key ∙ or_right (has_key key state.flying) (has_key key state.held) there)
+        ]
+
+    -- and it is of the traffic where the payloads are as they were put
+    now-are : (delivery : Delivery) → Contains state.flying delivery.pair → delivery.payload ≡ delivery.pair.payload → IsFaithful run
+        → AreOfTraffic code pattern window (held_after delivery state.held)
+    now-are delivery flew payload as_put =
+        let is = faithful as_put in
+        elim (cases_Bool (has_key (key_of delivery.pair) state.held)) [
+          | inl has ↦ rw has is.held
+          | inr none ↦ rw none (All-cons Is (record delivery.pair { payload = delivery.payload }) state.held
+              (ap (λ payload. record delivery.pair { payload = payload }) payload ∙ All-contains Is state.flying delivery.pair is.flying flew) is.held)
+        ]
+
+    -- where a take fails nothing more is put
+    pub stops-take : (before after : L) → g.moves (take_failed ∷ []) before after → StopsStepping g code pattern window run state before after
+    stops-take before after calls =
+        record {
+          moves = take_failed ∷ [];
+          more = [];
+          calls = calls;
+          fault = refl;
+          puts = refl;
+          put = record { once = kept.sent_once; keys = kept.of_traffic; payloads = λ given. (faithful given.1).sent };
+        }
+
+    -- where a put fails, packets of the step were put before it
+    pub stops-put : (before after : L) (delivery : Delivery) → IsKey code pattern window (key_of delivery.pair) → Contains state.flying delivery.pair
+        → (as_put : g.faithful before ≡ true → delivery.payload ≡ delivery.pair.payload) → (mid : L)
+        → StopsPassing g code pattern (head_of code.net.links delivery.pair.link) delivery state.held state.sent mid after
+        → g.moves (took (flight_of (packet_given delivery)) ∷ []) before mid
+        → (more_moves : (first later : List Move) (a b c : L) → g.moves first a b → g.moves later b c → g.moves (first ++ later) a c)
+        → StopsStepping g code pattern window run state before after
+    stops-put before after delivery is_key flew as_put mid stops taken more_moves =
+        record {
+          moves = take ++ puts;
+          more = stops.more;
+          calls = more_moves take puts before mid after taken stops.calls;
+          fault = stopped-fault stops.more stops.last;
+          puts = stopped-pairs stops.more stops.last;
+          put =
+              are-put ((g.faithful before ≡ true) × IsFaithful run) state.sent stops.more stops.last kept.sent_once kept.of_traffic stops.once
+              key-is (λ key has. (stops.may key has).unsent) (λ given. (faithful given.1).sent) are;
+        }
+      where
+        -- the take, and the puts after it
+        take : List Move
+        take = took (flight_of (packet_given delivery)) ∷ []
+
+        puts : List Move
+        puts = puts_of stops.more ++ put_failed (flight_of stops.last) ∷ []
+
+        all : List Packet
+        all = stops.more ++ stops.last ∷ []
+
+        now : List Packet
+        now = held_after delivery state.held
+
+        -- each of the packets is of the traffic by its key
+        key-is : (key : Key) → has_key key all ≡ true → IsKey code pattern window key
+        key-is key has =
+            let may = stops.may key has in
+            operands-are code pattern window now (now-keys delivery is_key) key may.live may.operands
+
+        -- and it is of the traffic where all payloads were given as they were put
+        are : (g.faithful before ≡ true) × IsFaithful run → AreOfTraffic code pattern window all
+        are given k d within =
+            let packet = get_or all k d in
+            let key = key_of packet in
+            let has : has_key key all ≡ true = list_any_at (λ other. is_same_key (key_of other) key) all k d within (itself key) in
+            let may = stops.may key has in
+            let held = now-are delivery flew (as_put given.0) given.1 in
+            let payload : packet.payload ≡ (packet_of code pattern window key).payload =
+            stops.payloads k d within
+            ∙ summed-is code pattern window running.is_window.blocks now key held (key-is key has) may.not_source may.operands in
+            ap (λ payload. record packet { payload = payload }) payload
+
+  -- where the first puts fail, packets that the source gives were put before it
+  pub stops-first : (relays : List Relay) (sinks : List (Option Receiver)) → Starts code pattern window relays sinks
+      → (source new : Relay) → slice_get relays code.net.source ≡ Some source → (packets : List Packet) (last : Packet)
+      → GivesEach source (packets ++ last ∷ []) new → (before after : L)
+      → g.moves (puts_of packets ++ put_failed (flight_of last) ∷ []) before after → StopsCarrying g code pattern window before after
+  stops-first relays sinks starts source new at packets last each before after calls =
+      let fed : IsFedAll code pattern window source = starts.ready.source source at in
+      let all = packets ++ last ∷ [] in
+      let are = given code pattern window source new all fed each in
+      record {
+        moves = puts_of packets ++ put_failed (flight_of last) ∷ [];
+        packets = packets;
+        calls = calls;
+        fault = stopped-fault packets last;
+        puts = subst (IsPermutation (map flight_of packets)) (sym (stopped-pairs packets last)) (IsPermutation-refl (map flight_of packets));
+        put = record {
+          once = λ key. omega (arith, times-append key packets (last ∷ []), are.once key);
+          keys = λ key has. (given-key code pattern window source new all fed each key (has-first key packets (last ∷ []) has)).0;
+          payloads = λ as_put. All-first Is packets (last ∷ []) are.are;
+        };
+      }
