@@ -10,3 +10,4 @@ pub mod DeedLaws
 mod Contents
 mod MemoryCalls
 pub mod PushLaws
+pub mod OpenLaws

@@ -34,6 +34,12 @@ is_fault (put_failed pair) = true
 is_fault take_failed = true
 is_fault move = false
 
+-- a call that opens
+abbrev pub is_open : Move → Bool
+is_open (opened seed most) = true
+is_open (open_refused seed most) = true
+is_open move = false
+
 -- the pairs put, and those that a take gave
 abbrev pub pairs_put : List Move → List Flight
 pairs_put [] = []

@@ -1,11 +1,12 @@
 -- Packets given and put, one after another.
-use Rattle.std.specs.Prelude.{◌≡◌, ◌≤◌, ◌<◌, ◌+◌, ◌-◌, ◌++◌, ℕ, Bool, List, [], ◌∷◌, Result, Ok, Err, OnErr, OnOk, length}
+use Rattle.std.specs.Prelude.{◌≡◌, ◌≤◌, ◌<◌, ◌+◌, ◌-◌, ◌++◌, ℕ, Bool, false, List, [], ◌∷◌, Result, Ok, Err, OnErr, OnOk, length}
+use Rattle.std.specs.List.{list_any}
 use Rattle.std.proofs.Common.{refl, ap, subst, ◌∙◌, arith}
 use Rattle.std.proofs.lemmas.List.{length-append}
 use Rattle.std.proofs.lemmas.List.Sorted.{length_permutation}
 use Rattle.generation_frame.specs.Frames.{frame_of}
 use Rattle.generation_frame.specs.declared.frame.Packet.{Packet}
-use Rattle.lif_outside.specs.Moves.{FollowMoves, InFlight, Move, put, put_failed}
+use Rattle.lif_outside.specs.Moves.{FollowMoves, InFlight, Move, is_open, put, put_failed}
 use Rattle.node_states.specs.Shown.{GivesEach}
 use Rattle.node_stations.specs.Putting.{flight_of, puts_of}
 use Rattle.relay_node.specs.Relay.{Gives, Relay}
@@ -20,6 +21,11 @@ gives_more (first ∷ packets) packet old mid new given gives = (given.0, given.
 pub puts_more : (packets : List Packet) (packet : Packet) → puts_of packets ++ put (flight_of packet) ∷ [] ≡ puts_of (packets ++ packet ∷ [])
 puts_more [] packet = refl
 puts_more (first ∷ packets) packet = ap (λ (moves : List Move). put (flight_of first) ∷ moves) (puts_more packets packet)
+
+-- puts open nothing
+pub puts-closed : (packets : List Packet) → list_any is_open (puts_of packets) ≡ false
+puts-closed [] = refl
+puts-closed (packet ∷ packets) = puts-closed packets
 
 -- a put of the frame made of a packet, and one that failed
 module _ (P : Move → Type 0) (packet : Packet) (frame : List ℕ) (made : frame ≡ frame_of packet) where

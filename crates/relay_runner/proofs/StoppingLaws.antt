@@ -9,6 +9,7 @@ use Rattle.std.proofs.lemmas.List.Sorted.{IsPermutation-refl}
 use Rattle.std.proofs.lemmas.List.Sums.{sum_by-append}
 use Rattle.coded_traffic.specs.Traffic.{IsKey, Key, Window, is_same_key, key_of, packet_of}
 use Rattle.generation_frame.specs.declared.frame.Packet.{Packet}
+use Rattle.lif_outside.proofs.OpenLaws.{still-closed}
 use Rattle.lif_outside.specs.Moves.{Move, is_fault, pairs_put, put_failed, take_failed, took}
 use Rattle.lif_outside.specs.declared.links.Flight.{Flight}
 use Rattle.lif_outside.specs.declared.links.Links.{Ghosts as LinksGhosts}
@@ -17,6 +18,7 @@ use Rattle.node_program.specs.declared.code.Code.{Code}
 use Rattle.node_states.proofs.GivingLaws.{has_key-append}
 use Rattle.node_states.proofs.SourceLaws.{given, given-key}
 use Rattle.node_states.specs.Shown.{GivesEach, IsFedAll}
+use Rattle.node_stations.proofs.PuttingLaws.{puts-closed}
 use Rattle.node_stations.specs.Putting.{flight_of, puts_of}
 use Rattle.relay_core.proofs.FaithfulLaws.{summed-is}
 use Rattle.relay_core.proofs.Kept.{Kept}
@@ -124,6 +126,7 @@ module _ {L : Type 0} (g : LinksGhosts L) (code : Code) (pattern : ℕ) (window 
           moves = take_failed ∷ [];
           more = [];
           calls = calls;
+          closed = refl;
           fault = refl;
           puts = refl;
           put = record { once = kept.sent_once; keys = kept.of_traffic; payloads = λ given. (faithful given.1).sent };
@@ -141,6 +144,7 @@ module _ {L : Type 0} (g : LinksGhosts L) (code : Code) (pattern : ℕ) (window 
           moves = take ++ puts;
           more = stops.more;
           calls = more_moves take puts before mid after taken stops.calls;
+          closed = still-closed (puts_of stops.more) (put_failed (flight_of stops.last) ∷ []) (puts-closed stops.more) refl;
           fault = stopped-fault stops.more stops.last;
           puts = stopped-pairs stops.more stops.last;
           put =
@@ -193,6 +197,7 @@ module _ {L : Type 0} (g : LinksGhosts L) (code : Code) (pattern : ℕ) (window 
         moves = puts_of packets ++ put_failed (flight_of last) ∷ [];
         packets = packets;
         calls = calls;
+        closed = still-closed (puts_of packets) (put_failed (flight_of last) ∷ []) (puts-closed packets) refl;
         fault = stopped-fault packets last;
         puts = subst (IsPermutation (map flight_of packets)) (sym (stopped-pairs packets last)) (IsPermutation-refl (map flight_of packets));
         put = record {

@@ -10,6 +10,7 @@ use Rattle.std.proofs.lemmas.List.Sorted.{IsPermutation-append_comm, IsPermutati
 use Rattle.std.proofs.lemmas.Simd.{map-map}
 use Rattle.coded_traffic.specs.Traffic.{Key, Window, keys_of, packet_of, traffic_of}
 use Rattle.generation_frame.specs.declared.frame.Packet.{Packet}
+use Rattle.lif_outside.proofs.OpenLaws.{still-closed}
 use Rattle.lif_outside.specs.LinksAccounts.{LinksAccounts, holding}
 use Rattle.lif_outside.specs.MoveLaws.{flights_given-append, pairs_put-append}
 use Rattle.lif_outside.specs.Moves.{InFlight, Move, flights_given, is_fault, pairs_put, took, took_none}
@@ -18,7 +19,9 @@ use Rattle.lif_outside.specs.declared.links.Links.{Ghosts as LinksGhosts}
 use Rattle.node_program.specs.declared.code.Code.{Code}
 use Rattle.node_states.proofs.SourceLaws.{source-gives}
 use Rattle.node_states.specs.Shown.{GivesEach, IsReplaced}
+use Rattle.node_stations.proofs.PuttingLaws.{puts-closed}
 use Rattle.node_stations.specs.Putting.{flight_of, puts_of}
+use Rattle.relay_core.proofs.RelayedLaws.{first-held, run-relayed}
 use Rattle.relay_core.proofs.RunLaws.{run-reaches}
 use Rattle.relay_core.specs.Core.{Delivery, opening, packets_of}
 use Rattle.relay_node.specs.Relay.{IsDue, Relay}
@@ -82,6 +85,8 @@ module _ {L : Type 0} (g : LinksGhosts L) (code : Code) (pattern : ℕ) (window 
         carried = under;
         quiet = quiet;
         reaches = reaches;
+        held = first-held code pattern under.run (opening code pattern window) under.state under.running.is_run;
+        relayed = run-relayed code pattern window under.run under.state under.running.is_run;
         traffic = λ faithful.
             subst (λ (flights : List Flight). IsPermutation flights (pairs_put under.moves)) pairs
             (IsPermutation-trans (map flight_of (packets_of code pattern window)) (map flight_of under.state.sent) (pairs_put under.moves)
@@ -111,6 +116,7 @@ module _ {L : Type 0} (g : LinksGhosts L) (code : Code) (pattern : ℕ) (window 
                 starts.is_window.last starts.ready at_source each none replaced quiet (accounts (puts_of more) before now calls).follows;
           };
           calls = calls;
+          closed = puts-closed more;
           puts = subst (IsPermutation (map flight_of first.sent)) (sym (pairs_put-puts_of more)) (IsPermutation-map flight_of first.sent more given);
           gives = flights_given-puts_of more;
           as_put = λ faithful. All-nil (λ (delivery : Delivery). delivery.payload ≡ delivery.pair.payload);
@@ -139,6 +145,7 @@ module _ {L : Type 0} (g : LinksGhosts L) (code : Code) (pattern : ℕ) (window 
             state = steps.next;
             running = steps.running;
             calls = more_moves under.moves later before mid now under.calls steps.calls;
+            closed = still-closed under.moves later under.closed (puts-closed steps.more);
             puts = subst (λ (packets : List Packet). IsPermutation (map flight_of packets) (pairs_put (under.moves ++ later))) (sym steps.sent)
                 (subst (IsPermutation (map flight_of (steps.more ++ under.state.sent))) (sym put) more);
             gives = flights_given-append under.moves later
@@ -163,6 +170,7 @@ module _ {L : Type 0} (g : LinksGhosts L) (code : Code) (pattern : ℕ) (window 
             state = under.state;
             running = subst (λ (flying : List Flight). IsRunning code pattern window under.run relays sinks flying under.state) same under.running;
             calls = more_moves under.moves (took_none ∷ []) before mid now under.calls calls;
+            closed = still-closed under.moves (took_none ∷ []) under.closed refl;
             puts = subst (IsPermutation (map flight_of under.state.sent)) (sym put) under.puts;
             gives = given ∙ under.gives;
             as_put = under.as_put;
@@ -179,6 +187,7 @@ module _ {L : Type 0} (g : LinksGhosts L) (code : Code) (pattern : ℕ) (window 
             moves = under.moves ++ stops.moves;
             packets = packets;
             calls = more_moves under.moves stops.moves before mid now under.calls stops.calls;
+            closed = still-closed under.moves stops.moves under.closed stops.closed;
             fault = list_any-append is_fault under.moves stops.moves ∙ or_right (list_any is_fault under.moves) (list_any is_fault stops.moves) stops.fault;
             puts = subst (IsPermutation (map flight_of packets)) (sym put) (put-more stops.more under.state.sent (pairs_put under.moves) under.puts);
             put = record {

@@ -1,9 +1,9 @@
 -- A step of a run at work: a pair is taken and given to the node at its link's head, and what the node gives then is put.
-use Rattle.std.specs.Prelude.{◌≡◌, ◌≤◌, ◌++◌, ◌∷◌, ℕ, true, List, [], Option, map}
+use Rattle.std.specs.Prelude.{◌≡◌, ◌≤◌, ◌++◌, ◌∷◌, ℕ, false, true, List, [], Option, map}
 use Rattle.std.specs.List.{list_any}
 use Rattle.coded_traffic.specs.Traffic.{IsKey, Key, Window}
 use Rattle.generation_frame.specs.declared.frame.Packet.{Packet}
-use Rattle.lif_outside.specs.Moves.{Move, is_fault, pairs_put, took}
+use Rattle.lif_outside.specs.Moves.{Move, is_fault, is_open, pairs_put, took}
 use Rattle.lif_outside.specs.declared.links.Links.{Ghosts as LinksGhosts}
 use Rattle.node_program.specs.declared.code.Code.{Code}
 use Rattle.node_stations.specs.Putting.{flight_of, puts_of}
@@ -38,6 +38,7 @@ pub record StopsStepping {L : Type 0} (g : LinksGhosts L) (code : Code) (pattern
   pub moves : List Move
   pub more : List Packet
   pub calls : g.moves moves before after
+  pub closed : list_any is_open moves ≡ false
   pub fault : list_any is_fault moves ≡ true
   pub puts : pairs_put moves ≡ map flight_of more
   pub put : ArePut code pattern window ((g.faithful before ≡ true) × IsFaithful run) (more ++ state.sent)
