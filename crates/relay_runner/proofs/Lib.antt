@@ -1,4 +1,5 @@
 pub mod MeasureLaws
+pub mod RunningLaws
 pub mod StoppingLaws
 pub mod TurningLaws
 pub mod UnderwayLaws
