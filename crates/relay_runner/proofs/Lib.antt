@@ -1,5 +1,6 @@
 pub mod MeasureLaws
 pub mod RunningLaws
+pub mod SteppingLaws
 pub mod StoppingLaws
 pub mod TurningLaws
 pub mod UnderwayLaws

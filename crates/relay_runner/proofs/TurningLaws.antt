@@ -5,6 +5,7 @@ use Rattle.std.proofs.lemmas.List.{length-map}
 use Rattle.std.proofs.lemmas.List.Sorted.{Contains-permutation, IsPermutation-sym, length_permutation}
 use Rattle.coded_traffic.specs.Traffic.{IsKey, Window, key_of}
 use Rattle.generation_frame.specs.Blocks.{pieces}
+use Rattle.generation_frame.specs.Frames.{packet_in}
 use Rattle.generation_frame.specs.declared.frame.Packet.{Packet}
 use Rattle.lif_outside.specs.LinksAccounts.{LinksAccounts, holding}
 use Rattle.lif_outside.specs.Moves.{FollowMoves, InFlight, IsTaken, Move, took}
@@ -13,10 +14,10 @@ use Rattle.lif_outside.specs.declared.links.Links.{Ghosts as LinksGhosts}
 use Rattle.net_model.specs.Walks.{head_of}
 use Rattle.node_program.specs.declared.code.Code.{Code}
 use Rattle.node_states.proofs.DeliveryLaws as deliveries
-use Rattle.node_states.specs.Shown.{IsReplaced}
+use Rattle.node_states.specs.Shown.{IsReplaced, ShowsSink}
 use Rattle.node_stations.specs.Delivering.{AtSink, NodeTakes, SinkTakes}
 use Rattle.node_stations.specs.Given.{IsGivenOf, IsOfPut}
-use Rattle.node_stations.specs.Opening.{IsAt, place_of}
+use Rattle.node_stations.specs.Opening.{IsAt, demand_of, place_of}
 use Rattle.node_stations.specs.Passing.{FailsPassing, HasRoomAfter, Passes}
 use Rattle.node_stations.specs.Putting.{flight_of, puts_of}
 use Rattle.relay_core.proofs.Kept.{Kept}
@@ -116,9 +117,8 @@ module _ {L : Type 0} (g : LinksGhosts L)
       few-fly : length (g.flying mid) ≤ length state.flying
       few-fly = omega (
         arith,
-        by delivery.stays (length_permutation (packets_in (g.flying before)) _ delivered.flies),
-        length-map (g.flying before) _,
-        length-map (g.flying mid) _,
+        length-map (g.flying mid) (λ flight. packet_in flight.frame),
+        by delivery.stays (length_permutation (packets_in (g.flying before)) (if delivery.stays then packets_in (g.flying mid) else delivery.pair ∷ packets_in (g.flying mid)) delivered.flies),
         length_permutation state.flying (packets_in (g.flying before)) running.shown.flies,
       )
         where
@@ -184,7 +184,7 @@ module _ {L : Type 0} (g : LinksGhosts L)
     pub sink_begun : (sink : Option Receiver) → slice_get sinks node ≡ Some sink → IfSome sink (λ s. receiving.IsBegun s delivery.pair.generation)
     sink_begun sink at = by (place_of code node) sink (running.shown.receivers.at node sink at)
       where
-        by : (place : Option ℕ) (sink : Option Receiver) → IsAt _ place sink → IfSome sink (λ s. receiving.IsBegun s delivery.pair.generation)
+        by : (place : Option ℕ) (sink : Option Receiver) → IsAt (λ place sink. ShowsSink code (demand_of code pattern place) window sink state.held) place sink → IfSome sink (λ s. receiving.IsBegun s delivery.pair.generation)
         by None sink none = subst (λ (s : Option Receiver). IfSome s (λ s. receiving.IsBegun s delivery.pair.generation)) (sym none) tt
         by (Some place) sink is =
             subst (λ (s : Option Receiver). IfSome s (λ s. receiving.IsBegun s delivery.pair.generation)) (sym is.1)

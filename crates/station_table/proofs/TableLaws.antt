@@ -9,6 +9,7 @@ use Rattle.std.proofs.lemmas.List.{length-append, length-map, length-set}
 use Rattle.std.proofs.lemmas.Option.{get_or_from_slice_get, none-some, same_Some, slice_get-get_or, slice_get-map, slice_get_read, slice_get_within}
 use Rattle.node_plans.specs.Plans.{plan_of}
 use Rattle.node_program.specs.declared.code.Code.{Code}
+use Rattle.node_states.specs.Shown.{IsReplaced}
 use Rattle.node_stations.specs.Delivering.{AtSink}
 use Rattle.node_stations.specs.Opening.{IsAt, IsBegunAt, IsOpened, IsSinkOf, demand_of, place_of}
 use Rattle.node_stations.specs.declared.station.Station.{Station}
@@ -107,6 +108,19 @@ get_set_other (first ∷ xs) zero zero x apart = absurd (apart refl)
 get_set_other (first ∷ xs) zero (suc k) x apart = refl
 get_set_other (first ∷ xs) (suc i) zero x apart = refl
 get_set_other (first ∷ xs) (suc i) (suc k) x apart = get_set_other xs i k x (λ same. apart (ap suc same))
+
+-- what is made of the item at a place
+pub made_at : {X Y : Type 0} (f : X → Y) (xs : List X) (i : ℕ) (d : X) → i < length xs → slice_get (map f xs) i ≡ Some (f (get_or xs i d))
+made_at f xs i d within = slice_get-map f xs i ∙ ap (option_map f) (slice_get-get_or xs i d within)
+
+-- and where another item is put there, what is made of the list is replaced there
+pub replaced_at : {X Y : Type 0} (f : X → Y) (xs : List X) (i : ℕ) (x : X) → i < length xs → IsReplaced i (f x) (map f xs) (map f (slice_set xs i x))
+replaced_at f xs i x within = record {
+  count = length-map (slice_set xs i x) f ∙ length-set xs i x ∙ sym (length-map xs f);
+  at = slice_get-map f (slice_set xs i x) i ∙ ap (option_map f) (get_set_same xs i x within);
+  others = λ other apart.
+      slice_get-map f (slice_set xs i x) other ∙ ap (option_map f) (get_set_other xs i other x apart) ∙ sym (slice_get-map f xs other);
+}
 
 module _ {F : Type 0} (first count : ℕ) where
   -- a station that has begun these generations
