@@ -1,4 +1,5 @@
 pub mod MeasureLaws
+pub mod PlannedLaws
 pub mod RunningLaws
 pub mod SteppingLaws
 pub mod StoppingLaws
