@@ -90,6 +90,13 @@ sink-at {F} stations node station within is =
     slice_get-map (λ (station : Station F). station.sink) stations node
     ∙ ap (option_map (λ (station : Station F). station.sink)) (slice_get_read stations (length stations) node station refl within is)
 
+-- a sink stands at the node of a place, of a runner that has carried a window, and one of the blocks carried is meant
+pub record IsAsked (runner : Running) (place node number : ℕ) (sink : Receiver) : Type 0 where
+  pub carried : HasCarried runner
+  pub at : slice_get runner.code.net.sinks place ≡ Some node
+  pub found : slice_get runner.sinks node ≡ Some (Some sink)
+  pub low : number < runner.count
+
 module _ {F : Type 0} (runner : Running) (carried : HasCarried runner) (place node : ℕ) (at : slice_get runner.code.net.sinks place ≡ Some node)
     (stations : List (Station F)) (same : runner.sinks ≡ sinks_of stations) where
   -- there is a station for the node
@@ -112,56 +119,54 @@ module _ {F : Type 0} (runner : Running) (carried : HasCarried runner) (place no
         let stand = stands runner.code place node at runner.pattern carried.window carried.run runner.relays runner.sinks carried.state carried.running station.sink found-at in
         none-some stand.0 (sym none ∙ stand.1)
 
-    module _ (sink : Receiver) (some : station.sink ≡ Some sink) where
-      found-sink : slice_get runner.sinks node ≡ Some (Some sink)
-      found-sink = found-at ∙ ap Some some
+    -- of which a block is asked
+    pub is-asked : (sink : Receiver) → station.sink ≡ Some sink → (number : ℕ) → number < runner.count → IsAsked runner place node number sink
+    is-asked sink some number low = record { carried = carried; at = at; found = found-at ∙ ap Some some; low = low }
 
-      -- what it shows of a window that was carried
-      abbrev shown : (window : Window) (run : List Delivery) (state : RelayState)
-          → IsRunning runner.code runner.pattern window run runner.relays runner.sinks [] state
-          → ShowsSink runner.code (demand_of runner.code runner.pattern place) window sink state.held
-      shown window run state running = shows runner.code place node at runner.pattern window run runner.relays runner.sinks state running sink found-sink
+module _ (runner : Running) (place node number : ℕ) (sink : Receiver) (asked : IsAsked runner place node number sink) where
+  -- what it shows of a window that was carried
+  shown : (window : Window) (run : List Delivery) (state : RelayState)
+      → IsRunning runner.code runner.pattern window run runner.relays runner.sinks [] state
+      → ShowsSink runner.code (demand_of runner.code runner.pattern place) window sink state.held
+  shown window run state running =
+      shows runner.code place node asked.at runner.pattern window run runner.relays runner.sinks state running sink asked.found
 
-      own : ShowsSink runner.code (demand_of runner.code runner.pattern place) carried.window sink carried.state.held
-      own = shown carried.window carried.run carried.state carried.running
+  own : ShowsSink runner.code (demand_of runner.code runner.pattern place) asked.carried.window sink asked.carried.state.held
+  own = shown asked.carried.window asked.carried.run asked.carried.state asked.carried.running
 
-      -- its rate is the code's
-      pub same-rate : sink.plan.rate ≡ runner.code.rate
-      same-rate = ap (λ (plan : SinkPlan). plan.rate) own.plan
+  -- its rate is the code's
+  pub same-rate : sink.plan.rate ≡ runner.code.rate
+  same-rate = ap (λ (plan : SinkPlan). plan.rate) own.plan
 
-      -- it is the one that is found there
-      pub same-sink : (other : ℕ) (receiver : Receiver) → slice_get runner.code.net.sinks place ≡ Some other
-          → slice_get runner.sinks other ≡ Some (Some receiver) → sink ≡ receiver
-      same-sink other receiver there found =
-          let same_node : node ≡ other = same_Some node other (sym at ∙ there) in
-          let both : Some (Some sink) ≡ Some (Some receiver) =
-          sym found-sink ∙ ap (slice_get runner.sinks) same_node ∙ found in
-          same_Some sink receiver (same_Some (Some sink) (Some receiver) both)
+  -- it is the only one at the place
+  pub same-sink : (other : ℕ) (receiver : Receiver) → slice_get runner.code.net.sinks place ≡ Some other
+      → slice_get runner.sinks other ≡ Some (Some receiver) → sink ≡ receiver
+  same-sink other receiver there found =
+      let same_node : node ≡ other = same_Some node other (sym asked.at ∙ there) in
+      same_Some sink receiver (same_Some (Some sink) (Some receiver) (sym asked.found ∙ ap (slice_get runner.sinks) same_node ∙ found))
 
-      module _ (number : ℕ) (low : number < runner.count) where
-        -- the generation was begun
-        pub begun-there : IsBegun sink (runner.first + number)
-        begun-there = record {
-          from_first = omega (arith, carried.same_first, own.first);
-          to_last = omega (arith, carried.same_first, carried.same_count, own.first, own.count, low);
-        }
+  -- the generation was begun
+  pub begun-there : IsBegun sink (runner.first + number)
+  begun-there = record {
+    from_first = omega (arith, asked.carried.same_first, own.first);
+    to_last = omega (arith, asked.carried.same_first, asked.carried.same_count, own.first, own.count, asked.low);
+  }
 
-        -- and is whole
-        pub whole-block : is_whole sink (runner.first + number) ≡ true
-        whole-block =
-            whole-there runner.code place node at runner.pattern carried.window carried.run runner.relays runner.sinks carried.state carried.running sink found-sink
-            (runner.first + number) begun-there
+  -- and is whole
+  pub whole-block : is_whole sink (runner.first + number) ≡ true
+  whole-block =
+      whole-there runner.code place node asked.at runner.pattern asked.carried.window asked.carried.run runner.relays runner.sinks asked.carried.state
+      asked.carried.running sink asked.found (runner.first + number) begun-there
 
-        -- by faithful links what is decoded of the traffic is the block of that place
-        pub block-there : (into : List ℕ) (window : Window) (run : List Delivery) (state : RelayState)
-            → IsRunning runner.code runner.pattern window run runner.relays runner.sinks [] state → IsFaithful run
-            → (demand_of runner.code runner.pattern place < demand_count runner.code.net
-                → TakesTraffic runner.code (demand_of runner.code runner.pattern place) window sink → into ≡ block_at window (runner.first + number))
-            → into ≡ slice_index_or window.blocks number []
-        block-there into window run state running faithful decodes =
-            let place_from : (runner.first + number) - window.first ≡ number =
-            omega (arith, carried.same_first, own.first, (shown window run state running).first) in
-            decodes
-            (number_within runner.code.net (record { sink = place; pattern = runner.pattern }) (place-within runner.code place node at) running.pattern_is)
-            (traffic-there runner.code place node at runner.pattern window run runner.relays runner.sinks state running sink found-sink faithful)
-            ∙ ap (λ n. slice_index_or window.blocks n []) place_from
+  -- by faithful links, what is decoded of the traffic is the block of that place
+  pub block-there : (into : List ℕ) (window : Window) (run : List Delivery) (state : RelayState)
+      → IsRunning runner.code runner.pattern window run runner.relays runner.sinks [] state → IsFaithful run
+      → ((demand : ℕ) → demand < demand_count runner.code.net → TakesTraffic runner.code demand window sink → into ≡ block_at window (runner.first + number))
+      → into ≡ slice_index_or window.blocks number []
+  block-there into window run state running faithful decodes =
+      let from_first : (runner.first + number) - window.first ≡ number =
+      omega (arith, asked.carried.same_first, own.first, (shown window run state running).first) in
+      decodes (demand_of runner.code runner.pattern place)
+      (number_within runner.code.net (record { sink = place; pattern = runner.pattern }) (place-within runner.code place node asked.at) running.pattern_is)
+      (traffic-there runner.code place node asked.at runner.pattern window run runner.relays runner.sinks state running sink asked.found faithful)
+      ∙ ap (λ n. slice_index_or window.blocks n []) from_first
