@@ -5,3 +5,5 @@ pub mod SteppingLaws
 pub mod StoppingLaws
 pub mod TurningLaws
 pub mod UnderwayLaws
+pub mod PlannedLaws
+pub mod BlockLaws
