@@ -1,3 +1,4 @@
+pub mod BlockLaws
 pub mod MeasureLaws
 pub mod PlannedLaws
 pub mod RunningLaws
@@ -5,5 +6,3 @@ pub mod SteppingLaws
 pub mod StoppingLaws
 pub mod TurningLaws
 pub mod UnderwayLaws
-pub mod PlannedLaws
-pub mod BlockLaws
