@@ -54,10 +54,12 @@ pub record Starts (code : Code) (pattern : ℕ) (window : Window) (relays : List
   pub is_window : IsWindow code window
   pub ready : AreReady code pattern window relays sinks
 
--- they have begun some window
-pub record CanStart (code : Code) (pattern : ℕ) (relays : List Relay) (sinks : List (Option Receiver)) : Type 0 where
+-- a runner whose nodes and sinks have begun the window of its first number and its count
+pub record CanStart (runner : Running) : Type 0 where
   pub window : Window
-  pub starts : Starts code pattern window relays sinks
+  pub same_first : runner.first ≡ window.first
+  pub same_count : runner.count ≡ length window.blocks
+  pub starts : Starts runner.code runner.pattern window runner.relays runner.sinks
 
 -- nodes, sinks and links that stand at a state of the core, which a run of the window has reached
 pub record IsRunning (code : Code) (pattern : ℕ) (window : Window) (run : List Delivery) (relays : List Relay) (sinks : List (Option Receiver)) (flying : List Flight) (state : RelayState) : Type 0 where

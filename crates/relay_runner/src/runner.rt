@@ -142,7 +142,7 @@ impl<'c, F: Field> Runner<'c, F> {
     // flies.
     fn run<K: Links>(&mut self, links: &mut K) -> Result<(), LinkFault>
         requires works { self.old.has_failed ≡ false }
-        requires start { CanStart self.old.code self.old.pattern self.old.relays self.old.sinks }
+        requires start { CanStart self.old }
         requires nothing_flies { K.flying links.old ≡ [] }
         requires room { 32 * length self.old.code.net.links ≤ K.room links.old }
         ensures work { IsSameWork self.old self.new }

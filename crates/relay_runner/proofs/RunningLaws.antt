@@ -1,0 +1,230 @@
+-- A run of a window at work: how it begins, goes on and ends.
+use Rattle.std.specs.Prelude.{◌≡◌, ◌<◌, ◌≤◌, ◌*◌, ◌∷◌, ◌++◌, ℕ, Bool, false, List, [], Option, Some, get_or, length, slice_get, slice_set}
+use Rattle.std.proofs.Common.{arith, ap, refl, subst, sym, ◌∙◌}
+use Rattle.std.proofs.Math.Seq.{map-set_same}
+use Rattle.std.proofs.lemmas.List.{length-map}
+use Rattle.coded_traffic.specs.Traffic.{Window}
+use Rattle.lif_outside.specs.LinksAccounts.{holding}
+use Rattle.lif_outside.specs.Moves.{InFlight, Move, took_none}
+use Rattle.lif_outside.specs.declared.links.Links.{Ghosts as LinksGhosts}
+use Rattle.node_program.specs.declared.code.Code.{Code}
+use Rattle.node_states.specs.Shown.{IsFedAll, IsReplaced}
+use Rattle.node_stations.proofs.PuttingLaws.{puts-fly}
+use Rattle.node_stations.specs.Putting.{HasRoom, PutsDue, StopsPutting, puts_of}
+use Rattle.node_stations.specs.declared.station.Station.{Station}
+use Rattle.relay_core.specs.Core.{Delivery, RelayState}
+use Rattle.relay_node.specs.Relay.{Relay}
+use Rattle.relay_runner.proofs.MeasureLaws.{Account, left, steps-less, steps-room}
+use Rattle.relay_runner.proofs.PlannedLaws.{planned}
+use Rattle.relay_runner.proofs.StoppingLaws.{stops-first}
+use Rattle.relay_runner.proofs.UnderwayLaws.{carries, stops-carrying, underway-first, underway-more, underway-none}
+use Rattle.relay_runner.specs.Carrying.{Carries, IsUnderway, StopsCarrying}
+use Rattle.relay_runner.specs.Runner.{IsSameWork}
+use Rattle.relay_runner.specs.Running.{CanStart, IsRunning, Running, StandAt, Starts}
+use Rattle.relay_runner.specs.Stepping.{Steps, StopsStepping}
+use Rattle.run_states.proofs.CountLaws.{room-first}
+use Rattle.sink_decoder.specs.Receiving.{Receiver}
+use Rattle.station_table.proofs.TableLaws.{made_at, replaced_at}
+use Rattle.station_table.specs.Table.{ArePlanned, relays_of, sinks_of}
+
+-- A runner that is carrying a window over links that have room for it: whatever window it has begun, the calls are a run of it.
+pub record IsOnWay {L : Type 0} (g : LinksGhosts L) (start now : Running) (before after : L) : Type 0 where
+  pub room : 32 * length now.code.net.links ≤ g.room after
+  pub works : now.has_failed ≡ false
+  pub work : IsSameWork start now
+  pub can : CanStart start
+  pub under : (window : Window) → Starts start.code start.pattern window start.relays start.sinks
+      → IsUnderway g start.code start.pattern window before after now.relays now.sinks
+
+-- links of which the calls can be joined
+abbrev pub Joins : {L : Type 0} → LinksGhosts L → Type 0
+Joins {L} g = (first later : List Move) (a b c : L) → g.moves first a b → g.moves later b c → g.moves (first ++ later) a c
+
+-- The source's station, which puts what its node gives where nothing flies.
+module _ {L : Type 0} (g : LinksGhosts L) {F : Type 0} (code : Code) (pattern : ℕ) (stations : List (Station F)) (place : ℕ) (station : Station F)
+    (place_is : place ≡ code.net.source) (is : station ≡ get_or stations place station) (before : L) (quiet : g.flying before ≡ []) where
+  -- the stations where the source's node is another
+  abbrev with_node : Relay → List (Station F)
+  with_node new = slice_set stations place (record { node = new; sink = station.sink })
+
+  -- the sinks are the same then
+  same-sinks : (new : Relay) → sinks_of (with_node new) ≡ sinks_of stations
+  same-sinks new = map-set_same (λ s. s.sink) stations place (record { node = new; sink = station.sink }) station (ap (λ (s : Station F). s.sink) is)
+
+  module _ (window : Window) (starts : Starts code pattern window (relays_of stations) (sinks_of stations)) where
+    below : place < length stations
+    below = omega (arith, place_is, starts.ready.count, code.net.network.source_node, length-map stations (λ s. s.node))
+
+    at_source : slice_get (relays_of stations) code.net.source ≡ Some station.node
+    at_source =
+        ap (slice_get (relays_of stations)) (sym place_is) ∙ made_at (λ s. s.node) stations place station below
+        ∙ ap (λ (s : Station F). Some s.node) (sym is)
+
+    replaced : (new : Relay) → IsReplaced code.net.source new (relays_of stations) (relays_of (with_node new))
+    replaced new =
+        subst (λ (n : ℕ). IsReplaced n new (relays_of stations) (relays_of (with_node new))) place_is
+        (replaced_at (λ s. s.node) stations place (record { node = new; sink = station.sink }) below)
+
+    -- there is room for what it gives
+    pub first-room : 32 * length code.net.links ≤ g.room before → HasRoom g before station.node
+    first-room room packets new gives =
+        let fed : IsFedAll code pattern window station.node = starts.ready.source station.node at_source in
+        omega (arith, room, ap length quiet, room-first code pattern window station.node new packets starts.is_window.few fed gives)
+
+    -- where a put fails
+    pub first-stops : (new : Relay) (after : L) → StopsPutting g before after station.node new → StopsCarrying g code pattern window before after
+    first-stops new after stops =
+        stops-first g code pattern window (relays_of stations) (sinks_of stations) starts station.node new at_source stops.packets stops.last stops.given before after
+        stops.calls
+
+    -- what it puts is the run of no steps
+    pub first-under : Account g → (new : Relay) (after : L) → PutsDue g before after station.node new
+        → IsUnderway g code pattern window before after (relays_of (with_node new)) (sinks_of (with_node new))
+    first-under accounts new after due =
+        subst (λ (sinks : List (Option Receiver)). IsUnderway g code pattern window before after (relays_of (with_node new)) sinks) (sym (same-sinks new))
+        (underway-first g code pattern window accounts (relays_of stations) (sinks_of stations) starts station.node new at_source due.puts.packets due.puts.given
+        due.none (relays_of (with_node new)) (replaced new) before after quiet due.puts.calls)
+
+    -- and the stations keep their plans
+    pub first-planned : Account g → (new : Relay) (after : L) → PutsDue g before after station.node new
+        → ArePlanned code pattern (relays_of (with_node new)) (sinks_of (with_node new))
+    first-planned accounts new after due =
+        let under = first-under accounts new after due in
+        planned code pattern window under.run (relays_of (with_node new)) (sinks_of (with_node new)) (g.flying after) under.state under.running
+
+  -- a runner with these stations, and what it is then
+  abbrev at_work : ℕ → ℕ → ℕ → Bool → List (Station F) → Running
+  at_work first count next failed made =
+      record {
+        code = code;
+        pattern = pattern;
+        relays = relays_of made;
+        sinks = sinks_of made;
+        first = first;
+        count = count;
+        next = next;
+        has_failed = failed;
+      }
+
+  -- it is on its way
+  pub first-way : Account g → (first count next : ℕ) (failed : Bool) (start : Running) → at_work first count next failed stations ≡ start
+      → start.has_failed ≡ false → CanStart start → 32 * length start.code.net.links ≤ g.room before
+      → (new : Relay) (after : L) → PutsDue g before after station.node new
+      → IsOnWay g start (at_work first count next failed (with_node new)) before after
+  first-way accounts first count next failed start view works can room new after due =
+      let follows = (accounts (puts_of due.puts.packets) before after due.puts.calls).follows in
+      let held = holding g.flying g.room g.seed g.repeats in
+      let now = at_work first count next failed (with_node new) in
+      subst (λ (runner : Running). IsOnWay g runner now before after) view (record {
+        room =
+            omega (
+              arith,
+              subst (λ (runner : Running). 32 * length runner.code.net.links ≤ g.room before) (sym view) room,
+              (puts-fly (g.faithful before) due.puts.packets (held before) (held after) follows).room,
+            );
+        works = ap (λ (runner : Running). runner.has_failed) view ∙ works;
+        work = record { code = refl; pattern = refl; first = refl; count = refl; next = refl };
+        can = subst CanStart (sym view) can;
+        under = λ window starts. first-under window starts accounts new after due;
+      })
+
+-- what is said of the code and the pattern of a runner, said of those with which it began
+on-same : (P : Code → ℕ → Type 0) (start now : Running) → IsSameWork start now → P now.code now.pattern → P start.code start.pattern
+on-same P start now work p =
+    subst (λ (pattern : ℕ). P start.code pattern) work.pattern (subst (λ (code : Code). P code now.pattern) work.code p)
+
+module _ {L : Type 0} (g : LinksGhosts L) (start now : Running) (before mid : L) (way : IsOnWay g start now before mid) where
+  -- it stands at a state of the window that it can start
+  pub stands : StandAt now.code now.pattern now.relays now.sinks (g.flying mid)
+  stands =
+      let under = way.under way.can.window way.can.starts in
+      subst (λ (code : Code). StandAt code now.pattern now.relays now.sinks (g.flying mid)) (sym way.work.code)
+      (subst (λ (pattern : ℕ). StandAt start.code pattern now.relays now.sinks (g.flying mid)) (sym way.work.pattern)
+      (record { window = way.can.window; run = under.run; state = under.state; running = under.running }))
+
+  -- a turn that moved
+  abbrev Moves : L → Running → Code → ℕ → Type 0
+  Moves after next code pattern =
+      (window : Window) (run : List Delivery) (state : RelayState) → IsRunning code pattern window run now.relays now.sinks (g.flying mid) state
+      → Steps g code pattern window run state mid after next.relays next.sinks
+
+  module _ (accounts : Account g) (next : Running) (after : L) (same : IsSameWork now next) (moves : Moves after next now.code now.pattern) where
+    -- the step that it is
+    step : (window : Window) (starts : Starts start.code start.pattern window start.relays start.sinks)
+        → Steps g start.code start.pattern window (way.under window starts).run (way.under window starts).state mid after next.relays next.sinks
+    step window starts =
+        let under = way.under window starts in
+        on-same (Moves after next) start now way.work moves window under.run under.state under.running
+
+    -- the work is the same from the start
+    still : IsSameWork start next
+    still =
+        record {
+          code = same.code ∙ way.work.code;
+          pattern = same.pattern ∙ way.work.pattern;
+          first = same.first ∙ way.work.first;
+          count = same.count ∙ way.work.count;
+          next = same.next ∙ way.work.next;
+        }
+
+    -- the runner goes on
+    pub onward : Joins g → next.has_failed ≡ false → IsOnWay g start next before after
+    onward joins works =
+        let under = way.under way.can.window way.can.starts in
+        record {
+          room =
+              omega (
+                arith,
+                way.room,
+                ap (λ (code : Code). length code.net.links) same.code,
+                steps-room g start.code start.pattern way.can.window under.run under.state mid after next.relays next.sinks
+                (step way.can.window way.can.starts) accounts,
+              );
+          works = works;
+          work = still;
+          can = way.can;
+          under = λ window starts.
+              underway-more g start.code start.pattern window accounts joins before mid after now.relays now.sinks next.relays next.sinks
+              (way.under window starts) (step window starts);
+        }
+
+    -- and what is left to be done is less
+    pub nearer : left g next.code next.pattern next.first next.count after next.relays < left g now.code now.pattern now.first now.count mid now.relays
+    nearer =
+        let under = way.under way.can.window way.can.starts in
+        let less = steps-less g start.code start.pattern way.can.window under.run under.state mid after next.relays next.sinks now.relays now.sinks
+        under.running (step way.can.window way.can.starts) accounts in
+        omega (arith, less, left-is next still after, left-is now way.work mid)
+      where
+        left-is : (runner : Running) → IsSameWork start runner → (links : L)
+            → left g runner.code runner.pattern runner.first runner.count links runner.relays
+            ≡ left g start.code start.pattern way.can.window.first (length way.can.window.blocks) links runner.relays
+        left-is runner work links =
+            ap (λ (code : Code). left g code runner.pattern runner.first runner.count links runner.relays) work.code
+            ∙ ap (λ (pattern : ℕ). left g start.code pattern runner.first runner.count links runner.relays) work.pattern
+            ∙ ap (λ (first : ℕ). left g start.code start.pattern first runner.count links runner.relays) (work.first ∙ way.can.same_first)
+            ∙ ap (λ (count : ℕ). left g start.code start.pattern way.can.window.first count links runner.relays) (work.count ∙ way.can.same_count)
+
+  -- a turn that failed
+  abbrev Stops : L → Code → ℕ → Type 0
+  Stops after code pattern =
+      (window : Window) (run : List Delivery) (state : RelayState) → IsRunning code pattern window run now.relays now.sinks (g.flying mid) state
+      → StopsStepping g code pattern window run state mid after
+
+  pub way-stops : Account g → Joins g → (after : L) → Stops after now.code now.pattern
+      → (window : Window) → Starts start.code start.pattern window start.relays start.sinks → StopsCarrying g start.code start.pattern window before after
+  way-stops accounts joins after stops window starts =
+      let under = way.under window starts in
+      stops-carrying g start.code start.pattern window accounts joins before mid after now.relays now.sinks under
+      (on-same (Stops after) start now way.work stops window under.run under.state under.running)
+
+  -- a turn at which nothing flew
+  pub way-ends : Account g → Joins g → (next : Running) (after : L) → next ≡ now → g.flying mid ≡ [] → g.moves (took_none ∷ []) mid after
+      → (window : Window) → Starts start.code start.pattern window start.relays start.sinks
+      → Carries g start.code start.pattern window before after next.relays next.sinks
+  way-ends accounts joins next after same quiet none window starts =
+      let follows = (accounts (took_none ∷ []) mid after none).follows in
+      let still_quiet : g.flying after ≡ [] = ap (λ (held : InFlight). held.flying) follows.2 ∙ follows.1.1.same_flying ∙ quiet in
+      subst (λ (runner : Running). Carries g start.code start.pattern window before after runner.relays runner.sinks) (sym same)
+      (carries g start.code start.pattern window before after now.relays now.sinks
+      (underway-none g start.code start.pattern window accounts joins before mid after now.relays now.sinks (way.under window starts) none) still_quiet)
