@@ -3,6 +3,8 @@ use Rattle.std.specs.Prelude.{◌≡◌, ◌≤◌, ℕ, IsTrue, List, [], All, 
 use Rattle.std.proofs.Common.{sym, ap, ◌∙◌, arith, get_or, subst}
 use Rattle.std.proofs.lemmas.List.Elements.{All-weaker}
 use Rattle.std.proofs.lemmas.Option.{slice_get-get_or, unwrap_or-slice_get}
+use Rattle.cut_bound.proofs.HighestLaws.{accepted-at_most_rate}
+use Rattle.cut_witness.proofs.CertificateLaws.{IsRate-least_value}
 use Rattle.cut_witness.specs.Certificate.{AreCertificates, IsLeastValue}
 use Rattle.cut_witness.specs.declared.cert.Cert.{Cert}
 use Rattle.gf_tables.specs.Product.{size_of}
@@ -13,12 +15,13 @@ use Rattle.net_model.proofs.RenumberingLaws.{length-renumbered_links}
 use Rattle.net_model.specs.Walks.{IsAcyclic}
 use Rattle.net_model.specs.declared.net.Net.{Net}
 use Rattle.node_program.specs.Code.{are_in_order, choice_of}
+use Rattle.node_program.specs.Decoding.{IsAccepted}
 use Rattle.node_program.specs.Value.{leaves_source, operands_at}
 use Rattle.node_program.specs.declared.Decoder.{Decoder}
 use Rattle.node_program.specs.declared.Operand.{Operand}
 use Rattle.node_program.specs.declared.code.Code.{Code}
 use Rattle.topo_order.specs.Order.{order_of}
-use Rattle.lif_compiler.specs.Compiled.{Feeds, IsCompiled, IsOfPaths}
+use Rattle.lif_compiler.specs.Compiled.{Feeds, IsCodeOf, IsCompiled, IsOfPaths}
 use Rattle.lif_compiler.specs.Hops.{AreHops, Routes}
 use Rattle.lif_compiler.proofs.InOrderLaws.{HasEachOnce-order_of, are_in_order-renumbered}
 use Rattle.lif_compiler.proofs.OriginLaws.{AreRoutes-renumbered, Feeds-of_hop}
@@ -67,6 +70,11 @@ module _ (net new : Net) (certs : List Cert) (order : List ℕ) (rate : ℕ) (ki
     hops_over = over;
   }
 
+  -- no accepted code of the network has a rate above the least value
+  pub at_most_least : (other : Code) → IsCodeOf net other → IsAccepted other → other.rate ≤ rate
+  at_most_least other of accepted =
+      accepted-at_most_rate net of.order of.choice rate other of.once of.network (IsRate-least_value net certs rate are least) accepted
+
   -- a code that is made so is one of the network
   pub compiled : (size : ℕ) → size ≡ size_of kind → demand_count net ≤ size → (routes : Routes) → routes ≡ routes_of_certs order rate certs → (operands : List (List Operand)) (decoders : List Decoder)
       → IsFilled new kind rate routes operands decoders → (code : Code) → code.net ≡ new → code.rate ≡ rate → code.field ≡ kind → code.operands ≡ operands → code.decoders ≡ decoders → IsCompiled net kind code certs
@@ -80,6 +88,7 @@ module _ (net new : Net) (certs : List Cert) (order : List ℕ) (rate : ℕ) (ki
     is_least = least;
     rate = of_rate;
     accepted = filled.accepted code of_net of_rate of_field of_operands of_decoders;
+    greatest = λ other of good. subst (λ rate. other.rate ≤ rate) (sym of_rate) (at_most_least other of good);
     of_paths = λ link below.
         let of_hops : All (IsOfHop routes link) (slice_index_or operands link []) = filled.of_hops link (omega (arith, new_count)) in
         let of_these : All (IsOfHop (routes_of_certs order rate certs) link) (operands_at code.operands link) =

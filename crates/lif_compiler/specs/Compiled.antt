@@ -1,12 +1,13 @@
--- What the compiler makes of a network: a code of the network's rate, and certificates of that
--- rate.
+-- What the compiler makes of a network: a code of the network's rate, which no other code of it
+-- exceeds, and certificates of that rate.
 use Rattle.std.specs.Prelude.{◌≡◌, ◌<◌, ◌≤◌, ◌+◌, ◌==◌, ℕ, List, Bool, true, false, length, slice_get, slice_index, All, Some, if◌then◌else◌}
 use Rattle.gf_tables.specs.Product.{mark_of, size_of}
 use Rattle.gf_tables.specs.declared.kind.FieldKind.{FieldKind}
 use Rattle.gf_tables.specs.declared.kind.FieldKind.TheVariants.{Eight, Sixteen}
 use Rattle.net_model.specs.Demands.{demand_count}
-use Rattle.net_model.specs.Renumbering.{IsRenumbered, old_number}
+use Rattle.net_model.specs.Renumbering.{HasEachOnce, IsRenumbered, old_number}
 use Rattle.net_model.specs.Walks.{IsAcyclic}
+use Rattle.net_model.specs.declared.net.FieldChoice.{FieldChoice}
 use Rattle.net_model.specs.declared.net.Net.{Net}
 use Rattle.cut_witness.specs.Certificate.{AreCertificates, IsLeastValue}
 use Rattle.cut_witness.specs.declared.cert.Cert.{Cert}
@@ -58,8 +59,16 @@ abbrev pub IsOfPaths : List ℕ → List Cert → Code → ℕ → Operand → T
 IsOfPaths order certs code link operand =
     Feeds (leaves_source code.net link) order code.rate certs operand.from link
 
+-- a code whose network is this one, with its links in some order, over either field
+pub record IsCodeOf (net : Net) (code : Code) : Type 0 where
+  pub order : List ℕ
+  pub once : HasEachOnce (length net.links) order
+  pub choice : FieldChoice
+  pub network : IsRenumbered order choice net code.net
+
 -- An accepted code of the network, with its links in order; its rate is the least value of the
--- certificates of all demands, and its operands come from their paths.
+-- certificates of all demands, and no accepted code of the network has a higher one; its operands
+-- come from their paths.
 pub record IsCompiled (net : Net) (field : FieldKind) (code : Code)
     (certs : List Cert) : Type 0 where
   pub acyclic : IsAcyclic net.links
@@ -71,5 +80,6 @@ pub record IsCompiled (net : Net) (field : FieldKind) (code : Code)
   pub is_least : IsLeastValue certs least
   pub rate : code.rate ≡ least
   pub accepted : IsAccepted code
+  pub greatest : (other : Code) → IsCodeOf net other → IsAccepted other → other.rate ≤ code.rate
   pub of_paths : (link : ℕ) → link < length net.links
       → All (IsOfPaths (order_of net.links) certs code link) (operands_at code.operands link)

@@ -97,9 +97,10 @@ fn build<F: Field, L: Ledger>(
 
 /// An accepted code over the field `F`, one of the two that codes are over, with the certificates of the network's
 /// demands. The code's network is the given one with its links in order, and its rate is the least value of the
-/// certificates: the least cut of a demand. There is such a code for every network without a cycle that has at most
-/// as many demands as the field has elements, and whose rate is 1 to 32; else the refusal says which of this doesn't
-/// hold (Jaggi et al. 2005, for demands with failed links).
+/// certificates: the least cut of a demand. No accepted code of the network has a higher rate, over either field.
+/// There is such a code for every network without a cycle that has at most as many demands as the field has elements,
+/// and whose rate is 1 to 32; else the refusal says which of this doesn't hold (Jaggi et al. 2005, for demands with
+/// failed links).
 pub fn compile<F: Field, G: Gate + Sync, L: Ledger, R: Threads + Sync>(
     rt: &R,
     alloc: Global,
