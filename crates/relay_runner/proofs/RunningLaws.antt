@@ -17,10 +17,10 @@ use Rattle.relay_runner.proofs.MeasureLaws.{Account, left, steps-less, steps-roo
 use Rattle.relay_runner.proofs.PlannedLaws.{planned}
 use Rattle.relay_runner.proofs.StationLaws.{node-at, node-replaced, same-sinks, with_node}
 use Rattle.relay_runner.proofs.StoppingLaws.{stops-first}
-use Rattle.relay_runner.proofs.UnderwayLaws.{carries, stops-carrying, underway-first, underway-more, underway-none}
+use Rattle.relay_runner.proofs.UnderwayLaws.{carries, has_carried, stops-carrying, underway-first, underway-more, underway-none}
 use Rattle.relay_runner.specs.Carrying.{Carries, IsUnderway, StopsCarrying}
 use Rattle.relay_runner.specs.Runner.{IsSameWork}
-use Rattle.relay_runner.specs.Running.{CanStart, IsRunning, Running, StandAt, Starts}
+use Rattle.relay_runner.specs.Running.{CanStart, HasCarried, IsRunning, Running, StandAt, Starts}
 use Rattle.relay_runner.specs.Stepping.{Steps, StopsStepping}
 use Rattle.run_states.proofs.CountLaws.{room-first}
 use Rattle.sink_decoder.specs.Receiving.{Receiver}
@@ -220,3 +220,12 @@ module _ {L : Type 0} (g : LinksGhosts L) (start now : Running) (before mid : L)
       subst (λ (runner : Running). Carries g start.code start.pattern window before after runner.relays runner.sinks) (sym same)
       (carries g start.code start.pattern window before after now.relays now.sinks
       (underway-none g start.code start.pattern window accounts joins before mid after now.relays now.sinks (way.under window starts) none) still_quiet)
+
+-- a runner that has carried the window of its first number and its count
+pub has-carried : {L : Type 0} (g : LinksGhosts L) (start now : Running) → IsSameWork start now → (window : Window) → start.first ≡ window.first
+    → start.count ≡ length window.blocks → (before after : L)
+    → Carries g start.code start.pattern window before after now.relays now.sinks → HasCarried now
+has-carried g start now work window same_first same_count before after carries =
+    has_carried g now window (work.first ∙ same_first) (work.count ∙ same_count) before after
+    (subst (λ (code : Code). Carries g code now.pattern window before after now.relays now.sinks) (sym work.code)
+    (subst (λ (pattern : ℕ). Carries g start.code pattern window before after now.relays now.sinks) (sym work.pattern) carries))

@@ -15,6 +15,7 @@ use Rattle.node_stations.specs.Opening.{AreSinks, IsAt, IsBegunAt, demand_of, pl
 use Rattle.node_stations.specs.declared.station.Station.{Station}
 use Rattle.relay_node.specs.Relay as nodes
 use Rattle.relay_node.specs.Relay.{Relay}
+use Rattle.relay_runner.proofs.PlannedLaws.{at_place}
 use Rattle.relay_runner.proofs.StationLaws.{node-at, node-replaced, same-sinks, with_node}
 use Rattle.relay_runner.specs.Running.{AreBlocks, IsWindow, Starts, count_in, window_from}
 use Rattle.run_states.specs.Ready.{AreReady, IsReadySink}
@@ -142,3 +143,34 @@ module _ (code : Code) (pattern first : ℕ) (blocks : List ℕ) where
           fed_blocks =
               fed_all code pattern window station.node fed source-works.plan source-works.first source-works.count
               (nothing-begun code.net.source station.node at_source) (is-window code first blocks are bytes).blocks feeds
+
+-- stations that can start have their plans
+pub start-planned : (code : Code) (pattern : ℕ) (started : Window) (relays : List Relay) (sinks : List (Option Receiver))
+    → Starts code pattern started relays sinks → ArePlanned code pattern relays sinks
+start-planned code pattern started relays sinks starts =
+    record {
+      count = starts.ready.count;
+      plans = λ node relay at. (starts.ready.works node relay at).plan;
+      receivers = record {
+        count = starts.ready.receivers.count;
+        at = λ node sink at. at_place _ _ (λ place there ready. ready.plan) (place_of code node) sink (starts.ready.receivers.at node sink at);
+      };
+    }
+
+module _ (code seen : Code) (same : seen ≡ code) where
+  -- so many blocks are as many as the window has
+  pub seen-count : (first : ℕ) (blocks : List ℕ) (count : ℕ) → count ≡ count_in seen blocks → count ≡ length (window_from code first blocks).blocks
+  seen-count first blocks count counted = counted ∙ ap (λ (code : Code). count_in code blocks) same ∙ sym (window-count code first blocks)
+
+  -- Stations of which all were written over by some that can start can start too.
+  pub made-start : {F : Type 0} (pattern first : ℕ) (blocks : List ℕ) (old lent new made : List (Station F)) → lent ≡ old → made ≡ new
+      → pattern < length code.net.patterns → ArePlanned code pattern (relays_of old) (sinks_of old)
+      → (starts : (pattern : ℕ) → pattern < length seen.net.patterns → ArePlanned seen pattern (relays_of lent) (sinks_of lent)
+          → Starts seen pattern (window_from seen first blocks) (relays_of new) (sinks_of new))
+      → Starts code pattern (window_from code first blocks) (relays_of made) (sinks_of made)
+  made-start {F} pattern first blocks old lent new made value back pattern_is planned starts =
+      let of_code = subst (λ (code : Code). (pattern : ℕ) → pattern < length code.net.patterns → ArePlanned code pattern (relays_of lent) (sinks_of lent)
+          → Starts code pattern (window_from code first blocks) (relays_of new) (sinks_of new)) same starts in
+      let are = subst (λ (stations : List (Station F)). ArePlanned code pattern (relays_of stations) (sinks_of stations)) (sym value) planned in
+      subst (λ (stations : List (Station F)). Starts code pattern (window_from code first blocks) (relays_of stations) (sinks_of stations)) (sym back)
+      (of_code pattern pattern_is are)
