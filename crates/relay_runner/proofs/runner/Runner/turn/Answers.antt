@@ -4,7 +4,6 @@ use Rattle.std.proofs.lemmas.List.{take_at}
 use Rattle.node_stations.specs.declared.station.Station.{Station}
 use Rattle.relay_runner.proofs.PlannedLaws.{planned-after}
 use Rattle.relay_runner.proofs.runner.Runner.turn.Goals as goal
-use Rattle.relay_runner.specs.Runner.{IsRunner}
 use Rattle.relay_runner.specs.Running.{Running, StandAt}
 use Rattle.station_table.specs.Table.{ArePlanned, relays_of, sinks_of}
 
