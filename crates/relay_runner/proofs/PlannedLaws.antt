@@ -1,5 +1,5 @@
 -- Nodes and sinks that stand at a state of a run have their plans, and so they do after a step.
-use Rattle.std.specs.Prelude.{◌≡◌, ◌++◌, ℕ, List, None, Option, Some, drop, length, take}
+use Rattle.std.specs.Prelude.{◌≡◌, ℕ, List, None, Option, Some}
 use Rattle.std.proofs.Common.{refl, subst, sym}
 use Rattle.coded_traffic.specs.Traffic.{Window}
 use Rattle.lif_outside.specs.declared.links.Flight.{Flight}
@@ -39,8 +39,8 @@ planned code pattern window run relays sinks flying state running =
 pub planned-after : {F L : Type 0} (g : LinksGhosts L) (code : Code) (pattern : ℕ) (before after : L) (old new : List (Station F)) (turn : Turn)
     → StandAt code pattern (relays_of old) (sinks_of old) (g.flying before)
     → (turn ≡ Moved → (window : Window) (run : List Delivery) (state : RelayState)
-        → IsRunning code pattern window run (relays_of old) (sinks_of old) (g.flying before) state
-        → Steps g code pattern window run state before after (relays_of new) (sinks_of new))
+    → IsRunning code pattern window run (relays_of old) (sinks_of old) (g.flying before) state
+    → Steps g code pattern window run state before after (relays_of new) (sinks_of new))
     → (turn ≡ Quiet → new ≡ old) → ArePlanned code pattern (relays_of new) (sinks_of new)
 planned-after g code pattern before after old new Moved stand moved quiet =
     let steps = moved refl stand.window stand.run stand.state stand.running in
