@@ -1,5 +1,5 @@
 -- A run of a window at work: how it begins, goes on and ends.
-use Rattle.std.specs.Prelude.{◌≡◌, ◌<◌, ◌≤◌, ◌*◌, ◌∷◌, ◌++◌, ℕ, Bool, false, List, [], Option, Some, get_or, length, slice_get, slice_set}
+use Rattle.std.specs.Prelude.{◌≡◌, ◌<◌, ◌≤◌, ◌*◌, ◌∷◌, ◌++◌, ℕ, Bool, false, List, [], Option, Some, get_or, length, slice_get}
 use Rattle.std.proofs.Common.{arith, ap, refl, subst, sym, ◌∙◌}
 use Rattle.std.proofs.lemmas.List.{length-map}
 use Rattle.coded_traffic.specs.Traffic.{Window}
@@ -170,7 +170,7 @@ module _ {L : Type 0} (g : LinksGhosts L) (start now : Running) (before mid : L)
                 way.room,
                 ap (λ (code : Code). length code.net.links) same.code,
                 steps-room g start.code start.pattern way.can.window under.run under.state mid after next.relays next.sinks
-                (step way.can.window way.can.starts) accounts,
+                    (step way.can.window way.can.starts) accounts,
               );
           works = works;
           work = still;

@@ -1,5 +1,5 @@
 -- Stations that have begun a window, and of which the source was fed its blocks, can start it.
-use Rattle.std.specs.Prelude.{◌≡◌, ◌≢◌, ◌<◌, ◌*◌, ℕ, List, None, Option, Some, get_or, length, slice_get}
+use Rattle.std.specs.Prelude.{◌≡◌, ◌<◌, ◌*◌, ℕ, List, None, Option, Some, get_or, length, slice_get}
 use Rattle.std.proofs.Common.{arith, ap, inl, inr, refl, subst, sym, ◌∙◌}
 use Rattle.std.proofs.lemmas.Bool.{cases_eq}
 use Rattle.std.proofs.lemmas.List.{length-map}
@@ -18,7 +18,7 @@ use Rattle.relay_node.specs.Relay.{Relay}
 use Rattle.relay_runner.proofs.PlannedLaws.{at_place}
 use Rattle.relay_runner.proofs.StationLaws.{node-at, node-replaced, same-sinks, with_node}
 use Rattle.relay_runner.specs.Running.{AreBlocks, IsWindow, Starts, count_in, window_from}
-use Rattle.run_states.specs.Ready.{AreReady, IsReadySink}
+use Rattle.run_states.specs.Ready.{IsReadySink}
 use Rattle.sink_decoder.specs.Receiving.{Receiver, sink_plan_of}
 use Rattle.station_table.proofs.FeedingLaws.{block_of}
 use Rattle.station_table.proofs.ReadyLaws.{are_blocks, fed_all}
@@ -49,13 +49,16 @@ module _ (code : Code) (pattern first : ℕ) (blocks : List ℕ) where
       → IsAt (λ place sink. IsReadySink code (demand_of code pattern place) window sink) place sink
   ready-sink None before sink none begun = subst (λ (b : Option Receiver). AtSink (IsBegunAt first (count_in code blocks)) b sink) none begun
   ready-sink (Some place) before sink (there, is, plan) begun =
-      let begins = subst (λ (b : Option Receiver). AtSink (IsBegunAt first (count_in code blocks)) b sink) is begun in
-      (begins.0, begins.1, record {
-        plan = begins.2.same_plan ∙ plan;
-        first = begins.2.from_first;
-        count = begins.2.has_count ∙ sym (window-count code first blocks);
-        nothing = begins.2.nothing;
-      })
+      let begins = subst (λ (b : Option Receiver). AtSink (IsBegunAt first (count_in code blocks)) b sink) is begun in (
+        begins.0,
+        begins.1,
+        record {
+          plan = begins.2.same_plan ∙ plan;
+          first = begins.2.from_first;
+          count = begins.2.has_count ∙ sym (window-count code first blocks);
+          nothing = begins.2.nothing;
+        },
+      )
 
   module _ {F : Type 0} (old mid : List (Station F)) (planned : ArePlanned code pattern (relays_of old) (sinks_of old))
       (begun : HaveBegun first (count_in code blocks) (relays_of old) (relays_of mid) (sinks_of old) (sinks_of mid)) where
@@ -166,11 +169,11 @@ module _ (code seen : Code) (same : seen ≡ code) where
   pub made-start : {F : Type 0} (pattern first : ℕ) (blocks : List ℕ) (old lent new made : List (Station F)) → lent ≡ old → made ≡ new
       → pattern < length code.net.patterns → ArePlanned code pattern (relays_of old) (sinks_of old)
       → (starts : (pattern : ℕ) → pattern < length seen.net.patterns → ArePlanned seen pattern (relays_of lent) (sinks_of lent)
-          → Starts seen pattern (window_from seen first blocks) (relays_of new) (sinks_of new))
+      → Starts seen pattern (window_from seen first blocks) (relays_of new) (sinks_of new))
       → Starts code pattern (window_from code first blocks) (relays_of made) (sinks_of made)
   made-start {F} pattern first blocks old lent new made value back pattern_is planned starts =
       let of_code = subst (λ (code : Code). (pattern : ℕ) → pattern < length code.net.patterns → ArePlanned code pattern (relays_of lent) (sinks_of lent)
-          → Starts code pattern (window_from code first blocks) (relays_of new) (sinks_of new)) same starts in
+      → Starts code pattern (window_from code first blocks) (relays_of new) (sinks_of new)) same starts in
       let are = subst (λ (stations : List (Station F)). ArePlanned code pattern (relays_of stations) (sinks_of stations)) (sym value) planned in
       subst (λ (stations : List (Station F)). Starts code pattern (window_from code first blocks) (relays_of stations) (sinks_of stations)) (sym back)
       (of_code pattern pattern_is are)

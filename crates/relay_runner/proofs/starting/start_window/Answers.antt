@@ -1,9 +1,8 @@
 -- The stations begin the window, and the source is fed its blocks.
-use Rattle.std.proofs.Common.{◌≡◌, ◌<◌, ◌*◌, ap, eq-eqb, get_or, refl, sym, ◌∙◌}
+use Rattle.std.proofs.Common.{◌<◌, ◌*◌, ap, eq-eqb, get_or, refl, sym, ◌∙◌}
 use Rattle.std.proofs.lemmas.List.Elements.{All-from_get_or}
 use Rattle.linear_algebra.specs.Elements.{AreBytes}
 use Rattle.node_plans.specs.declared.plan.Plan.{Plan}
-use Rattle.node_stations.specs.declared.station.Station.{Station}
 use Rattle.relay_runner.proofs.StartingLaws.{can-start, source-begun, source-works}
 use Rattle.relay_runner.proofs.starting.start_window.Goals as goal
 

@@ -1,5 +1,5 @@
 -- The stations begin the window and are fed it, and then it is carried.
-use Rattle.std.proofs.Common.{◌≡◌, ◌+◌, ◌++◌, List, ap, drop, length, refl, subst, sym, take, ◌∙◌}
+use Rattle.std.proofs.Common.{◌≡◌, ◌+◌, ◌++◌, List, ap, drop, length, refl, subst, take, ◌∙◌}
 use Rattle.std.proofs.lemmas.List.{take_at}
 use Rattle.node_stations.proofs.PuttingLaws.{on_err-then, on_ok-then}
 use Rattle.node_stations.specs.declared.station.Station.{Station}
@@ -78,7 +78,7 @@ returns-clause-carried g c =
     let code = c.self.inside.code.now in
     on_ok-then c.run.result (λ carries.
     subst (λ (runner : Running). Carries g.K.Links runner.code runner.pattern (window_from runner.code runner.next c.args.blocks.now)
-        c.args.links.now c.run.new.links c.run.new.self.relays c.run.new.self.sinks) c.self.view_is
+    c.args.links.now c.run.new.links c.run.new.self.relays c.run.new.self.sinks) c.self.view_is
     (carries (window_from code c.self.inside.next c.args.blocks.now) (starts g at))) c.run.ensures.carried
 
 pub returns-clause-whole : goal.returns-clause-whole
@@ -95,5 +95,5 @@ returns-clause-stopped g c =
     let code = c.self.inside.code.now in
     on_err-then c.run.result (λ stops.
     subst (λ (runner : Running). StopsCarrying g.K.Links runner.code runner.pattern (window_from runner.code runner.next c.args.blocks.now)
-        c.args.links.now c.run.new.links) c.self.view_is
+    c.args.links.now c.run.new.links) c.self.view_is
     (stops (window_from code c.self.inside.next c.args.blocks.now) (starts g at))) c.run.ensures.stopped
