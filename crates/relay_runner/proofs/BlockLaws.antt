@@ -116,7 +116,9 @@ module _ {F : Type 0} (runner : Running) (carried : HasCarried runner) (place no
     -- with a sink
     pub has-sink : station.sink ≡ None → ⊥
     has-sink none =
-        let stand = stands runner.code place node at runner.pattern carried.window carried.run runner.relays runner.sinks carried.state carried.running station.sink found-at in
+        let stand =
+        stands runner.code place node at runner.pattern carried.window carried.run runner.relays runner.sinks carried.state carried.running station.sink
+        found-at in
         none-some stand.0 (sym none ∙ stand.1)
 
     -- of which a block is asked

@@ -2,6 +2,8 @@ pub mod BlockLaws
 pub mod MeasureLaws
 pub mod PlannedLaws
 pub mod RunningLaws
+pub mod StartingLaws
+pub mod StationLaws
 pub mod SteppingLaws
 pub mod StoppingLaws
 pub mod TurningLaws

@@ -1,5 +1,5 @@
 -- Nodes and sinks that stand at a state of a run have their plans, and so they do after a step.
-use Rattle.std.specs.Prelude.{◌≡◌, ◌++◌, ℕ, List, None, Option, Some, drop, length, take}
+use Rattle.std.specs.Prelude.{◌≡◌, ℕ, List, None, Option, Some}
 use Rattle.std.proofs.Common.{refl, subst, sym}
 use Rattle.coded_traffic.specs.Traffic.{Window}
 use Rattle.lif_outside.specs.declared.links.Flight.{Flight}
@@ -17,7 +17,7 @@ use Rattle.sink_decoder.specs.Receiving.{Receiver}
 use Rattle.station_table.specs.Table.{ArePlanned, relays_of, sinks_of}
 
 -- what holds of the sink at a place where something else does
-at_place : (P Q : ℕ → Receiver → Type 0) → ((place : ℕ) (sink : Receiver) → P place sink → Q place sink)
+pub at_place : (P Q : ℕ → Receiver → Type 0) → ((place : ℕ) (sink : Receiver) → P place sink → Q place sink)
     → (place : Option ℕ) (sink : Option Receiver) → IsAt P place sink → IsAt Q place sink
 at_place P Q then None sink is = is
 at_place P Q then (Some place) sink is = (is.0, is.1, then place is.0 is.2)
@@ -39,8 +39,8 @@ planned code pattern window run relays sinks flying state running =
 pub planned-after : {F L : Type 0} (g : LinksGhosts L) (code : Code) (pattern : ℕ) (before after : L) (old new : List (Station F)) (turn : Turn)
     → StandAt code pattern (relays_of old) (sinks_of old) (g.flying before)
     → (turn ≡ Moved → (window : Window) (run : List Delivery) (state : RelayState)
-        → IsRunning code pattern window run (relays_of old) (sinks_of old) (g.flying before) state
-        → Steps g code pattern window run state before after (relays_of new) (sinks_of new))
+    → IsRunning code pattern window run (relays_of old) (sinks_of old) (g.flying before) state
+    → Steps g code pattern window run state before after (relays_of new) (sinks_of new))
     → (turn ≡ Quiet → new ≡ old) → ArePlanned code pattern (relays_of new) (sinks_of new)
 planned-after g code pattern before after old new Moved stand moved quiet =
     let steps = moved refl stand.window stand.run stand.state stand.running in

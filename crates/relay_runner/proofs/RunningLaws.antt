@@ -1,7 +1,6 @@
 -- A run of a window at work: how it begins, goes on and ends.
-use Rattle.std.specs.Prelude.{◌≡◌, ◌<◌, ◌≤◌, ◌*◌, ◌∷◌, ◌++◌, ℕ, Bool, false, List, [], Option, Some, get_or, length, slice_get, slice_set}
+use Rattle.std.specs.Prelude.{◌≡◌, ◌<◌, ◌≤◌, ◌*◌, ◌∷◌, ◌++◌, ℕ, Bool, false, List, [], Option, Some, get_or, length, slice_get}
 use Rattle.std.proofs.Common.{arith, ap, refl, subst, sym, ◌∙◌}
-use Rattle.std.proofs.Math.Seq.{map-set_same}
 use Rattle.std.proofs.lemmas.List.{length-map}
 use Rattle.coded_traffic.specs.Traffic.{Window}
 use Rattle.lif_outside.specs.LinksAccounts.{holding}
@@ -16,15 +15,15 @@ use Rattle.relay_core.specs.Core.{Delivery, RelayState}
 use Rattle.relay_node.specs.Relay.{Relay}
 use Rattle.relay_runner.proofs.MeasureLaws.{Account, left, steps-less, steps-room}
 use Rattle.relay_runner.proofs.PlannedLaws.{planned}
+use Rattle.relay_runner.proofs.StationLaws.{node-at, node-replaced, same-sinks, with_node}
 use Rattle.relay_runner.proofs.StoppingLaws.{stops-first}
-use Rattle.relay_runner.proofs.UnderwayLaws.{carries, stops-carrying, underway-first, underway-more, underway-none}
+use Rattle.relay_runner.proofs.UnderwayLaws.{carries, has_carried, stops-carrying, underway-first, underway-more, underway-none}
 use Rattle.relay_runner.specs.Carrying.{Carries, IsUnderway, StopsCarrying}
 use Rattle.relay_runner.specs.Runner.{IsSameWork}
-use Rattle.relay_runner.specs.Running.{CanStart, IsRunning, Running, StandAt, Starts}
+use Rattle.relay_runner.specs.Running.{CanStart, HasCarried, IsRunning, Running, StandAt, Starts}
 use Rattle.relay_runner.specs.Stepping.{Steps, StopsStepping}
 use Rattle.run_states.proofs.CountLaws.{room-first}
 use Rattle.sink_decoder.specs.Receiving.{Receiver}
-use Rattle.station_table.proofs.TableLaws.{made_at, replaced_at}
 use Rattle.station_table.specs.Table.{ArePlanned, relays_of, sinks_of}
 
 -- A runner that is carrying a window over links that have room for it: whatever window it has begun, the calls are a run of it.
@@ -43,27 +42,20 @@ Joins {L} g = (first later : List Move) (a b c : L) → g.moves first a b → g.
 -- The source's station, which puts what its node gives where nothing flies.
 module _ {L : Type 0} (g : LinksGhosts L) {F : Type 0} (code : Code) (pattern : ℕ) (stations : List (Station F)) (place : ℕ) (station : Station F)
     (place_is : place ≡ code.net.source) (is : station ≡ get_or stations place station) (before : L) (quiet : g.flying before ≡ []) where
-  -- the stations where the source's node is another
-  abbrev with_node : Relay → List (Station F)
-  with_node new = slice_set stations place (record { node = new; sink = station.sink })
-
-  -- the sinks are the same then
-  same-sinks : (new : Relay) → sinks_of (with_node new) ≡ sinks_of stations
-  same-sinks new = map-set_same (λ s. s.sink) stations place (record { node = new; sink = station.sink }) station (ap (λ (s : Station F). s.sink) is)
+  -- the stations where its node is another
+  abbrev after_puts : Relay → List (Station F)
+  after_puts = with_node stations place station is
 
   module _ (window : Window) (starts : Starts code pattern window (relays_of stations) (sinks_of stations)) where
     below : place < length stations
     below = omega (arith, place_is, starts.ready.count, code.net.network.source_node, length-map stations (λ s. s.node))
 
     at_source : slice_get (relays_of stations) code.net.source ≡ Some station.node
-    at_source =
-        ap (slice_get (relays_of stations)) (sym place_is) ∙ made_at (λ s. s.node) stations place station below
-        ∙ ap (λ (s : Station F). Some s.node) (sym is)
+    at_source = ap (slice_get (relays_of stations)) (sym place_is) ∙ node-at stations place station is below
 
-    replaced : (new : Relay) → IsReplaced code.net.source new (relays_of stations) (relays_of (with_node new))
+    replaced : (new : Relay) → IsReplaced code.net.source new (relays_of stations) (relays_of (after_puts new))
     replaced new =
-        subst (λ (n : ℕ). IsReplaced n new (relays_of stations) (relays_of (with_node new))) place_is
-        (replaced_at (λ s. s.node) stations place (record { node = new; sink = station.sink }) below)
+        subst (λ (n : ℕ). IsReplaced n new (relays_of stations) (relays_of (after_puts new))) place_is (node-replaced stations place station is below new)
 
     -- there is room for what it gives
     pub first-room : 32 * length code.net.links ≤ g.room before → HasRoom g before station.node
@@ -79,18 +71,18 @@ module _ {L : Type 0} (g : LinksGhosts L) {F : Type 0} (code : Code) (pattern : 
 
     -- what it puts is the run of no steps
     pub first-under : Account g → (new : Relay) (after : L) → PutsDue g before after station.node new
-        → IsUnderway g code pattern window before after (relays_of (with_node new)) (sinks_of (with_node new))
+        → IsUnderway g code pattern window before after (relays_of (after_puts new)) (sinks_of (after_puts new))
     first-under accounts new after due =
-        subst (λ (sinks : List (Option Receiver)). IsUnderway g code pattern window before after (relays_of (with_node new)) sinks) (sym (same-sinks new))
+        subst (λ (sinks : List (Option Receiver)). IsUnderway g code pattern window before after (relays_of (after_puts new)) sinks) (sym (same-sinks stations place station is new))
         (underway-first g code pattern window accounts (relays_of stations) (sinks_of stations) starts station.node new at_source due.puts.packets due.puts.given
-        due.none (relays_of (with_node new)) (replaced new) before after quiet due.puts.calls)
+        due.none (relays_of (after_puts new)) (replaced new) before after quiet due.puts.calls)
 
     -- and the stations keep their plans
     pub first-planned : Account g → (new : Relay) (after : L) → PutsDue g before after station.node new
-        → ArePlanned code pattern (relays_of (with_node new)) (sinks_of (with_node new))
+        → ArePlanned code pattern (relays_of (after_puts new)) (sinks_of (after_puts new))
     first-planned accounts new after due =
         let under = first-under accounts new after due in
-        planned code pattern window under.run (relays_of (with_node new)) (sinks_of (with_node new)) (g.flying after) under.state under.running
+        planned code pattern window under.run (relays_of (after_puts new)) (sinks_of (after_puts new)) (g.flying after) under.state under.running
 
   -- a runner with these stations, and what it is then
   abbrev at_work : ℕ → ℕ → ℕ → Bool → List (Station F) → Running
@@ -110,11 +102,11 @@ module _ {L : Type 0} (g : LinksGhosts L) {F : Type 0} (code : Code) (pattern : 
   pub first-way : Account g → (first count next : ℕ) (failed : Bool) (start : Running) → at_work first count next failed stations ≡ start
       → start.has_failed ≡ false → CanStart start → 32 * length start.code.net.links ≤ g.room before
       → (new : Relay) (after : L) → PutsDue g before after station.node new
-      → IsOnWay g start (at_work first count next failed (with_node new)) before after
+      → IsOnWay g start (at_work first count next failed (after_puts new)) before after
   first-way accounts first count next failed start view works can room new after due =
       let follows = (accounts (puts_of due.puts.packets) before after due.puts.calls).follows in
       let held = holding g.flying g.room g.seed g.repeats in
-      let now = at_work first count next failed (with_node new) in
+      let now = at_work first count next failed (after_puts new) in
       subst (λ (runner : Running). IsOnWay g runner now before after) view (record {
         room =
             omega (
@@ -178,7 +170,7 @@ module _ {L : Type 0} (g : LinksGhosts L) (start now : Running) (before mid : L)
                 way.room,
                 ap (λ (code : Code). length code.net.links) same.code,
                 steps-room g start.code start.pattern way.can.window under.run under.state mid after next.relays next.sinks
-                (step way.can.window way.can.starts) accounts,
+                    (step way.can.window way.can.starts) accounts,
               );
           works = works;
           work = still;
@@ -228,3 +220,12 @@ module _ {L : Type 0} (g : LinksGhosts L) (start now : Running) (before mid : L)
       subst (λ (runner : Running). Carries g start.code start.pattern window before after runner.relays runner.sinks) (sym same)
       (carries g start.code start.pattern window before after now.relays now.sinks
       (underway-none g start.code start.pattern window accounts joins before mid after now.relays now.sinks (way.under window starts) none) still_quiet)
+
+-- a runner that has carried the window of its first number and its count
+pub has-carried : {L : Type 0} (g : LinksGhosts L) (start now : Running) → IsSameWork start now → (window : Window) → start.first ≡ window.first
+    → start.count ≡ length window.blocks → (before after : L)
+    → Carries g start.code start.pattern window before after now.relays now.sinks → HasCarried now
+has-carried g start now work window same_first same_count before after carries =
+    has_carried g now window (work.first ∙ same_first) (work.count ∙ same_count) before after
+    (subst (λ (code : Code). Carries g code now.pattern window before after now.relays now.sinks) (sym work.code)
+    (subst (λ (pattern : ℕ). Carries g start.code pattern window before after now.relays now.sinks) (sym work.pattern) carries))

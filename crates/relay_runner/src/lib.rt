@@ -9,6 +9,7 @@
 mod runner;
 mod running;
 mod sharing;
+mod starting;
 
 pub use runner::Runner;
 

@@ -8,13 +8,13 @@ ghost use Rattle.relay_core.specs.Core.{Delivery, IsFaithful, RelayState};
 ghost use Rattle.sink_decoder.specs.Receiving.{Receiver, decoded};
 
 use crate::running::step;
+use crate::starting::start_window;
 use crate::{LinkFault, Turn};
 use code_checker::Checked;
-use generation_frame::ROW;
 use gf_tables::Field;
 use lif_outside::Links;
 use node_stations::{Station, put_due};
-use station_table::{begin_stations, feed_blocks, open_stations};
+use station_table::open_stations;
 use std::alloc::{AllocError, Global};
 use std::marker::Model;
 
@@ -184,13 +184,8 @@ impl<'c, F: Field> Runner<'c, F> {
         ensures stopped { OnErr result (StopsCarrying K.Links self.old.code self.old.pattern
             (window_from self.old.code self.old.next blocks.now) links.old links.new) }
     {
-        let code = self.code.code();
-        let size = code.rate as usize * ROW;
         let first = self.next as u32;
-        let count = (blocks.len() / size) as u32;
-        begin_stations(&mut self.stations, first, count);
-        let source = code.net.source as usize;
-        feed_blocks(&mut self.stations[source].node, first, count, size, blocks);
+        let count = start_window(self.code.code(), &mut self.stations, first, blocks);
         self.first = first;
         self.count = count;
         self.next += count as u64;

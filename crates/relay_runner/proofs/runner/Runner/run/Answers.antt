@@ -1,17 +1,17 @@
 -- The source's packets are put, and then turn follows turn.
-use Rattle.std.proofs.Common.{Ok, refl, ◌≡◌, ◌≤◌, ◌*◌, false, length, subst, sym, ap, arith, ◌∙◌}
+use Rattle.std.proofs.Common.{Ok, refl, ◌≡◌, ◌≤◌, ◌*◌, length, subst, sym, ap}
 use Rattle.coded_traffic.specs.Traffic.{Window}
 use Rattle.node_program.specs.declared.code.Code.{Code}
 use Rattle.node_stations.proofs.PuttingLaws.{on_err}
-use Rattle.relay_runner.specs.Carrying.{Carries, StopsCarrying}
+use Rattle.relay_runner.specs.Carrying.{StopsCarrying}
 use Rattle.relay_runner.specs.Running.{CanStart, Running, Starts}
 use Rattle.relay_runner.specs.declared.Turn.{Turn}
 use Rattle.relay_runner.specs.declared.Turn.TheVariants.{Moved, Quiet}
-use Rattle.relay_runner.proofs.RunningLaws.{IsOnWay, first-planned, first-room, first-stops, first-way, nearer, onward, stands, way-ends, way-stops}
+use Rattle.relay_runner.proofs.RunningLaws.{first-planned, first-room, first-stops, first-way, nearer, onward, way-ends, way-stops}
 use Rattle.relay_runner.proofs.runner.Runner.run.Goals as goal
 
 pub put_due-requires : goal.put_due-requires
-put_due-requires g c = 
+put_due-requires g c =
     let can = subst CanStart (sym c.self.view_is) c.requires.start in
     let place = ap (λ (code : Code). code.net.source) c.code.ensures.value in
     let room = subst (λ (runner : Running). 32 * length runner.code.net.links ≤ g.K.Links.room c.args.links.now) (sym c.self.view_is) c.requires.room in
@@ -19,24 +19,24 @@ put_due-requires g c =
     place c.index_mut.ensures.value c.args.links.now c.requires.nothing_flies can.window can.starts room
 
 pub invariant_of-self : goal.invariant_of-self
-invariant_of-self g c = 
+invariant_of-self g c =
     let can = subst CanStart (sym c.self.view_is) c.requires.start in
     let place = ap (λ (code : Code). code.net.source) c.code.ensures.value in
     record {
       pattern_is = c.self.invariant.pattern_is;
       planned = λ works. first-planned g.K.Links c.self.inside.code.now c.self.inside.pattern c.self.inside.stations.items c.code.result.now.net.source
-        c.index_mut.result.now place c.index_mut.ensures.value c.args.links.now c.requires.nothing_flies can.window can.starts g.met.K.Links.accounts
-        c.put_due.new.node c.put_due.new.links c.in-Ok.ensures.put;
+          c.index_mut.result.now place c.index_mut.ensures.value c.args.links.now c.requires.nothing_flies can.window can.starts g.met.K.Links.accounts
+          c.put_due.new.node c.put_due.new.links c.in-Ok.ensures.put;
     }
 
 pub returns-in_default-clause-stopped : goal.returns-in_default-clause-stopped
 returns-in_default-clause-stopped g c =
     let place = ap (λ (code : Code). code.net.source) c.code.ensures.value in
     subst (λ (runner : Running). (window : Window) → Starts runner.code runner.pattern window runner.relays runner.sinks
-        → StopsCarrying g.K.Links runner.code runner.pattern window c.args.links.now c.put_due.new.links) c.self.view_is
+    → StopsCarrying g.K.Links runner.code runner.pattern window c.args.links.now c.put_due.new.links) c.self.view_is
     (λ window starts. first-stops g.K.Links c.self.inside.code.now c.self.inside.pattern c.self.inside.stations.items c.code.result.now.net.source
-        c.index_mut.result.now place c.index_mut.ensures.value c.args.links.now c.requires.nothing_flies window starts
-        c.put_due.new.node c.put_due.new.links c.in_default.ensures.failed)
+    c.index_mut.result.now place c.index_mut.ensures.value c.args.links.now c.requires.nothing_flies window starts
+    c.put_due.new.node c.put_due.new.links c.in_default.ensures.failed)
 
 pub turns-init : goal.turns-init
 turns-init g c =
@@ -49,7 +49,7 @@ turns-init g c =
 pub returns-in_err-turn-clause-stopped : goal.returns-in_err-turn-clause-stopped
 returns-in_err-turn-clause-stopped g c =
     on_err {P = (window : Window) → Starts c.args.self.now.code c.args.self.now.pattern window c.args.self.now.relays c.args.self.now.sinks
-        → StopsCarrying g.K.Links c.args.self.now.code c.args.self.now.pattern window c.args.links.now c.turn.new.links} c.from_residual.result
+    → StopsCarrying g.K.Links c.args.self.now.code c.args.self.now.pattern window c.args.links.now c.turn.new.links} c.from_residual.result
     (way-stops g.K.Links c.args.self.now c.turns.self c.args.links.now c.turns.links c.turns.invariant g.met.K.Links.accounts g.met.K.Links.more_moves
     c.turn.new.links c.in_err-turn.ensures.stopped)
 

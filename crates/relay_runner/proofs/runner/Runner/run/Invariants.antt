@@ -1,5 +1,3 @@
-use Rattle.std.proofs.Common.{◌≡◌, ◌≤◌, ◌*◌, false, length}
-use Rattle.coded_traffic.specs.Traffic.{Window}
 use Rattle.relay_runner.proofs.MeasureLaws.{left}
 use Rattle.relay_runner.proofs.RunningLaws.{IsOnWay}
 use Rattle.relay_runner.proofs.runner.Runner.run.Given as goal

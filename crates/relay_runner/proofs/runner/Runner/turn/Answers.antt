@@ -4,7 +4,6 @@ use Rattle.std.proofs.lemmas.List.{take_at}
 use Rattle.node_stations.specs.declared.station.Station.{Station}
 use Rattle.relay_runner.proofs.PlannedLaws.{planned-after}
 use Rattle.relay_runner.proofs.runner.Runner.turn.Goals as goal
-use Rattle.relay_runner.specs.Runner.{IsRunner}
 use Rattle.relay_runner.specs.Running.{Running, StandAt}
 use Rattle.station_table.specs.Table.{ArePlanned, relays_of, sinks_of}
 
@@ -20,7 +19,8 @@ invariant_of-self g c =
     subst (λ (runner : Running). StandAt runner.code runner.pattern runner.relays runner.sinks flying) (sym c.self.view_is) c.requires.stand in
     let stand : StandAt c.code.result.now pattern (relays_of old) (sinks_of old) flying =
     subst (λ code. StandAt code pattern (relays_of old) (sinks_of old) flying) (sym c.code.ensures.value)
-    (subst (λ (stations : List (Station g.row.F.Denot)). StandAt code pattern (relays_of stations) (sinks_of stations) flying) (sym c.deref_mut.ensures.value) first) in
+    (subst (λ (stations : List (Station g.row.F.Denot)). StandAt code pattern (relays_of stations) (sinks_of stations) flying)
+    (sym c.deref_mut.ensures.value) first) in
     let back : take inside.stations.len (new ++ drop (length new) inside.stations.items) ≡ new =
     take_at new (drop (length new) inside.stations.items) inside.stations.len (c.step.auto.stations ∙ c.deref_mut.ensures.len) in
     let after : ArePlanned c.code.result.now pattern (relays_of new) (sinks_of new) =

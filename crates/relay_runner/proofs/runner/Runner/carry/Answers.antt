@@ -1,0 +1,99 @@
+-- The stations begin the window and are fed it, and then it is carried.
+use Rattle.std.proofs.Common.{◌≡◌, ◌+◌, ◌++◌, List, ap, drop, length, refl, subst, take, ◌∙◌}
+use Rattle.std.proofs.lemmas.List.{take_at}
+use Rattle.node_stations.proofs.PuttingLaws.{on_err-then, on_ok-then}
+use Rattle.node_stations.specs.declared.station.Station.{Station}
+use Rattle.relay_runner.proofs.RunningLaws.{has-carried}
+use Rattle.relay_runner.proofs.StartingLaws.{made-start, seen-count, start-planned}
+use Rattle.relay_runner.specs.Carrying.{Carries, StopsCarrying}
+use Rattle.relay_runner.specs.Running.{Running, Starts, window_from}
+use Rattle.station_table.specs.Table.{relays_of, sinks_of}
+use Rattle.relay_runner.proofs.runner.Runner.carry.Given as given
+use Rattle.relay_runner.proofs.runner.Runner.carry.Goals as goal
+use Rattle.relay_runner.proofs.runner.Runner.carry.Goals.{After-start_window-count}
+
+-- the stations once they have begun the window, as the runner has them
+abbrev begun : (g : given.Over) → After-start_window-count g → List (Station g.row.F.Denot)
+begun g c =
+    take c.self.inside.stations.len
+    (c.start_window-count.new.stations ++ drop (length c.start_window-count.new.stations) c.self.inside.stations.items)
+
+-- the runner then
+abbrev runner_begun : (g : given.Over) → After-start_window-count g → Running
+runner_begun g c =
+    record {
+      code = c.self.inside.code.now;
+      pattern = c.self.inside.pattern;
+      relays = relays_of (begun g c);
+      sinks = sinks_of (begun g c);
+      first = c.self.inside.next;
+      count = c.start_window-count.result;
+      next = c.self.inside.next + c.start_window-count.result;
+      has_failed = c.self.inside.failed;
+    }
+
+-- they can start
+starts : (g : given.Over) (c : After-start_window-count g)
+    → Starts c.self.inside.code.now c.self.inside.pattern (window_from c.self.inside.code.now c.self.inside.next c.args.blocks.now)
+    (relays_of (begun g c)) (sinks_of (begun g c))
+starts g c =
+    let new : List (Station g.row.F.Denot) = c.start_window-count.new.stations in
+    let back : begun g c ≡ new =
+    take_at new (drop (length new) c.self.inside.stations.items) c.self.inside.stations.len (c.start_window-count.auto.stations ∙ c.deref_mut.ensures.len) in
+    let works = ap (λ (runner : Running). runner.has_failed) c.self.view_is ∙ c.requires.works in
+    made-start c.self.inside.code.now c.code.result.now c.code.ensures.value c.self.inside.pattern c.self.inside.next c.args.blocks.now
+    c.self.inside.stations.items c.deref_mut.result.now new (begun g c) c.deref_mut.ensures.value back c.self.invariant.pattern_is
+    (c.self.invariant.planned works) c.start_window-count.ensures.starts
+
+-- the count is that of the window
+counted : (g : given.Over) (c : After-start_window-count g)
+    → c.start_window-count.result ≡ length (window_from c.self.inside.code.now c.self.inside.next c.args.blocks.now).blocks
+counted g c =
+    seen-count c.self.inside.code.now c.code.result.now c.code.ensures.value c.self.inside.next c.args.blocks.now c.start_window-count.result
+    c.start_window-count.ensures.count
+
+pub invariant_of-self : goal.invariant_of-self
+invariant_of-self g c =
+    let at = (goal.at.invariant_of-self g c).After-start_window-count in
+    let code = c.self.inside.code.now in
+    record {
+      pattern_is = c.self.invariant.pattern_is;
+      planned = λ works. start-planned code c.self.inside.pattern (window_from code c.self.inside.next c.args.blocks.now) (relays_of (begun g at))
+          (sinks_of (begun g at)) (starts g at);
+    }
+
+pub run-requires-clause-start : goal.run-requires-clause-start
+run-requires-clause-start g c =
+    let at = (goal.at.run-requires-clause-start g c).After-start_window-count in
+    record {
+      window = window_from c.self.inside.code.now c.self.inside.next c.args.blocks.now;
+      same_first = refl;
+      same_count = counted g at;
+      starts = starts g at;
+    }
+
+pub returns-clause-carried : goal.returns-clause-carried
+returns-clause-carried g c =
+    let at = (goal.at.returns-clause-carried g c).After-start_window-count in
+    let code = c.self.inside.code.now in
+    on_ok-then c.run.result (λ carries.
+    subst (λ (runner : Running). Carries g.K.Links runner.code runner.pattern (window_from runner.code runner.next c.args.blocks.now)
+    c.args.links.now c.run.new.links c.run.new.self.relays c.run.new.self.sinks) c.self.view_is
+    (carries (window_from code c.self.inside.next c.args.blocks.now) (starts g at))) c.run.ensures.carried
+
+pub returns-clause-whole : goal.returns-clause-whole
+returns-clause-whole g c =
+    let at = (goal.at.returns-clause-whole g c).After-start_window-count in
+    let window = window_from c.self.inside.code.now c.self.inside.next c.args.blocks.now in
+    on_ok-then c.run.result (λ carries.
+    has-carried g.K.Links (runner_begun g at) c.run.new.self c.run.ensures.work window refl (counted g at) c.args.links.now c.run.new.links
+    (carries window (starts g at))) c.run.ensures.carried
+
+pub returns-clause-stopped : goal.returns-clause-stopped
+returns-clause-stopped g c =
+    let at = (goal.at.returns-clause-stopped g c).After-start_window-count in
+    let code = c.self.inside.code.now in
+    on_err-then c.run.result (λ stops.
+    subst (λ (runner : Running). StopsCarrying g.K.Links runner.code runner.pattern (window_from runner.code runner.next c.args.blocks.now)
+    c.args.links.now c.run.new.links) c.self.view_is
+    (stops (window_from code c.self.inside.next c.args.blocks.now) (starts g at))) c.run.ensures.stopped
