@@ -10,10 +10,10 @@ use Rattle.std.proofs.lemmas.List.Sorted.{IsPermutation-append_comm, IsPermutati
 use Rattle.std.proofs.lemmas.Simd.{map-map}
 use Rattle.coded_traffic.specs.Traffic.{Key, Window, keys_of, packet_of, traffic_of}
 use Rattle.generation_frame.specs.declared.frame.Packet.{Packet}
-use Rattle.lif_outside.proofs.OpenLaws.{still-closed}
+use Rattle.lif_outside.proofs.OpenLaws.{as_before, still-closed}
 use Rattle.lif_outside.specs.LinksAccounts.{LinksAccounts, holding}
 use Rattle.lif_outside.specs.MoveLaws.{flights_given-append, pairs_put-append}
-use Rattle.lif_outside.specs.Moves.{InFlight, Move, flights_given, is_fault, pairs_put, took, took_none}
+use Rattle.lif_outside.specs.Moves.{InFlight, IsOpenAsBefore, Move, flights_given, is_fault, pairs_put, took, took_none}
 use Rattle.lif_outside.specs.declared.links.Flight.{Flight}
 use Rattle.lif_outside.specs.declared.links.Links.{Ghosts as LinksGhosts}
 use Rattle.node_program.specs.declared.code.Code.{Code}
@@ -95,6 +95,12 @@ module _ {L : Type 0} (g : LinksGhosts L) (code : Code) (pattern : ℕ) (window 
 
   module _ (accounts : (made : List Move) (old new : L) → g.moves made old new
       → LinksAccounts (holding g.flying g.room g.seed g.repeats) g.faithful g.faults g.sent g.given made old new) where
+    -- the room and the number stay
+    pub still-open : (before now : L) (relays : List Relay) (sinks : List (Option Receiver)) → IsUnderway g code pattern window before now relays sinks
+        → IsOpenAsBefore (holding g.flying g.room g.seed g.repeats before) (holding g.flying g.room g.seed g.repeats now)
+    still-open before now relays sinks under =
+        as_before (g.faithful before) under.moves _ _ under.closed (accounts under.moves before now under.calls).follows
+
     -- what the source gives, put where nothing flew, is the run of no steps
     pub underway-first : (relays : List Relay) (sinks : List (Option Receiver)) → Starts code pattern window relays sinks
         → (source new : Relay) → slice_get relays code.net.source ≡ Some source → (more : List Packet) → GivesEach source more new

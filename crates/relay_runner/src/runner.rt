@@ -181,6 +181,9 @@ impl<'c, F: Field> Runner<'c, F> {
             (window_from self.old.code self.old.next blocks.now) links.old links.new
             self.new.relays self.new.sinks) }
         ensures whole { OnOk result (HasCarried self.new) }
+        ensures quiet { OnOk result (K.flying links.new ≡ []) }
+        ensures room { OnOk result (K.room links.new ≡ K.room links.old) }
+        ensures seed { OnOk result (K.seed links.new ≡ K.seed links.old) }
         ensures stopped { OnErr result (StopsCarrying K.Links self.old.code self.old.pattern
             (window_from self.old.code self.old.next blocks.now) links.old links.new) }
     {

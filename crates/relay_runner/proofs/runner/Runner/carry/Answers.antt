@@ -5,6 +5,7 @@ use Rattle.node_stations.proofs.PuttingLaws.{on_err-then, on_ok-then}
 use Rattle.node_stations.specs.declared.station.Station.{Station}
 use Rattle.relay_runner.proofs.RunningLaws.{has-carried}
 use Rattle.relay_runner.proofs.StartingLaws.{made-start, seen-count, start-planned}
+use Rattle.relay_runner.proofs.UnderwayLaws.{still-open}
 use Rattle.relay_runner.specs.Carrying.{Carries, StopsCarrying}
 use Rattle.relay_runner.specs.Running.{Running, Starts, window_from}
 use Rattle.station_table.specs.Table.{relays_of, sinks_of}
@@ -88,6 +89,30 @@ returns-clause-whole g c =
     on_ok-then c.run.result (λ carries.
     has-carried g.K.Links (runner_begun g at) c.run.new.self c.run.ensures.work window refl (counted g at) c.args.links.now c.run.new.links
     (carries window (starts g at))) c.run.ensures.carried
+
+pub returns-clause-quiet : goal.returns-clause-quiet
+returns-clause-quiet g c =
+    let at = (goal.at.returns-clause-quiet g c).After-start_window-count in
+    let window = window_from c.self.inside.code.now c.self.inside.next c.args.blocks.now in
+    on_ok-then c.run.result (λ carries. (carries window (starts g at)).quiet) c.run.ensures.carried
+
+pub returns-clause-room : goal.returns-clause-room
+returns-clause-room g c =
+    let at = (goal.at.returns-clause-room g c).After-start_window-count in
+    let code = c.self.inside.code.now in
+    let window = window_from code c.self.inside.next c.args.blocks.now in
+    on_ok-then c.run.result (λ carries.
+    (still-open g.K.Links code c.self.inside.pattern window g.met.K.Links.accounts c.args.links.now c.run.new.links c.run.new.self.relays c.run.new.self.sinks
+    (carries window (starts g at)).carried).same_room) c.run.ensures.carried
+
+pub returns-clause-seed : goal.returns-clause-seed
+returns-clause-seed g c =
+    let at = (goal.at.returns-clause-seed g c).After-start_window-count in
+    let code = c.self.inside.code.now in
+    let window = window_from code c.self.inside.next c.args.blocks.now in
+    on_ok-then c.run.result (λ carries.
+    (still-open g.K.Links code c.self.inside.pattern window g.met.K.Links.accounts c.args.links.now c.run.new.links c.run.new.self.relays c.run.new.self.sinks
+    (carries window (starts g at)).carried).same_seed) c.run.ensures.carried
 
 pub returns-clause-stopped : goal.returns-clause-stopped
 returns-clause-stopped g c =
