@@ -20,7 +20,7 @@ use Rattle.relay_runner.proofs.StoppingLaws.{stops-first}
 use Rattle.relay_runner.proofs.UnderwayLaws.{carries, has_carried, stops-carrying, underway-first, underway-more, underway-none}
 use Rattle.relay_runner.specs.Carrying.{Carries, IsUnderway, StopsCarrying}
 use Rattle.relay_runner.specs.Runner.{IsSameWork}
-use Rattle.relay_runner.specs.Running.{CanStart, HasCarried, IsRunning, Running, StandAt, Starts}
+use Rattle.relay_runner.specs.Running.{CanStart, HasCarried, IsRunning, Running, Starts}
 use Rattle.relay_runner.specs.Stepping.{Steps, StopsStepping}
 use Rattle.run_states.proofs.CountLaws.{room-first}
 use Rattle.sink_decoder.specs.Receiving.{Receiver}
@@ -66,16 +66,17 @@ module _ {L : Type 0} (g : LinksGhosts L) {F : Type 0} (code : Code) (pattern : 
     -- where a put fails
     pub first-stops : (new : Relay) (after : L) → StopsPutting g before after station.node new → StopsCarrying g code pattern window before after
     first-stops new after stops =
-        stops-first g code pattern window (relays_of stations) (sinks_of stations) starts station.node new at_source stops.packets stops.last stops.given before after
-        stops.calls
+        stops-first g code pattern window (relays_of stations) (sinks_of stations) starts station.node new at_source stops.packets stops.last stops.given
+        before after stops.calls
 
     -- what it puts is the run of no steps
     pub first-under : Account g → (new : Relay) (after : L) → PutsDue g before after station.node new
         → IsUnderway g code pattern window before after (relays_of (after_puts new)) (sinks_of (after_puts new))
     first-under accounts new after due =
-        subst (λ (sinks : List (Option Receiver)). IsUnderway g code pattern window before after (relays_of (after_puts new)) sinks) (sym (same-sinks stations place station is new))
-        (underway-first g code pattern window accounts (relays_of stations) (sinks_of stations) starts station.node new at_source due.puts.packets due.puts.given
-        due.none (relays_of (after_puts new)) (replaced new) before after quiet due.puts.calls)
+        subst (λ (sinks : List (Option Receiver)). IsUnderway g code pattern window before after (relays_of (after_puts new)) sinks)
+        (sym (same-sinks stations place station is new))
+        (underway-first g code pattern window accounts (relays_of stations) (sinks_of stations) starts station.node new at_source due.puts.packets
+        due.puts.given due.none (relays_of (after_puts new)) (replaced new) before after quiet due.puts.calls)
 
     -- and the stations keep their plans
     pub first-planned : Account g → (new : Relay) (after : L) → PutsDue g before after station.node new
@@ -126,14 +127,6 @@ on-same P start now work p =
     subst (λ (pattern : ℕ). P start.code pattern) work.pattern (subst (λ (code : Code). P code now.pattern) work.code p)
 
 module _ {L : Type 0} (g : LinksGhosts L) (start now : Running) (before mid : L) (way : IsOnWay g start now before mid) where
-  -- it stands at a state of the window that it can start
-  pub stands : StandAt now.code now.pattern now.relays now.sinks (g.flying mid)
-  stands =
-      let under = way.under way.can.window way.can.starts in
-      subst (λ (code : Code). StandAt code now.pattern now.relays now.sinks (g.flying mid)) (sym way.work.code)
-      (subst (λ (pattern : ℕ). StandAt start.code pattern now.relays now.sinks (g.flying mid)) (sym way.work.pattern)
-      (record { window = way.can.window; run = under.run; state = under.state; running = under.running }))
-
   -- a turn that moved
   abbrev Moves : L → Running → Code → ℕ → Type 0
   Moves after next code pattern =

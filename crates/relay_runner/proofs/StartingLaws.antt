@@ -1,6 +1,6 @@
 -- Stations that have begun a window, and of which the source was fed its blocks, can start it.
-use Rattle.std.specs.Prelude.{◌≡◌, ◌<◌, ◌*◌, ℕ, List, None, Option, Some, get_or, length, slice_get}
-use Rattle.std.proofs.Common.{arith, ap, inl, inr, refl, subst, sym, ◌∙◌}
+use Rattle.std.specs.Prelude.{◌≡◌, ◌<◌, ◌*◌, ℕ, true, List, None, Option, Some, get_or, length, slice_get}
+use Rattle.std.proofs.Common.{arith, ap, eq-eqb, inl, inr, refl, subst, sym, ◌∙◌}
 use Rattle.std.proofs.lemmas.Bool.{cases_eq}
 use Rattle.std.proofs.lemmas.List.{length-map}
 use Rattle.std.proofs.lemmas.List.FromFn.{length-map-range_with_len}
@@ -8,6 +8,7 @@ use Rattle.std.proofs.lemmas.Option.{same_Some}
 use Rattle.coded_traffic.specs.Traffic.{Window}
 use Rattle.generation_frame.specs.Blocks.{row_bytes}
 use Rattle.linear_algebra.specs.Elements.{AreBytes}
+use Rattle.node_plans.specs.declared.plan.Plan.{Plan}
 use Rattle.node_program.specs.declared.code.Code.{Code}
 use Rattle.node_states.specs.Shown.{IsFedAll, IsReplaced, WorksOn}
 use Rattle.node_stations.specs.Delivering.{AtSink}
@@ -23,7 +24,15 @@ use Rattle.sink_decoder.specs.Receiving.{Receiver, sink_plan_of}
 use Rattle.station_table.proofs.FeedingLaws.{block_of}
 use Rattle.station_table.proofs.ReadyLaws.{are_blocks, fed_all}
 use Rattle.station_table.specs.Fed.{AreFed}
-use Rattle.station_table.specs.Table.{ArePlanned, HasBegun, HaveBegun, relays_of, sinks_of}
+use Rattle.station_table.specs.Table.{ArePlanned, HaveBegun, relays_of, sinks_of}
+
+-- a source that can be fed so many blocks of a code from a number on
+pub record IsReadySource (code : Code) (from many : ℕ) (relay : Relay) : Type 0 where
+  pub source : relay.plan.is_source ≡ true
+  pub first : relay.first ≡ from
+  pub count : relay.count ≡ many
+  pub nothing : nodes.HasNothing relay
+  pub size : code.rate * row_bytes ≡ relay.plan.rate * row_bytes
 
 -- as many blocks as the window has
 window-count : (code : Code) (first : ℕ) (blocks : List ℕ) → length (window_from code first blocks).blocks ≡ count_in code blocks
@@ -96,18 +105,29 @@ module _ (code : Code) (pattern first : ℕ) (blocks : List ℕ) where
       at_source : slice_get (relays_of mid) code.net.source ≡ Some station.node
       at_source = ap (slice_get (relays_of mid)) (sym place_is) ∙ node-at mid place station is source-below
 
-      -- it works on the window, and nothing came to it
-      pub source-works : WorksOn code pattern code.net.source window station.node
+      -- it works on the window
+      source-works : WorksOn code pattern code.net.source window station.node
       source-works = works-begun code.net.source station.node at_source
 
-      pub source-begun : HasBegun first (count_in code blocks) station.node station.node
-      source-begun =
-          let from = begun.nodes code.net.source station.node at_source in
-          record { same_plan = refl; from_first = from.2.from_first; has_count = from.2.has_count; nothing = from.2.nothing }
+      -- it can be fed the blocks
+      pub source-ready : IsReadySource code first (count_in code blocks) station.node
+      source-ready =
+          let begins = (begun.nodes code.net.source station.node at_source).2 in
+          record {
+            source = ap (λ (plan : Plan). plan.is_source) source-works.plan ∙ eq-eqb code.net.source code.net.source refl;
+            first = begins.from_first;
+            count = begins.has_count;
+            nothing = begins.nothing;
+            size = ap (λ (plan : Plan). plan.rate * row_bytes) (sym source-works.plan);
+          }
+
+      -- the stations then
+      abbrev fed_stations : Relay → List (Station F)
+      fed_stations = with_node mid place station is
 
       -- Where it is fed the blocks, the stations can start.
       pub can-start : pattern < length code.net.patterns → AreBlocks code first blocks → AreBytes blocks → (fed : Relay) → AreFed window station.node fed
-          → Starts code pattern window (relays_of (with_node mid place station is fed)) (sinks_of (with_node mid place station is fed))
+          → Starts code pattern window (relays_of (fed_stations fed)) (sinks_of (fed_stations fed))
       can-start pattern_is are bytes fed feeds =
           record {
             pattern_is = pattern_is;
@@ -128,19 +148,19 @@ module _ (code : Code) (pattern first : ℕ) (blocks : List ℕ) where
               source = λ relay at. subst (IsFedAll code pattern window) (same_Some fed relay (sym replaced.at ∙ at)) fed_blocks;
               nothing = λ node relay other at. nothing-begun node relay (sym (replaced.others node other) ∙ at);
               receivers =
-                  subst (λ (sinks : List (Option Receiver)). AreSinks code sinks (λ place sink. IsReadySink code (demand_of code pattern place) window sink))
+                  subst
+                  (λ (sinks : List (Option Receiver)). AreSinks code sinks (λ place sink. IsReadySink code (demand_of code pattern place) window sink))
                   (sym (same-sinks mid place station is fed)) sinks-ready;
             };
           }
         where
-          replaced : IsReplaced code.net.source fed (relays_of mid) (relays_of (with_node mid place station is fed))
+          replaced : IsReplaced code.net.source fed (relays_of mid) (relays_of (fed_stations fed))
           replaced =
-              subst (λ (n : ℕ). IsReplaced n fed (relays_of mid) (relays_of (with_node mid place station is fed))) place_is
+              subst (λ (n : ℕ). IsReplaced n fed (relays_of mid) (relays_of (fed_stations fed))) place_is
               (node-replaced mid place station is source-below fed)
 
-          found : (node : ℕ) (relay : Relay) → node ≡ code.net.source → slice_get (relays_of (with_node mid place station is fed)) node ≡ Some relay → fed ≡ relay
-          found node relay here at =
-              same_Some fed relay (sym replaced.at ∙ ap (slice_get (relays_of (with_node mid place station is fed))) (sym here) ∙ at)
+          found : (node : ℕ) (relay : Relay) → node ≡ code.net.source → slice_get (relays_of (fed_stations fed)) node ≡ Some relay → fed ≡ relay
+          found node relay here at = same_Some fed relay (sym replaced.at ∙ ap (slice_get (relays_of (fed_stations fed))) (sym here) ∙ at)
 
           fed_blocks : IsFedAll code pattern window fed
           fed_blocks =

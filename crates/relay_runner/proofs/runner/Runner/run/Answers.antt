@@ -70,6 +70,6 @@ is_quiet Quiet not = refl
 
 pub returns-clause-carried : goal.returns-clause-carried
 returns-clause-carried g c =
-    let quiet = is_quiet c.in_ok-turn.field-0 c.in_default-2.not-Moved in
+    let quiet = ap (λ (turn : Turn). Ok turn) (is_quiet c.in_ok-turn.field-0 c.in_default-2.not-Moved) in
     way-ends g.K.Links c.args.self.now c.turns.self c.args.links.now c.turns.links c.turns.invariant g.met.K.Links.accounts g.met.K.Links.more_moves
-    c.turn.new.self c.turn.new.links (c.in_ok-turn.ensures.same (ap (λ (turn : Turn). Ok turn) quiet)) (c.in_ok-turn.ensures.quiet (ap (λ (turn : Turn). Ok turn) quiet)) (c.in_ok-turn.ensures.none (ap (λ (turn : Turn). Ok turn) quiet))
+    c.turn.new.self c.turn.new.links (c.in_ok-turn.ensures.same quiet) (c.in_ok-turn.ensures.quiet quiet) (c.in_ok-turn.ensures.none quiet)
