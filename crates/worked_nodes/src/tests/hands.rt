@@ -1,6 +1,5 @@
 //! A node and a sink, of which a call is made only where it may be: that is looked at when it is made.
 ghost use Rattle.std.specs.Prelude.{◌≡◌, ◌<◌, ◌≤◌, ◌+◌, ◌^◌, true, length};
-ghost use Rattle.failure_patterns.specs.Demands.{number_of};
 ghost use Rattle.gf_tables.specs.Kind.{IsOfKind};
 ghost use Rattle.relay_node.specs.Relay.{HasNothing};
 

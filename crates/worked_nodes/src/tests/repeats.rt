@@ -11,7 +11,7 @@ use std::alloc::Global;
 use std::test;
 use worked_rows::files::{BUTTERFLY, ONE_LINK};
 
-// A node of a code over the field of 256 elements, where no link fails.
+/// A node of a code over the field of 256 elements, where no link fails.
 #[tactic(auto, unfolding(gf_tables::specs::Product::product))]
 pub(super) fn worker(
     alloc: Global,
@@ -46,7 +46,7 @@ fn taker(alloc: Global, code: &Checked, span: Span) -> Result<Taker<Gf8>, Wrong>
     }
 }
 
-// A packet of so many times one byte.
+/// A packet of so many times one byte.
 pub(super) fn packet_of(link: u32, generation: u32, piece: u8, byte: u8) -> Packet {
     Packet {
         link,
