@@ -19,7 +19,7 @@ use Rattle.node_stations.specs.Given.{IsGivenOf}
 use Rattle.node_stations.specs.Passing.{FailsPassing, HasRoomAfter, Passes}
 use Rattle.node_stations.specs.declared.station.Station.{Station}
 use Rattle.relay_core.specs.Core.{Delivery, RelayState}
-use Rattle.relay_node.specs.Relay.{IsBegun, Relay}
+use Rattle.relay_node.specs.Relay.{IsBegun}
 use Rattle.relay_runner.proofs.TurningLaws as turning
 use Rattle.relay_runner.specs.Running.{IsRunning}
 use Rattle.relay_runner.specs.Stepping.{Steps, StopsStepping}

@@ -1,10 +1,9 @@
 -- A pair that links gave, and the station that its packet comes to.
-use Rattle.std.specs.Prelude.{◌≡◌, ◌<◌, ◌≤◌, ◌+◌, ◌*◌, ◌∷◌, ◌++◌, ℕ, Bool, true, false, Contains, IfSome, IsPermutation, List, [], None, Option, Some, drop, if◌then◌else◌, length, map, slice_get, take}
+use Rattle.std.specs.Prelude.{◌≡◌, ◌≤◌, ◌*◌, ◌∷◌, ◌++◌, ℕ, Bool, true, false, Contains, IfSome, List, [], None, Option, Some, drop, if◌then◌else◌, length, slice_get, take}
 use Rattle.std.proofs.Common.{arith, ap, refl, subst, sym, ◌∙◌}
 use Rattle.std.proofs.lemmas.List.{length-map}
 use Rattle.std.proofs.lemmas.List.Sorted.{Contains-permutation, IsPermutation-sym, length_permutation}
 use Rattle.coded_traffic.specs.Traffic.{IsKey, Window, key_of}
-use Rattle.generation_frame.specs.Blocks.{pieces}
 use Rattle.generation_frame.specs.Frames.{packet_in}
 use Rattle.generation_frame.specs.declared.frame.Packet.{Packet}
 use Rattle.lif_outside.specs.LinksAccounts.{LinksAccounts, holding}
@@ -15,14 +14,14 @@ use Rattle.net_model.specs.Walks.{head_of}
 use Rattle.node_program.specs.declared.code.Code.{Code}
 use Rattle.node_states.proofs.DeliveryLaws as deliveries
 use Rattle.node_states.specs.Shown.{IsReplaced, ShowsSink}
-use Rattle.node_stations.specs.Delivering.{AtSink, NodeTakes, SinkTakes}
+use Rattle.node_stations.specs.Delivering.{AtSink, SinkTakes}
 use Rattle.node_stations.specs.Given.{IsGivenOf, IsOfPut}
 use Rattle.node_stations.specs.Opening.{IsAt, demand_of, place_of}
 use Rattle.node_stations.specs.Passing.{FailsPassing, HasRoomAfter, Passes}
 use Rattle.node_stations.specs.Putting.{flight_of, puts_of}
 use Rattle.relay_core.proofs.Kept.{Kept}
 use Rattle.relay_core.proofs.RunLaws.{reached-kept, run-more}
-use Rattle.relay_core.specs.Core.{Delivery, RelayState, held_after}
+use Rattle.relay_core.specs.Core.{Delivery, RelayState}
 use Rattle.relay_node.specs.Relay.{IsBegun, Relay}
 use Rattle.relay_runner.proofs.StoppingLaws.{stops-put}
 use Rattle.relay_runner.specs.Running.{IsRunning}
@@ -33,7 +32,7 @@ use Rattle.run_states.proofs.PassingLaws.{comes-into, passes_on, stops_passing}
 use Rattle.run_states.proofs.StepLaws as laws
 use Rattle.run_states.proofs.StepLaws.{delivered-comes, delivered-key, flying-fit, stepped}
 use Rattle.run_states.specs.Delivered.{IsDelivered, packet_given}
-use Rattle.run_states.specs.Passing.{Comes, PassesOn}
+use Rattle.run_states.specs.Passing.{Comes}
 use Rattle.run_states.specs.Showing.{packets_in}
 use Rattle.sink_decoder.specs.Receiving as receiving
 use Rattle.sink_decoder.specs.Receiving.{Receiver}

@@ -1,4 +1,4 @@
-use Rattle.std.proofs.Common.{[], ◌∷◌, List, Ok, Option, Some, subst}
+use Rattle.std.proofs.Common.{[], ◌∷◌, Ok, Option, subst}
 use Rattle.lif_outside.specs.Moves.{take_move}
 use Rattle.lif_outside.specs.declared.links.Flight.{Flight}
 use Rattle.node_stations.proofs.PuttingLaws.{on_err}
