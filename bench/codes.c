@@ -7,6 +7,10 @@
 // of the middle node's own element. A sink has links from middle nodes that follow one another in a ring, and gets by
 // them what these got. Pattern p fails the source's link p, counted in a ring too.
 //
+// `node` takes a number of links. It is a code of rate 2 over the field of 256 elements: two links from the source, one for
+// each row, lead into a node, and so many links from that to the sink. Link number j of them carries the first row and the
+// second one times power j of an element.
+//
 // A decoder has the first links into its sink that carry anything, and is the inverse of what they carry.
 #include <stdint.h>
 #include <stdio.h>
@@ -129,6 +133,20 @@ static void fill_fan(struct code *code, unsigned middles, unsigned into) {
             unsigned middle = (sink + step) % middles;
             add_operand(add_link(code, 1 + middle, 1 + middles + sink), middle, 1);
         }
+    }
+}
+
+// Node 1 adds up what comes on the two links into it, on each link out with another coefficient.
+static void fill_node(struct code *code, unsigned outs) {
+    code->field = 8;
+    code->rate = 2;
+    code->nodes = 3;
+    code->sinks = 1;
+    for (unsigned row = 0; row < 2; row++) add_operand(add_link(code, 0, 1), row, 1);
+    for (unsigned out = 0; out < outs; out++) {
+        struct link *link = add_link(code, 1, 2);
+        add_operand(link, 0, 1);
+        add_operand(link, 1, power(8, 2, out % 255));
     }
 }
 
@@ -365,7 +383,7 @@ static int write_code(struct code *code) {
 }
 
 static int say_usage(void) {
-    fprintf(stderr, "usage: codes butterfly | fan FIELD RATE MIDDLES SINKS INTO PATTERNS\n");
+    fprintf(stderr, "usage: codes butterfly | node LINKS | fan FIELD RATE MIDDLES SINKS INTO PATTERNS\n");
     return 2;
 }
 
@@ -392,8 +410,16 @@ static int run_fan(struct code *code, char **words) {
     return write_code(code);
 }
 
+static int run_node(struct code *code, const char *word) {
+    unsigned outs = number(word);
+    if (outs < 2 || outs > MOST_LINKS - 2) return say_usage();
+    fill_node(code, outs);
+    return write_code(code);
+}
+
 int main(int count, char **words) {
     static struct code code;
+    if (count == 3 && strcmp(words[1], "node") == 0) return run_node(&code, words[2]);
     if (count == 8 && strcmp(words[1], "fan") == 0) return run_fan(&code, words + 2);
     if (count != 2 || strcmp(words[1], "butterfly") != 0) return say_usage();
     fill_butterfly(&code);
