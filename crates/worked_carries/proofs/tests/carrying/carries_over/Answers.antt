@@ -1,0 +1,32 @@
+use Rattle.std.specs.Prelude.{◌≤◌, ◌*◌, length}
+use Rattle.std.proofs.Common.{◌∙◌, arith, refl, subst}
+use Rattle.node_program.specs.declared.code.Code.{Code}
+use Rattle.worked_carries.proofs.OpenedLaws.{just_opened}
+use Rattle.worked_carries.proofs.tests.carrying.carries_over.Goals as goal
+
+-- the links were just opened
+pub windows-init : goal.windows-init
+windows-init g c =
+    let runner = c.in-Ok-open.ensures in
+    let links = just_opened g.K.Links c.args.course.seed (32 * length c.args.checked.now.net.links) c.args.links.now c.open.new.links
+    g.met.K.Links.accounts runner.opened in
+    record {
+      same_code = runner.code;
+      works = runner.works;
+      nothing_flies = links.0;
+      room = links.1;
+      next = omega (arith, runner.next);
+    }
+
+-- a window more
+pub windows-preserved : goal.windows-preserved
+windows-preserved g c =
+    let before = c.windows.invariant in
+    let after = c.if-not-carries_window.ensures in
+    record {
+      same_code = after.code ∙ before.same_code;
+      works = after.works refl;
+      nothing_flies = after.nothing_flies refl;
+      room = subst (λ (code : Code). 32 * length code.net.links ≤ g.K.Links.room c.carries_window.new.links) before.same_code (after.room refl);
+      next = omega (arith, after.next, before.next);
+    }

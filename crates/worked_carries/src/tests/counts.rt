@@ -1,0 +1,80 @@
+//! How many frames are put for a block, and which bytes they have.
+use super::carrying::{Course, carries};
+use super::codes::checked_of;
+use super::watched::Watched;
+use lif_outside::SeedLinks;
+use std::alloc::Global;
+use std::test;
+use std::thread::Threads;
+use worked_rows::files::{BUTTERFLY, ONE_LINK, TWO_WAYS};
+
+// How many frames a code puts for a block under a pattern, and the frame of one piece on one link.
+fn put_for<R: Threads + Sync>(
+    rt: &R,
+    alloc: Global,
+    file: &[u8],
+    pattern: u32,
+    block: &[u8],
+    link: u32,
+    piece: u8,
+) -> Option<(u32, Option<[u8; 140]>)> {
+    let code = checked_of(rt, alloc, file)?;
+    let course = Course {
+        pattern,
+        seed: 0,
+        blocks: 1,
+        windows: 1,
+    };
+    let mut links = Watched {
+        links: SeedLinks::new(alloc),
+        link,
+        piece,
+        puts: 0,
+        frame: None,
+    };
+    carries(alloc, &code, course, &mut links, block).then_some((links.puts, links.frame))
+}
+
+// Whether so many frames are put, among them one with these bytes and then one byte again and again.
+fn are_put(put: Option<(u32, Option<[u8; 140]>)>, puts: u32, front: &[u8], rest: u8) -> bool {
+    let Some((count, Some(frame))) = put else {
+        return false;
+    };
+    count == puts
+        && frame.starts_with(front)
+        && frame.iter().skip(front.len()).all(|byte| *byte == rest)
+}
+
+#[test]
+fn the_block_of_one_byte_goes_over_one_link(rt: HostRuntime) {
+    let mut block = [0; 1024];
+    block[3] = 1;
+    block[4] = 0x41;
+    let put = put_for(&rt, rt.alloc(), ONE_LINK, 0, &block, 0, 0);
+    let front = b"\x4c\x46\x01\x00\x00\x00\x00\x00\x00\x00\x00\x00\x00\x00\x00\x01\x41";
+    assert!(rt; are_put(put, 8, front, 0));
+}
+
+#[test]
+fn the_middle_of_the_butterfly_carries_the_sum_of_the_rows(rt: HostRuntime) {
+    let mut block = [7; 2048];
+    block[..4].copy_from_slice(b"\x00\x00\x07\xd0");
+    block[2004..].fill(0);
+    let first = put_for(&rt, rt.alloc(), BUTTERFLY, 0, &block, 6, 0);
+    let front = b"\x4c\x46\x01\x00\x00\x00\x00\x06\x00\x00\x00\x00\x07\x07\x00\xd7";
+    assert!(rt; are_put(first, 72, front, 0), "piece 0");
+    let last = put_for(&rt, rt.alloc(), BUTTERFLY, 0, &block, 6, 7);
+    let mut front = [0; 96];
+    front[..12].copy_from_slice(b"\x4c\x46\x01\x07\x00\x00\x00\x06\x00\x00\x00\x00");
+    assert!(rt; are_put(last, 72, &front, 7), "piece 7");
+}
+
+#[test]
+fn only_live_links_carry_frames(rt: HostRuntime) {
+    // Where the link from `s` to `a` fails, that behind it carries nothing either.
+    for (pattern, live) in [(0, 4), (1, 2)] {
+        let put = put_for(&rt, rt.alloc(), TWO_WAYS, pattern, &[9; 1024], 3, 0);
+        let puts = put.map(|(puts, _)| puts);
+        assert!(rt; puts == Some(8 * live), "{pattern}");
+    }
+}

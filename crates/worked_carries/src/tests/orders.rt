@@ -1,0 +1,106 @@
+//! The order in which links deliver.
+use super::carrying::{Course, carries};
+use super::codes::checked_of;
+use lif_outside::{ListLinks, SeedLinks};
+use std::alloc::Global;
+use std::test;
+use std::thread::Threads;
+use worked_rows::files::{BUTTERFLY, DOUBLED_ONE_LINK, ONE_LINK, TWO_WAYS, WIDE_ONE_LINK};
+
+// Bytes of blocks that differ from place to place.
+fn source_of(alloc: Global, length: usize) -> Option<Vec<u8>> {
+    let mut source = Vec::with_capacity(alloc, length).ok()?;
+    for place in 0..length {
+        source
+            .push((place % 251) as u8 ^ (place / 251 % 241) as u8)
+            .ok()?;
+    }
+    Some(source)
+}
+
+// Picks of flying pairs: the first always, the last always, or as a rule says.
+fn picks_of(alloc: Global, rule: u32) -> Option<Vec<u32>> {
+    let mut picks = Vec::with_capacity(alloc, 400).ok()?;
+    for take in 0..400 {
+        picks
+            .push(match rule {
+                0 => 0,
+                1 => u32::MAX,
+                _ => take * 7 % 13,
+            })
+            .ok()?;
+    }
+    Some(picks)
+}
+
+// Whether two blocks come through a code in an order that a number decides.
+fn by_seed<R: Threads + Sync>(rt: &R, alloc: Global, file: &[u8], course: Course) -> Option<bool> {
+    let code = checked_of(rt, alloc, file)?;
+    let source = source_of(alloc, 16384)?;
+    let mut links = SeedLinks::new(alloc);
+    Some(carries(alloc, &code, course, &mut links, &source))
+}
+
+// Whether they do in an order that a list says.
+fn by_list<R: Threads + Sync>(
+    rt: &R,
+    alloc: Global,
+    file: &[u8],
+    course: Course,
+    rule: u32,
+) -> Option<bool> {
+    let code = checked_of(rt, alloc, file)?;
+    let source = source_of(alloc, 16384)?;
+    let picks = picks_of(alloc, rule)?;
+    let mut links = ListLinks::new(alloc, picks, Vec::new(alloc), Vec::new(alloc));
+    Some(carries(alloc, &code, course, &mut links, &source))
+}
+
+// Each code with its name, its file, and how many patterns it has.
+const CODES: [(&str, &[u8], u32); 5] = [
+    ("one link", ONE_LINK, 1),
+    ("doubled one link", DOUBLED_ONE_LINK, 1),
+    ("wide one link", WIDE_ONE_LINK, 1),
+    ("butterfly", BUTTERFLY, 1),
+    ("two ways", TWO_WAYS, 2),
+];
+
+#[test]
+fn a_number_decides_the_order(rt: HostRuntime) {
+    for (name, file, patterns) in CODES {
+        for pattern in 0..patterns {
+            for (seed, blocks) in [(0, 1), (1, 2), (7, 3), (u64::MAX, 4)] {
+                let course = Course {
+                    pattern,
+                    seed,
+                    blocks,
+                    windows: 2,
+                };
+                assert!(rt;
+                    by_seed(&rt, rt.alloc(), file, course) == Some(true),
+                    "{name} {pattern} {seed}"
+                );
+            }
+        }
+    }
+}
+
+#[test]
+fn a_list_says_the_order(rt: HostRuntime) {
+    for (name, file, patterns) in CODES {
+        for pattern in 0..patterns {
+            for rule in 0..3 {
+                let course = Course {
+                    pattern,
+                    seed: 0,
+                    blocks: 1,
+                    windows: 3,
+                };
+                assert!(rt;
+                    by_list(&rt, rt.alloc(), file, course, rule) == Some(true),
+                    "{name} {pattern} {rule}"
+                );
+            }
+        }
+    }
+}
