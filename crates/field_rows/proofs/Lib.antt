@@ -4,3 +4,4 @@ pub mod LookUps
 pub mod Added
 pub mod PairProducts
 pub mod PairLanes
+pub mod PlainSums

@@ -51,7 +51,7 @@ product_of_pair by d c below below_d below_c =
     rw (low, high, high_of_product a b c d (omega arith) (omega arith) below_d, low_of_product a b c d (omega arith) below_d) (omega arith)
 
 -- a byte to which a byte was added, and which is one again, was one
-byte_before : (old new low : ℕ) → new ≡ bit_xor old low → new < 256 → low < 256 → old < 256
+pub byte_before : (old new low : ℕ) → new ≡ bit_xor old low → new < 256 → low < 256 → old < 256
 byte_before old new low is below_new below_low =
     let back : bit_xor new low ≡ old = rw (is, xor_assoc old low low, xor_self low, xor_zero_r old) refl in
     rw back at (xor_lt 8 new low below_new below_low)

@@ -4,6 +4,7 @@
 mod lanes;
 mod nibbles;
 mod pairs;
+mod plain;
 mod row_tables;
 mod sharing;
 

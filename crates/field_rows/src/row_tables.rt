@@ -6,6 +6,7 @@ ghost use Rattle.linear_algebra.specs.Rows.{add_rows, scale_row};
 
 use crate::nibbles::NibbleTables;
 use crate::pairs::PairTables;
+use crate::plain::add_row;
 use gf_tables::{Field, FieldKind, Gf8, Poly11D};
 use std::array::from_fn;
 
@@ -57,7 +58,8 @@ impl RowTables {
         }
     }
 
-    /// Adds to each element of a row `by` times the element of another row at its place.
+    /// Adds to each element of a row `by` times the element of another row at its place. One time another row takes no
+    /// products.
     pub fn add_scaled(&self, field: FieldKind, into: &mut [u8], by: u32, from: &[u8])
         requires same_length { length into.old ≡ length from.now }
         requires whole { length from.now % bytes_of_element field ≡ 0 }
@@ -67,6 +69,10 @@ impl RowTables {
             ≡ add_rows (elements_of field into.old)
             (scale_row field by (elements_of field from.now)) }
     {
+        if by == 1 {
+            add_row(into, from);
+            return;
+        }
         match field {
             FieldKind::Eight => self.of_octet(by as u8).add_scaled(into, from),
             FieldKind::Sixteen => self.of_pair(by).add_scaled(into, from),

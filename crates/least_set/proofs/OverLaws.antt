@@ -1,18 +1,38 @@
 -- The words over the words of a set: what they say after a change, and that they lead to the least number.
-use Rattle.std.specs.Prelude.{◌≡◌, ◌≢◌, ◌<◌, ◌*◌, ◌/◌, ◌%◌, ◌^◌, ◌==◌, ℕ, zero, suc, List, [], ◌∷◌, ◌++◌, length, take, drop, slice_index_or, min, bit_or}
+use Rattle.std.specs.Prelude.{◌≡◌, ◌≢◌, ◌<◌, ◌≤◌, ◌*◌, ◌/◌, ◌%◌, ◌^◌, ◌==◌, ℕ, zero, suc, List, Option, None, Some, IfNone, IfSome, [], ◌∷◌, ◌++◌, length, take, drop, replicate, slice_index_or, min, bit_or}
 use Rattle.std.specs.Int.{bit_at, w64}
 use Rattle.std.proofs.Common.{refl, sym, ap, subst, ◌∙◌, arith, inl, inr}
-use Rattle.std.proofs.lemmas.Bool.{cases_Bool, eqb-false, eqb-true}
-use Rattle.std.proofs.lemmas.List.{append-nil, take_all}
+use Rattle.std.proofs.lemmas.Bool.{cases_Bool, cases_lt, eqb-false, eqb-true}
+use Rattle.std.proofs.lemmas.List.{append-nil, get_or-replicate, length-replicate, take_all}
 use Rattle.std.proofs.lemmas.Nat.Bits.{bit_at_set_other, bit_at_set_same}
-use Rattle.std.proofs.Math.ListN.{drop_of_length-le}
-use Rattle.least_set.specs.Members.{bit_of, SameElsewhere, SetsBit, ClearsBit, IsFirstBit, IsLeast, IsOver, Tells}
+use Rattle.std.proofs.Math.ListN.{drop_of_length-le, get_or-eq_default}
+use Rattle.least_set.specs.Members.{bit_of, SameElsewhere, SetsBit, ClearsBit, HasLeast, IsFirstBit, IsLeast, IsOver, Tells}
 use Rattle.least_set.proofs.WordLaws.{no_bit, some_from_bit}
 
 -- a list that was changed in place, and is as long as it was
 pub put_back : (count : ℕ) (old new : List ℕ) → count ≡ length old → length new ≡ length old → take count (new ++ drop (length new) old) ≡ new
 put_back count old new is same =
     ap (λ rest. take count (new ++ rest)) (drop_of_length-le old {i = length new} (omega (arith, same))) ∙ ap (take count) (append-nil new) ∙ take_all count new (omega (arith, is, same))
+
+-- words of zeros
+pub zeros : (count word : ℕ) → slice_index_or (replicate {A = ℕ} count 0) word 0 ≡ 0
+zeros count word = elim (cases_lt word count) [
+  | inl below ↦ get_or-replicate count word 0 0 below
+  | inr above ↦ let all : List ℕ = replicate count 0 in get_or-eq_default all 0 {n = word} (omega (arith, above, length-replicate {A = ℕ} count 0))
+]
+
+pub no_bits : (words : List ℕ) (count : ℕ) → words ≡ replicate count 0 → (number : ℕ) → bit_of words number ≡ 0
+no_bits words count is number = no_bit _ (number % 64) (ap (λ ws. slice_index_or ws (number / 64) 0) is ∙ zeros count (number / 64))
+
+pub over_zeros : (words over_words : List ℕ) (count count_over : ℕ) → words ≡ replicate count 0 → over_words ≡ replicate count_over 0
+    → length words ≤ 64 * length over_words → length words ≤ 4096 → length over_words ≤ 64 → IsOver words over_words 0
+over_zeros words over_words count count_over is is_over room few few_over = record {
+  first = λ word. no_bits over_words count_over is_over word ∙ sym (ap (min 1) (ap (λ ws. slice_index_or ws word 0) is ∙ zeros count word));
+  second = λ word. no_bit 0 word refl ∙ sym (ap (min 1) (ap (λ ws. slice_index_or ws word 0) is_over ∙ zeros count_over word));
+  room = room;
+  few = few;
+  few_over = few_over;
+}
 
 -- one of a number that isn't 0, and of 0
 pub min_some : (n : ℕ) → n ≢ 0 → 1 ≡ min 1 n
@@ -56,6 +76,48 @@ within_some [] word some = absurd (some refl)
 within_some (x ∷ words) zero some = omega arith
 within_some (x ∷ words) (suc word) some = omega (arith, within_some words word some)
 
+-- a number was added: the lesser of it and the least one is the least
+pub least_insert : (least : Option ℕ) (number lesser : ℕ) (words words' : List ℕ) → HasLeast least words → SetsBit number words words'
+    → IfSome least (λ other. lesser ≡ min other number) → IfNone least (lesser ≡ number) → HasLeast (Some lesser) words'
+least_insert None number lesser words words' has sets some none = record {
+  some = subst (λ n. IsLeast n (record { words = words' })) (sym none) (record {
+    within = sets.here;
+    least = λ other less. sets.others other (omega (arith, less)) ∙ has.none other;
+  });
+  none = tt;
+}
+least_insert (Some least) number lesser words words' has sets some none = record {
+  some = subst (λ n. IsLeast n (record { words = words' })) (sym some) (elim (cases_lt least number) [
+    | inl less ↦
+        let is : min least number ≡ least = omega (arith, less) in
+        subst (λ n. IsLeast n (record { words = words' })) (sym is) (record {
+          within = sets.others least (omega (arith, less)) ∙ has.some.within;
+          least = λ other below. sets.others other (omega (arith, below, less)) ∙ has.some.least other below;
+        })
+    | inr more ↦
+        let is : min least number ≡ number = omega (arith, more) in
+        subst (λ n. IsLeast n (record { words = words' })) (sym is) (record {
+          within = sets.here;
+          least = λ other below. sets.others other (omega (arith, below)) ∙ has.some.least other (omega (arith, below, more));
+        })
+  ]);
+  none = tt;
+}
+
+-- the least number was taken from a word that has others: the first of these is the least
+pub least_after : (words words' : List ℕ) (number first : ℕ) → IsLeast number (record { words = words }) → ClearsBit number words words'
+    → IsFirstBit (number / 64) first words' → IsLeast first (record { words = words' })
+least_after words words' number first was clears is = record {
+  within = is.set;
+  least = λ other less. elim (cases_Bool (other / 64 == number / 64)) [
+    | inl same ↦ is.before other (eqb-true _ _ same) less
+    | inr differs ↦
+        let apart : other / 64 ≢ number / 64 = eqb-false _ _ differs in
+        let earlier : other < number = omega (arith, less, is.place, apart) in
+        clears.others other (omega (arith, earlier)) ∙ was.least other earlier
+  ];
+}
+
 -- the first bit of each level leads to the least number
 pub is_least : (words over_words : List ℕ) (over_all top word number : ℕ) → IsOver words over_words over_all
     → ((i : ℕ) → i < top → bit_at over_all i ≡ 0) → IsFirstBit top word over_words → IsFirstBit word number words
@@ -96,7 +158,7 @@ over_insert words words' over_words over_words' over_all number over below sets 
       few_over = omega (arith, over.few_over, sets_over.long);
     }
 
--- a number was taken from a word that has others, and from one that had it alone
+-- a number was taken from a word that has others, or added to one, and was taken from one that had it alone
 pub over_kept : (words words' over_words : List ℕ) (over_all word : ℕ) → IsOver words over_words over_all → length words' ≡ length words
     → SameElsewhere word words words' → bit_of over_words word ≡ 1 → slice_index_or words' word 0 ≢ 0 → IsOver words' over_words over_all
 over_kept words words' over_words over_all word over long rest set some = record {
@@ -106,6 +168,11 @@ over_kept words words' over_words over_all word over long rest set some = record
   few = omega (arith, over.few, long);
   few_over = over.few_over;
 }
+
+pub over_more : (words words' over_words : List ℕ) (over_all number : ℕ) → IsOver words over_words over_all → SetsBit number words words'
+    → SameElsewhere (number / 64) words words' → slice_index_or words (number / 64) 0 ≢ 0 → IsOver words' over_words over_all
+over_more words words' over_words over_all number over sets rest some =
+    over_kept words words' over_words over_all (number / 64) over sets.long rest (over.first (number / 64) ∙ sym (min_some _ some)) (some_from_bit _ (number % 64) sets.here)
 
 pub over_left : (words words' over_words over_words' : List ℕ) (over_all over_all' word : ℕ) → IsOver words over_words over_all → length words' ≡ length words
     → SameElsewhere word words words' → ClearsBit word over_words over_words' → Tells over_words' (bit_at over_all') → slice_index_or words' word 0 ≡ 0 → IsOver words' over_words' over_all'

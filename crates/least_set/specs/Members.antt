@@ -1,5 +1,5 @@
 -- Sets of numbers as bits in words of 64, and the words that say which of them have any.
-use Rattle.std.specs.Prelude.{◌≡◌, ◌≢◌, ◌<◌, ◌≤◌, ◌*◌, ◌/◌, ◌%◌, ℕ, List, length, slice_index_or, min}
+use Rattle.std.specs.Prelude.{◌≡◌, ◌≢◌, ◌<◌, ◌≤◌, ◌*◌, ◌/◌, ◌%◌, ℕ, List, Option, IfNone, IfSome, length, slice_index_or, min}
 use Rattle.std.specs.Int.{bit_at}
 
 -- a set: the words of its bits
@@ -47,6 +47,11 @@ Loses number old new = ClearsBit number old.words new.words
 pub record IsLeast (number : ℕ) (set : Members) : Type 0 where
   pub within : has set number
   pub least : (other : ℕ) → other < number → bit_of set.words other ≡ 0
+
+-- the least number of a set, if it has any
+pub record HasLeast (least : Option ℕ) (words : List ℕ) : Type 0 where
+  pub some : IfSome least (λ number. IsLeast number (record { words = words }))
+  pub none : IfNone least (HasNone (record { words = words }))
 
 -- the first bit of a word
 pub record IsFirstBit (word number : ℕ) (words : List ℕ) : Type 0 where

@@ -1,18 +1,20 @@
 //! A set of numbers that gives its least one in the time of three words, however many there are.
 //!
 //! The bits of the numbers stand in words of 64; a bit above each word says whether it has any, in two levels, so
-//! that three words lead to the least number.
+//! that three words lead to the least number. That is found ahead, when the one before it is taken, so that it is at hand;
+//! where the word has another number, that word alone leads to it.
 #![tactic(auto)]
 
 ghost use Rattle.std.specs.Prelude.{◌≡◌, ◌≢◌, ◌<◌, ◌≤◌, ◌*◌, ◌+◌, length, IfOk, IfSome, IsNone, Some};
 
+mod levels;
 #[cfg(test)]
 mod tests;
 mod words;
 
+use levels::{add, lesser, take_away};
 use std::alloc::{AllocError, Global};
 use std::marker::Model;
-use words::{clear_bit, first_bit, first_of, leave_word, set_bit};
 
 /// The most numbers that a set has room for.
 pub const MOST: u32 = 262_144;
@@ -23,16 +25,19 @@ pub struct LeastSet {
     words: Vec<u64>,
     over_words: Vec<u64>,
     over_all: u64,
+    // The least number, if there is any.
+    least: Option<u32>,
 }
 
 impl Model for LeastSet {
-    ghost use Rattle.least_set.specs.Members.{Members, IsOver};
+    ghost use Rattle.least_set.specs.Members.{Members, HasLeast, IsOver};
 
     ghost Value = { Members };
 
     ghost view = { λ set. record { words = set.words.items } };
 
-    ghost invariant = { λ set. IsOver set.words.items set.over_words.items set.over_all };
+    ghost invariant = { λ set. IsOver set.words.items set.over_words.items set.over_all
+        × HasLeast set.least set.words.items };
 }
 
 impl LeastSet {
@@ -50,6 +55,7 @@ impl LeastSet {
             words: vec![in alloc; 0; words]?,
             over_words: vec![in alloc; 0; over]?,
             over_all: 0,
+            least: None,
         })
     }
 
@@ -61,6 +67,7 @@ impl LeastSet {
         self.words.fill(0);
         self.over_words.fill(0);
         self.over_all = 0;
+        self.least = None;
     }
 
     /// Adds a number.
@@ -68,10 +75,9 @@ impl LeastSet {
         requires { number < bound self.old }
         ensures { Gains number self.old self.new }
     {
-        let number = number as usize;
-        set_bit(&mut self.words, number);
-        set_bit(&mut self.over_words, number / 64);
-        self.over_all |= 1 << (number / 64 / 64);
+        let place = number as usize;
+        self.over_all = add(&mut self.words, &mut self.over_words, self.over_all, place);
+        self.least = Some(lesser(self.least, number));
     }
 
     /// Takes the least number away, if there is any.
@@ -80,15 +86,13 @@ impl LeastSet {
             (λ number. IsLeast number self.old × Loses number self.old self.new) }
         ensures none { IsNone result → HasNone self.old × (self.new ≡ self.old) }
     {
-        if self.over_all == 0 {
-            return None;
-        }
-        let top = first_of(self.over_all);
-        let word = first_bit(&self.over_words, top);
-        let number = first_bit(&self.words, word);
-        if clear_bit(&mut self.words, number) {
-            self.over_all = leave_word(&mut self.over_words, self.over_all, word);
-        }
-        Some(number as u32)
+        let number = self.least?;
+        self.least = take_away(
+            &mut self.words,
+            &mut self.over_words,
+            &mut self.over_all,
+            number as usize,
+        );
+        Some(number)
     }
 }

@@ -3,13 +3,17 @@ ghost use Rattle.std.specs.Prelude.{◌≡◌, ◌≢◌, ◌<◌, ◌*◌, ◌/
 ghost use Rattle.std.specs.Int.{bit_at};
 ghost use Rattle.least_set.specs.Members.{bit_of, SameElsewhere, SetsBit, ClearsBit, IsFirstBit, Tells};
 
-// Sets the bit of a number.
-pub fn set_bit(words: &mut [u64], number: usize)
+// Sets the bit of a number, and says whether its word had none before.
+pub fn set_bit(words: &mut [u64], number: usize) -> bool
     requires { number < 64 * length words.old }
     ensures bits { SetsBit number words.old words.new }
     ensures elsewhere { SameElsewhere (number / 64) words.old words.new }
+    ensures value { result ≡ (slice_index_or words.old (number / 64) 0 == 0) }
 {
-    words[number / 64] |= 1 << (number % 64);
+    let word = &mut words[number / 64];
+    let had_none = *word == 0;
+    *word |= 1 << (number % 64);
+    had_none
 }
 
 // Clears the bit of a number, and says whether its word has none then.

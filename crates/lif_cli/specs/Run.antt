@@ -1,5 +1,6 @@
 -- What the program promises, with the words as the system gave them.
 use Rattle.std.specs.Prelude.{◌≡◌, map, string_bytes}
+use Rattle.lif_outside.specs.declared.links.Links.{Ghosts as LinksGhosts}
 use Rattle.lif_outside.specs.declared.sink.Sink.{Ghosts as SinkGhosts}
 use Rattle.lif_outside.specs.declared.store.Store.{Ghosts as StoreGhosts}
 use Rattle.lif_outside.specs.Calls.{Objects}
@@ -16,7 +17,7 @@ use Rattle.lif_cli.specs.declared.run.Words.TheVariants.{Given, NoMemory, NotTex
 abbrev pub no_memory : Outcome
 no_memory = record { status = OutOfMemory; line = out_of_memory_line }
 
-module _ {S C : Type 0} {g : StoreGhosts S} {h : SinkGhosts C} (o : Objects g h) (status : Status) where
+module _ {S C L : Type 0} {g : StoreGhosts S} {h : SinkGhosts C} {k : LinksGhosts L} (o : Objects g h k) (status : Status) where
   -- an outcome comes at once: its status, and nothing is done but that its line is said
   abbrev pub EndsWith : Outcome → Type 0
   EndsWith outcome = (status ≡ outcome.status) × Performs (at_once outcome) o status

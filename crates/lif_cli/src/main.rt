@@ -15,6 +15,7 @@ mod say;
 mod tests;
 
 use disk::DiskStore;
+use lif_outside::SeedLinks;
 use run::{Words, run};
 use say::StdSay;
 use std::io::ErrorKind;
@@ -51,5 +52,6 @@ fn main(rt: HostRuntime) -> ExitCode {
     let words = words_or_why(&rt);
     let mut store = DiskStore::new(&rt);
     let mut say = StdSay::new(&rt);
-    run(&rt, rt.alloc(), words, &mut store, &mut say)
+    let mut links = SeedLinks::new(rt.alloc());
+    run(&rt, rt.alloc(), words, &mut store, &mut say, &mut links)
 }

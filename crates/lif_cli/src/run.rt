@@ -1,5 +1,5 @@
-//! A run of the program over a store and a sink, whatever they are.
-ghost use Rattle.std.specs.Prelude.{◌≡◌, ◌≤◌};
+//! A run of the program over a store, a sink and links, whatever they are.
+ghost use Rattle.std.specs.Prelude.{◌≡◌, ◌≤◌, []};
 ghost use Rattle.std.specs.Process.{exit_status};
 ghost use Rattle.lif_outside.specs.Calls.{KeepsStore, objects};
 ghost use Rattle.top_base.specs.Codes.{code_of};
@@ -9,7 +9,7 @@ ghost use Rattle.lif_cli.specs.Run.{RunsWords};
 #[cfg(test)]
 mod tests;
 
-use lif_outside::{NoGate, Sink, Store};
+use lif_outside::{Links, NoGate, Sink, Store};
 use lif_top::{Status, lif};
 use std::alloc::Global;
 use std::process::ExitCode;
@@ -27,21 +27,25 @@ pub enum Words {
 }
 
 // Does what the words say, and tells how it ended.
-fn end_of<S: Store, C: Sink, R: Threads + Sync>(
+fn end_of<S: Store, C: Sink, L: Links, R: Threads + Sync>(
     rt: &R,
     alloc: Global,
     words: Words,
     store: &mut S,
     say: &mut C,
+    links: &mut L,
 ) -> Status
+    requires { L.flying links.old ≡ [] }
     ensures runs { RunsWords
-        (objects S.Store C.Sink store.old store.new say.old say.new) result words }
+        (objects S.Store C.Sink L.Links store.old store.new say.old say.new links.old links.new)
+        result words }
     ensures counts { KeepsStore S.Store store.old store.new }
     ensures say_count { C.faults say.old ≤ C.faults say.new }
+    ensures link_count { L.faults links.old ≤ L.faults links.new }
 {
     match words {
-        Words::Given(words) => lif(rt, alloc, words.as_slice(), store, say, &NoGate),
-        Words::NotText => lif(rt, alloc, &[], store, say, &NoGate),
+        Words::Given(words) => lif(rt, alloc, words.as_slice(), store, say, links, &NoGate),
+        Words::NotText => lif(rt, alloc, &[], store, say, links, &NoGate),
         Words::NoMemory => {
             let _ = say.put(b"out of memory\n");
             Status::OutOfMemory
@@ -51,18 +55,22 @@ fn end_of<S: Store, C: Sink, R: Threads + Sync>(
 
 /// Does what the words say, and ends with the number of the status. Words that aren't text are no form. Where there
 /// was no memory for the words, nothing but that is said.
-pub fn run<S: Store, C: Sink, R: Threads + Sync>(
+pub fn run<S: Store, C: Sink, L: Links, R: Threads + Sync>(
     rt: &R,
     alloc: Global,
     words: Words,
     store: &mut S,
     say: &mut C,
+    links: &mut L,
 ) -> ExitCode
-    ensures status { (status : Status) × (exit_status result ≡ code_of status)
-        × RunsWords (objects S.Store C.Sink store.old store.new say.old say.new) status words }
+    requires { L.flying links.old ≡ [] }
+    ensures status { (status : Status) × (exit_status result ≡ code_of status) × RunsWords
+        (objects S.Store C.Sink L.Links store.old store.new say.old say.new links.old links.new)
+        status words }
     ensures counts { KeepsStore S.Store store.old store.new }
     ensures say_count { C.faults say.old ≤ C.faults say.new }
+    ensures link_count { L.faults links.old ≤ L.faults links.new }
 {
-    let status = end_of(rt, alloc, words, store, say);
+    let status = end_of(rt, alloc, words, store, say, links);
     ExitCode::from(status.code())
 }

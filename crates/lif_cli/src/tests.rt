@@ -8,7 +8,7 @@ mod words;
 
 use crate::disk::FileStore;
 use crate::run::{Words, run};
-use lif_outside::MemSink;
+use lif_outside::{MemSink, SeedLinks};
 use logged_store::{Event, Logged};
 use std::alloc::{AllocError, Global};
 use std::process::ExitCode;
@@ -157,7 +157,8 @@ fn sends<R: Threads + Sync>(
 ) -> bool {
     let mut store = Logged::new(alloc, disk);
     let mut say = MemSink::new(alloc, Vec::new(alloc));
-    let status = run(rt, alloc, words, &mut store, &mut say);
+    let mut links = SeedLinks::new(alloc);
+    let status = run(rt, alloc, words, &mut store, &mut say, &mut links);
     status == ExitCode::SUCCESS
         && say.bytes() == b"sent 70000 bytes in 69 generations to 1 sinks\n".as_slice()
         && has_delivered(&store, source)

@@ -198,7 +198,7 @@ due_stops these events stop front next rest e = ⊎_elim
 
 -- All reads, and then writes of what they bring, are mixed so.
 module _ (brings : List Event → List Event) (P : List Event → Type 0) (Q : List Event → List Event → Type 0) (reads writes : List Event) (are_reads : AreReads reads) (are_writes : AreWrites writes) where
-  reads_of_all : reads_in (reads ++ writes) ≡ reads
+  pub reads_of_all : reads_in (reads ++ writes) ≡ reads
   reads_of_all = reads-append reads writes ∙ ap (λ first. first ++ reads_in writes) (reads_all reads are_reads) ∙ ap (λ later. reads ++ later) (reads_none writes are_writes) ∙ append-nil reads
 
   writes_of_all : writes_in (reads ++ writes) ≡ writes

@@ -12,11 +12,11 @@ pub mod Streams
 pub mod Puts
 pub mod Accounts
 pub mod AccountLaws
-pub mod Calls
 pub mod Memory
 pub mod Moves
 pub mod LinksAccounts
 pub mod MoveLaws
 pub mod Seeded
+pub mod Calls
 pub mod Picks
 pub mod Listed

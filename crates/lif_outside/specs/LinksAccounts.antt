@@ -8,8 +8,8 @@ use Rattle.lif_outside.specs.Told.{Becomes}
 
 -- what flies on links, of the meanings that they give
 abbrev pub holding : {L : Type 0} → (L → List Flight) → (L → ℕ) → (L → ℕ) → (L → ℕ) → L → InFlight
-holding flying room seed repeats links =
-    record { flying = flying links; room = room links; seed = seed links; repeats = repeats links }
+holding flying room opened_with repeats links =
+    record { flying = flying links; room = room links; seed = opened_with links; repeats = repeats links }
 
 -- these were added at the end
 abbrev pub Adds : List Flight → List Flight → List Flight → Type 0

@@ -29,7 +29,7 @@ pub trait Links {
     ghost room: { Self → ℕ };
 
     /// The number that the links were opened with.
-    ghost seed: { Self → ℕ };
+    ghost opened_with: { Self → ℕ };
 
     /// How often a pair may still be given and kept, at most.
     ghost repeats: { Self → ℕ };
@@ -49,10 +49,10 @@ pub trait Links {
     /// These calls with their answers, in this order, lead from one state to the other.
     ghost moves: { List Move → Self → Self → Type 0 };
 
-    /// Makes room for `most` pairs, with a number that may decide in which order they are given.
-    fn open(&mut self, alloc: Global, number: u64, most: u32) -> Result<(), AllocError>
+    /// Makes room for `most` pairs, with a number, the seed, that may decide in which order they are given.
+    fn open(&mut self, alloc: Global, seed: u64, most: u32) -> Result<(), AllocError>
         requires { flying self.old ≡ [] }
-        ensures { moves (open_move number most result ∷ []) self.old self.new };
+        ensures { moves (open_move seed most result ∷ []) self.old self.new };
 
     /// Puts a frame on a link. Where it fails, nothing was put.
     fn put(&mut self, link: u32, frame: &[u8; 140]) -> Result<(), Failed>
@@ -73,6 +73,6 @@ pub trait Links {
     /// What flies follows the calls, and so do the pairs put and given, where they are told. The count doesn't fall,
     /// and a put or a take that failed has raised it.
     ghost accounts: { (made : List Move) (old new : Self) → moves made old new
-        → LinksAccounts (holding flying room seed repeats) faithful faults sent given
+        → LinksAccounts (holding flying room opened_with repeats) faithful faults sent given
         made old new };
 }

@@ -79,7 +79,7 @@ impl Links for ListLinks {
 
     ghost room = { λ links. (held_in links).room };
 
-    ghost seed = { λ links. (held_in links).seed };
+    ghost opened_with = { λ links. (held_in links).seed };
 
     ghost repeats = { λ links. (held_in links).repeats };
 
@@ -99,15 +99,15 @@ impl Links for ListLinks {
 
     ghost accounts = { λ _ _ _ h. h };
 
-    fn open(&mut self, alloc: Global, number: u64, most: u32) -> Result<(), AllocError>
+    fn open(&mut self, alloc: Global, seed: u64, most: u32) -> Result<(), AllocError>
         requires { (held_in self.old).flying ≡ [] }
-        ensures call { moves_in (open_move number most result ∷ []) self.old self.new }
+        ensures call { moves_in (open_move seed most result ∷ []) self.old self.new }
         ensures room { OnOk result ((held_in self.new).room ≡ most) }
         ensures counted { CountsNothing self.old self.new }
     {
         self.flying.reserve(most as usize)?;
         self.room = most;
-        self.seed = number;
+        self.seed = seed;
         Ok(())
     }
 

@@ -56,7 +56,7 @@ impl Links for SeedLinks {
 
     ghost room = { λ links. (held_by links).room };
 
-    ghost seed = { λ links. (held_by links).seed };
+    ghost opened_with = { λ links. (held_by links).seed };
 
     ghost repeats = { λ links. (held_by links).repeats };
 
@@ -76,16 +76,16 @@ impl Links for SeedLinks {
 
     ghost accounts = { λ _ _ _ h. h };
 
-    fn open(&mut self, alloc: Global, number: u64, most: u32) -> Result<(), AllocError>
+    fn open(&mut self, alloc: Global, seed: u64, most: u32) -> Result<(), AllocError>
         requires { (held_by self.old).flying ≡ [] }
-        ensures call { moves_by (open_move number most result ∷ []) self.old self.new }
+        ensures call { moves_by (open_move seed most result ∷ []) self.old self.new }
         ensures room { OnOk result ((held_by self.new).room ≡ most) }
-        ensures generator { OnOk result (generator_in self.new ≡ generator_for number) }
+        ensures generator { OnOk result (generator_in self.new ≡ generator_for seed) }
     {
         self.flying.reserve(most as usize)?;
         self.room = most;
-        self.seed = number;
-        self.generator = SeedLinks::started(number);
+        self.seed = seed;
+        self.generator = SeedLinks::started(seed);
         Ok(())
     }
 

@@ -1,3 +1,5 @@
+pub mod CarriedLaws
+pub mod DeliveryLaws
 pub mod GivenLaws
 pub mod PathLaws
 pub mod Pieces
@@ -6,3 +8,4 @@ pub mod SendCalls
 pub mod SendLeaving
 pub mod SendPerforms
 pub mod Turning
+pub mod TurnLaws

@@ -1,15 +1,18 @@
 -- All that the program promises, by the command that its words are, and by its deeds.
-use Rattle.std.specs.Prelude.{◌≡◌, ◌≢◌, ◌↔◌, ℕ, List, Option, Some, None}
+use Rattle.std.specs.Prelude.{◌≡◌, ◌≢◌, ◌↔◌, ℕ, Bool, List, Option, Some, None}
+use Rattle.lif_outside.specs.declared.links.Links.{Ghosts as LinksGhosts}
 use Rattle.std.proofs.Common.{refl, sym, ap, ◌∙◌, ⊎_elim}
 use Rattle.std.proofs.lemmas.Bool.{false≢true}
 use Rattle.lif_outside.specs.declared.sink.Sink.{Ghosts as SinkGhosts}
 use Rattle.lif_outside.specs.declared.store.Store.{Ghosts as StoreGhosts}
 use Rattle.lif_outside.specs.Accounts.{SinkAccounts, StoreAccounts}
-use Rattle.lif_outside.specs.Calls.{Calls, MakesPuts, Objects, store_calls}
+use Rattle.lif_outside.specs.Calls.{Calls, MakesPuts, Objects}
 use Rattle.lif_outside.specs.Events.{Event}
+use Rattle.lif_outside.specs.LinksAccounts.{LinksAccounts, holding}
+use Rattle.lif_outside.specs.Moves.{Move}
 use Rattle.lif_outside.specs.Puts.{Put}
 use Rattle.top_base.specs.Outcome.{SaysOutcome, status_unsaid}
-use Rattle.top_base.specs.Performs.{RunsOnStore}
+use Rattle.top_base.specs.Performs.{RunsOn}
 use Rattle.top_base.proofs.PerformingLaws.{IsKnown, at_once_known, performs_said}
 use Rattle.top_base.specs.Words.{Command, check, command_of, compile, cuts, order, send}
 use Rattle.top_base.specs.declared.outcome.Outcome.{Outcome}
@@ -37,33 +40,38 @@ said_usage outcome status puts is says = ⊎_elim
     says
 
 -- what has to be known of each command, and of words that are none
-form_known : (form : Option Command) → IsKnown (does_form form)
-form_known None = at_once_known misuse refl (λ not. absurd (false≢true (sym not)))
-form_known (Some (order net)) = order_known net
-form_known (Some (cuts net)) = cuts_known net
-form_known (Some (compile given)) = compile_known given
-form_known (Some (check code)) = check_known code
-form_known (Some (send given)) = send_known given
+form_known : (faithful : Bool) (form : Option Command) → IsKnown (does_form faithful form)
+form_known faithful None = at_once_known misuse refl (λ not. absurd (false≢true (sym not)))
+form_known faithful (Some (order net)) = order_known net
+form_known faithful (Some (cuts net)) = cuts_known net
+form_known faithful (Some (compile given)) = compile_known given
+form_known faithful (Some (check code)) = check_known code
+form_known faithful (Some (send given)) = send_known faithful given
 
-command_used : (command : Command) (outcome : Outcome) (calls : Calls) → (does_form (Some command)).runs outcome calls → outcome.status ≢ Usage
-command_used (order net) = order_used net
-command_used (cuts net) = cuts_used net
-command_used (compile given) = compile_used given
-command_used (check code) = check_used code
-command_used (send given) = send_used given
+command_used : (faithful : Bool) (command : Command) (outcome : Outcome) (calls : Calls) → (does_form faithful (Some command)).runs outcome calls → outcome.status ≢ Usage
+command_used faithful (order net) = order_used net
+command_used faithful (cuts net) = cuts_used net
+command_used faithful (compile given) = compile_used given
+command_used faithful (check code) = check_used code
+command_used faithful (send given) = send_used faithful given
 
 -- the usage comes of words that are no form
-usage_of : (form : Option Command) (outcome : Outcome) (status : Status) (calls : Calls) (puts : List Put) → (does_form form).runs outcome calls → SaysOutcome outcome status puts → (status ≡ Usage) ↔ (form ≡ None)
-usage_of None outcome status calls puts runs says = ((λ is. refl), (λ none. said_usage outcome status puts (ap (λ (o : Outcome). o.status) runs.0) says))
-usage_of (Some command) outcome status calls puts runs says =
-    ((λ is. absurd (said_used outcome status puts (command_used command outcome calls runs) says is)), (λ none. absurd (cc)))
+usage_of : (faithful : Bool) (form : Option Command) (outcome : Outcome) (status : Status) (calls : Calls) (puts : List Put) → (does_form faithful form).runs outcome calls → SaysOutcome outcome status puts → (status ≡ Usage) ↔ (form ≡ None)
+usage_of faithful None outcome status calls puts runs says = ((λ is. refl), (λ none. said_usage outcome status puts (ap (λ (o : Outcome). o.status) runs.0) says))
+usage_of faithful (Some command) outcome status calls puts runs says =
+    ((λ is. absurd (said_used outcome status puts (command_used faithful command outcome calls runs) says is)), (λ none. absurd (cc)))
 
 -- what is promised of the words, by the calls and the puts of their line
-pub promises : {S C : Type 0} {g : StoreGhosts S} {h : SinkGhosts C} (words : List (List ℕ)) (o : Objects g h) (status : Status)
+pub promises : {S C L : Type 0} {g : StoreGhosts S} {h : SinkGhosts C} {k : LinksGhosts L} (words : List (List ℕ)) (o : Objects g h k) (status : Status)
     → ((events : List Event) → g.calls events o.store_old o.store_new → StoreAccounts g.files g.read_faults g.write_faults g.made events o.store_old o.store_new)
     → ((puts : List Put) → h.puts puts o.say_old o.say_new → SinkAccounts h.written h.faults puts o.say_old o.say_new)
-    → (outcome : Outcome) → RunsOnStore g (does_form (command_of words)) o.store_old o.store_new outcome → MakesPuts h o.say_old o.say_new (SaysOutcome outcome status) → Promises words o status
-promises words o status store_accounts say_accounts outcome calls puts = record {
-  usage = usage_of (command_of words) outcome status (store_calls calls.made) puts.made calls.holds puts.holds;
-  performed = performs_said o status store_accounts say_accounts (does_form (command_of words)) (form_known (command_of words)) outcome calls puts;
-}
+    → ((made : List Move) → k.moves made o.links_old o.links_new
+    → LinksAccounts (holding k.flying k.room k.opened_with k.repeats) k.faithful k.faults k.sent k.given made o.links_old o.links_new)
+    → (outcome : Outcome) → RunsOn g k (does_form (k.faithful o.links_old) (command_of words)) o.store_old o.store_new o.links_old o.links_new outcome
+    → MakesPuts h o.say_old o.say_new (SaysOutcome outcome status) → Promises words o status
+promises {k = k} words o status store_accounts say_accounts links_accounts outcome runs puts =
+    let faithful = k.faithful o.links_old in
+    record {
+      usage = usage_of faithful (command_of words) outcome status runs.calls puts.made runs.holds puts.holds;
+      performed = performs_said o status store_accounts say_accounts links_accounts (does_form faithful (command_of words)) (form_known faithful (command_of words)) outcome runs puts;
+    }

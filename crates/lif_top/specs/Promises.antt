@@ -1,5 +1,6 @@
 -- What the program promises, by its words.
-use Rattle.std.specs.Prelude.{◌≡◌, ◌↔◌, List, ℕ, Option, None, Some}
+use Rattle.std.specs.Prelude.{◌≡◌, ◌↔◌, Bool, List, ℕ, Option, None, Some}
+use Rattle.lif_outside.specs.declared.links.Links.{Ghosts as LinksGhosts}
 use Rattle.lif_outside.specs.declared.sink.Sink.{Ghosts as SinkGhosts}
 use Rattle.lif_outside.specs.declared.store.Store.{Ghosts as StoreGhosts}
 use Rattle.lif_outside.specs.Calls.{Objects}
@@ -19,17 +20,18 @@ use Rattle.lif_top.specs.Send.Command.{send_command}
 abbrev pub misuse : Outcome
 misuse = record { status = Usage; line = usage_line }
 
--- what is done by words that are no form, and by those of each command
-abbrev pub does_form : Option Command → Behaviour
-does_form None = at_once misuse
-does_form (Some (order net)) = order_command net
-does_form (Some (cuts net)) = cuts_command net
-does_form (Some (compile given)) = compile_command given
-does_form (Some (check code)) = check_command code
-does_form (Some (send given)) = send_command given
+-- what is done by words that are no form, and by those of each command, by links that are faithful or not
+abbrev pub does_form : Bool → Option Command → Behaviour
+does_form faithful None = at_once misuse
+does_form faithful (Some (order net)) = order_command net
+does_form faithful (Some (cuts net)) = cuts_command net
+does_form faithful (Some (compile given)) = compile_command given
+does_form faithful (Some (check code)) = check_command code
+does_form faithful (Some (send given)) = send_command faithful given
 
-pub record Promises {S C : Type 0} {g : StoreGhosts S} {h : SinkGhosts C} (words : List (List ℕ)) (o : Objects g h) (status : Status) : Type 0 where
+pub record Promises {S C L : Type 0} {g : StoreGhosts S} {h : SinkGhosts C} {k : LinksGhosts L} (words : List (List ℕ)) (o : Objects g h k)
+    (status : Status) : Type 0 where
   -- the status of words that are no form is theirs alone
   pub usage : (status ≡ Usage) ↔ (command_of words ≡ None)
   -- what the words do is performed: its calls, what it leaves, and which status comes
-  pub performed : Performs (does_form (command_of words)) o status
+  pub performed : Performs (does_form (k.faithful o.links_old) (command_of words)) o status

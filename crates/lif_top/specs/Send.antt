@@ -1,5 +1,8 @@
 -- The command `send`.
 pub mod Command
+pub mod Carried
+pub mod Turns
+pub mod Delivering
 pub mod Runs
 pub mod Changes
 pub mod Due

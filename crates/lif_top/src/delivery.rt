@@ -1,8 +1,8 @@
-//! A code at work, and the files of its sinks.
+//! A code at work over links, and the files of its sinks.
 ghost use Rattle.std.specs.Prelude.{◌≡◌, ◌*◌, length, vec_len};
 ghost use Rattle.generation_frame.specs.Blocks.{row_bytes};
 
-use block_carrier::Carrier;
+use relay_runner::Runner;
 
 /// How much was sent.
 #[derive(Drop)]
@@ -15,21 +15,30 @@ pub struct SentCounts {
     pub sinks: u64,
 }
 
-/// A code at work, and the files of its sinks.
+/// Why a delivery ended before all was delivered.
+#[derive(Clone, Copy, Debug, PartialEq, Eq)]
+pub enum DeliveryFault {
+    /// A call on the links failed.
+    Links,
+    /// A sink's file couldn't be written.
+    Write,
+}
+
+/// A code at work over links, and the files of its sinks.
 #[derive(Drop)]
-pub struct Delivery<'c> {
+pub struct Delivery<'c, F> {
     /// The rate of the code.
     pub rate: u32,
     /// The code at work under the pattern.
-    pub carrier: Carrier<'c>,
+    pub runner: Runner<'c, F>,
     /// The path of each sink's file.
     pub outputs: Vec<String>,
     /// Room for a block of the source.
     pub block: Vec<u8>,
     /// Room for the block as a sink decodes it.
     pub decoded: Vec<u8>,
-    ghost rate_of: { rate ≡ carrier.code.rate },
-    ghost sinks: { vec_len outputs ≡ length carrier.code.net.sinks },
-    ghost block_length: { vec_len block ≡ carrier.code.rate * row_bytes },
-    ghost decoded_length: { vec_len decoded ≡ carrier.code.rate * row_bytes },
+    ghost rate_of: { rate ≡ runner.code.rate },
+    ghost sinks: { vec_len outputs ≡ length runner.code.net.sinks },
+    ghost block_length: { vec_len block ≡ runner.code.rate * row_bytes },
+    ghost decoded_length: { vec_len decoded ≡ runner.code.rate * row_bytes },
 }

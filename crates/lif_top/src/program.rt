@@ -1,27 +1,30 @@
 //! The top call: words to a command, and what it does.
-ghost use Rattle.std.specs.Prelude.{◌≤◌, map, string_bytes};
+ghost use Rattle.std.specs.Prelude.{◌≡◌, ◌≤◌, [], map, string_bytes};
 ghost use Rattle.lif_outside.specs.Calls.{KeepsStore, objects};
-ghost use Rattle.top_base.specs.Performs.{RunsOnStore};
+ghost use Rattle.top_base.specs.Performs.{RunsOn};
 ghost use Rattle.top_base.specs.Words.{command_of};
 ghost use Rattle.lif_top.specs.Promises.{Promises, does_form};
 
 use crate::sending::send;
-use lif_outside::{Gate, Sink, Store};
+use lif_outside::{Gate, Links, Sink, Store};
 use std::alloc::Global;
 use std::thread::Threads;
 use top_base::{Command, Outcome, Status, command_of, conclude};
 use top_tools::{check, compile, cuts, order};
 
 // What the words come to: the command that they are, or the usage.
-fn carry_out<'a, S: Store, G: Gate + Sync, R: Threads + Sync>(
+fn carry_out<'a, S: Store, L: Links, G: Gate + Sync, R: Threads + Sync>(
     rt: &R,
     alloc: Global,
     words: &'a [String],
     store: &mut S,
+    links: &mut L,
     gate: &G,
 ) -> Outcome<'a>
-    ensures { RunsOnStore S.Store (does_form (command_of (map string_bytes words.now)))
-        store.old store.new result }
+    requires { L.flying links.old ≡ [] }
+    ensures { RunsOn S.Store L.Links
+        (does_form (L.faithful links.old) (command_of (map string_bytes words.now)))
+        store.old store.new links.old links.new result }
 {
     let Some(command) = command_of(words) else {
         return Outcome::usage();
@@ -31,12 +34,12 @@ fn carry_out<'a, S: Store, G: Gate + Sync, R: Threads + Sync>(
         Command::Cuts(path) => cuts(rt, alloc, path, store, gate),
         Command::Compile(given) => compile(rt, alloc, &given, store, gate),
         Command::Check(path) => check(rt, alloc, path, store, gate),
-        Command::Send(given) => send(rt, alloc, &given, store, gate),
+        Command::Send(given) => send(rt, alloc, &given, store, links, gate),
     }
 }
 
-/// Does what the words say, over a store of files and a sink for what is said, and tells how it ended. The words
-/// are those after the program's name:
+/// Does what the words say, over a store of files, a sink for what is said and links on which nothing flies, and tells how it
+/// ended. The words are those after the program's name:
 ///
 /// - `order NET` reads a network text and says the links in order.
 /// - `cuts NET` reads a network text and says for each sink and pattern the least cut, with paths and a side that show
@@ -44,25 +47,30 @@ fn carry_out<'a, S: Store, G: Gate + Sync, R: Threads + Sync>(
 /// - `compile NET CODE REPORT` reads a network text, and writes a code of its rate, which is the least cut of a demand,
 ///   and the report of the least cuts.
 /// - `check CODE` reads a code file and says whether its code is accepted.
-/// - `send CODE PATTERN SEED SRC PREFIX` makes `PREFIX.<sink>` for each sink of an accepted code and writes to it what
-///   the sink decodes of the file at SRC, where the links of the pattern fail.
+/// - `send CODE PATTERN SEED SRC PREFIX` makes `PREFIX.<sink>` for each sink of an accepted code, carries the file at SRC
+///   over the links, opened with SEED, as frames of the code where the links of the pattern fail, and writes to each what
+///   the sink decodes.
 ///
 /// The jobs of certificates, of a compilation and of a check enter the gate.
-pub fn lif<S: Store, C: Sink, G: Gate + Sync, R: Threads + Sync>(
+pub fn lif<S: Store, C: Sink, L: Links, G: Gate + Sync, R: Threads + Sync>(
     rt: &R,
     alloc: Global,
     words: &[String],
     store: &mut S,
     say: &mut C,
+    links: &mut L,
     gate: &G,
 ) -> Status
+    requires { L.flying links.old ≡ [] }
     ensures promises { Promises (map string_bytes words.now)
-        (objects S.Store C.Sink store.old store.new say.old say.new) result }
+        (objects S.Store C.Sink L.Links store.old store.new say.old say.new links.old links.new)
+        result }
 
     // No count falls.
     ensures counts { KeepsStore S.Store store.old store.new }
     ensures say_count { C.faults say.old ≤ C.faults say.new }
+    ensures link_count { L.faults links.old ≤ L.faults links.new }
 {
-    let Outcome { status, line } = carry_out(rt, alloc, words, store, gate);
+    let Outcome { status, line } = carry_out(rt, alloc, words, store, links, gate);
     conclude(status, &line, say)
 }

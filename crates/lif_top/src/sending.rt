@@ -1,29 +1,46 @@
 //! The command `send`.
-ghost use Rattle.std.specs.Prelude.{◌≡◌};
-ghost use Rattle.lif_outside.specs.Calls.{MakesCalls};
+ghost use Rattle.std.specs.Prelude.{◌≡◌, []};
+ghost use Rattle.gf_tables.specs.Kind.{IsOfKind};
+ghost use Rattle.lif_outside.specs.Calls.{MakesBoth};
 ghost use Rattle.top_base.specs.Given.{given_in};
-ghost use Rattle.top_base.specs.Performs.{RunsOnStore};
+ghost use Rattle.top_base.specs.Performs.{RunsOn};
 ghost use Rattle.lif_top.specs.Send.Command.{send_command};
+ghost use Rattle.lif_top.specs.Send.Delivering.{CanCarry, outcome_of};
 ghost use Rattle.lif_top.specs.Send.Ready.{IsReady};
-ghost use Rattle.lif_top.specs.Send.Runs.{RunsCode};
+ghost use Rattle.lif_top.specs.Send.Runs.{RunsCode, Sends, behind_open};
 
+use crate::delivery::DeliveryFault;
 use crate::preparing::{Prepared, SOURCE_LIMIT, prepare};
 use code_checker::Checked;
-use lif_outside::{Gate, Store};
+use gf_tables::{Field, FieldKind, Gf8, Gf16};
+use lif_outside::{Gate, Links, Store};
 use std::alloc::Global;
 use std::thread::Threads;
 use top_base::{Line, Outcome, SendWords, Status, read_accepted, read_whole};
 
-// Creates the sinks' files and carries the source to them.
-fn deliver<'a, S: Store>(
+// What a delivery that ended early makes of the command.
+fn interrupted<'a>(fault: DeliveryFault) -> Outcome<'a>
+    ensures { result ≡ outcome_of fault }
+{
+    match fault {
+        DeliveryFault::Links => Outcome::link_fault(),
+        DeliveryFault::Write => Outcome::write_fault(),
+    }
+}
+
+// Creates the sinks' files, over links that were opened, and carries the source to them.
+fn deliver<'a, F: Field, S: Store, K: Links>(
     words: &SendWords<'a>,
     code: &Checked,
-    ready: Prepared<'_>,
+    ready: Prepared<'_, F>,
     store: &mut S,
+    links: &mut K,
 ) -> Outcome<'a>
-    requires { IsReady (given_in words.now) code.now ready }
-    ensures { MakesCalls S.Store store.old store.new
-        (RunsCode (given_in words.now) code.now result.status result.line) }
+    requires ready { IsReady (given_in words.now) code.now ready }
+    requires can { CanCarry ready.delivery.runner (K.flying links.old) (K.room links.old) }
+    ensures { MakesBoth S.Store K.Links store.old store.new links.old links.new
+        (λ calls. RunsCode (K.faithful links.old) (given_in words.now) code.now
+        result.status result.line (behind_open (given_in words.now) code.now calls)) }
 {
     let Prepared { mut delivery, room } = ready;
     let Ok(()) = delivery.create_outputs(store) else {
@@ -33,43 +50,67 @@ fn deliver<'a, S: Store>(
         Ok(source) => source,
         Err(refusal) => return refusal.into(),
     };
-    match delivery.carry_source(store, &source) {
+    match delivery.carry_source(store, links, &source) {
         Ok(counts) => Outcome {
             status: Status::Done,
             line: Line::sent(counts.bytes, counts.generations, counts.sinks),
         },
-        Err(_) => Outcome::write_fault(),
+        Err(fault) => interrupted(fault),
     }
 }
 
-// Sends the source through an accepted code.
-fn send_through<'a, S: Store>(
+// Sends the source through an accepted code, of which `F` is the field.
+fn send_over<'a, F: Field, S: Store, K: Links>(
     alloc: Global,
     words: &SendWords<'a>,
     code: &Checked,
     store: &mut S,
+    links: &mut K,
 ) -> Outcome<'a>
-    ensures { MakesCalls S.Store store.old store.new
-        (RunsCode (given_in words.now) code.now result.status result.line) }
+    requires field { IsOfKind code.now.field F.SIZE F.BYTES F.MARK F.product }
+    requires nothing_flies { K.flying links.old ≡ [] }
+    ensures { MakesBoth S.Store K.Links store.old store.new links.old links.new
+        (Sends (K.faithful links.old) (given_in words.now) code.now result) }
 {
-    match prepare(alloc, words, code) {
-        Ok(ready) => deliver(words, code, ready, store),
+    match prepare::<F, K>(alloc, words, code, links) {
+        Ok(ready) => deliver(words, code, ready, store, links),
         Err(refused) => refused,
     }
 }
 
-/// Reads and checks the code, and delivers the source to the file of each sink.
-pub fn send<'a, S: Store, G: Gate + Sync, R: Threads + Sync>(
+// Sends the source through an accepted code.
+fn send_through<'a, S: Store, K: Links>(
+    alloc: Global,
+    words: &SendWords<'a>,
+    code: &Checked,
+    store: &mut S,
+    links: &mut K,
+) -> Outcome<'a>
+    requires { K.flying links.old ≡ [] }
+    ensures { MakesBoth S.Store K.Links store.old store.new links.old links.new
+        (Sends (K.faithful links.old) (given_in words.now) code.now result) }
+{
+    match code.code().field {
+        FieldKind::Eight => send_over::<Gf8, S, K>(alloc, words, code, store, links),
+        FieldKind::Sixteen => send_over::<Gf16, S, K>(alloc, words, code, store, links),
+    }
+}
+
+/// Reads and checks the code, and carries the source over the links to the file of each sink.
+pub fn send<'a, S: Store, K: Links, G: Gate + Sync, R: Threads + Sync>(
     rt: &R,
     alloc: Global,
     words: &SendWords<'a>,
     store: &mut S,
+    links: &mut K,
     gate: &G,
 ) -> Outcome<'a>
-    ensures { RunsOnStore S.Store (send_command (given_in words.now)) store.old store.new result }
+    requires { K.flying links.old ≡ [] }
+    ensures { RunsOn S.Store K.Links (send_command (K.faithful links.old) (given_in words.now))
+        store.old store.new links.old links.new result }
 {
     match read_accepted(rt, alloc, store, words.code, gate) {
-        Ok(checked) => send_through(alloc, words, &checked, store),
+        Ok(checked) => send_through(alloc, words, &checked, store, links),
         Err(refused) => refused,
     }
 }

@@ -1,3 +1,4 @@
+pub mod DecodedLaws
 pub mod DeliveryLaws
 pub mod GivingLaws
 pub mod SendingLaws

@@ -113,12 +113,28 @@ module _ (code : Code) (pattern : ℕ) (window : Window) where
         operands = λ inner. absurd (both_ways (leaves_source code.net packet.link) inner leaves);
       }
 
-  -- what was sent in a run says where it comes from
-  pub run-relayed : (run : List Delivery) (state : RelayState) → IsRun code pattern run (opening code pattern window) state
-      → AreRelayed code pattern window state.held state.sent
-  run-relayed run state is =
-      let come = run-comes run (opening code pattern window) state is opening-comes in
+  -- what was sent in a run comes from what is held after it
+  sent-comes : (run : List Delivery) (state : RelayState) → IsRun code pattern run (opening code pattern window) state
+      → All (ComesFrom state.held) state.sent
+  sent-comes run state is = run-comes run (opening code pattern window) state is opening-comes
+
+  -- packets that say where they come from
+  come-relayed : (held sent : List Packet) → All (ComesFrom held) sent → AreRelayed code pattern window held sent
+  come-relayed held sent come =
       record {
         from_source = λ k d within. (come k d within).from_source;
         others = λ k d within. (come k d within).other;
       }
+
+  -- what was sent in a run says where it comes from
+  pub run-relayed : (run : List Delivery) (state : RelayState) → IsRun code pattern run (opening code pattern window) state
+      → AreRelayed code pattern window state.held state.sent
+  run-relayed run state is = come-relayed state.held state.sent (sent-comes run state is)
+
+  -- and so it does with what is held after one more delivery
+  pub relayed-after : (run : List Delivery) (state : RelayState) → IsRun code pattern run (opening code pattern window) state → (delivery : Delivery)
+      → AreRelayed code pattern window (held_after delivery state.held) state.sent
+  relayed-after run state is delivery =
+      let now = held_after delivery state.held in
+      come-relayed now state.sent
+      (All-weaker (ComesFrom state.held) (ComesFrom now) (comes-stays delivery state.held) state.sent (sent-comes run state is))

@@ -1,7 +1,8 @@
 -- A payload that is added up, operand by operand.
-use Rattle.std.specs.Prelude.{◌≡◌, ◌<◌, ◌%◌, ◌*◌, ◌+◌, ℕ, List, [], length, replicate, take}
+use Rattle.std.specs.Prelude.{◌≡◌, ◌<◌, ◌%◌, ◌*◌, ◌+◌, ℕ, List, [], Some, length, map, replicate, slice_get, take}
 use Rattle.std.proofs.Common.{refl, sym, ap, ◌∙◌, add-one, arith, get_or}
 use Rattle.std.proofs.lemmas.List.{get_or-map, length-map, take_all}
+use Rattle.std.proofs.lemmas.Option.{get_or_from_slice_get}
 use Rattle.field_rows.proofs.BytesLaws.{bytes_of_elements-elements_of}
 use Rattle.gf_tables.specs.Product.{bytes_of_element}
 use Rattle.gf_tables.specs.declared.kind.FieldKind.{FieldKind}
@@ -11,9 +12,11 @@ use Rattle.linear_algebra.proofs.CombinationLaws.{combination-take_more}
 use Rattle.linear_algebra.proofs.ElementsLaws.{elements_of-zero_row, length-elements_of}
 use Rattle.linear_algebra.specs.Elements.{AreBytes, bytes_of_row, elements_of}
 use Rattle.linear_algebra.specs.Rows.{add_rows, combination, scale_row, zero_row}
+use Rattle.node_plans.specs.Plans.{input_place, sums_of}
+use Rattle.node_plans.specs.declared.plan.Plan.{Plan}
 use Rattle.node_program.specs.declared.Operand.{Operand}
 use Rattle.coded_traffic.specs.Traffic.{piece_width, sum_of}
-use Rattle.relay_node.specs.Summed.{IsSummed, coefficients_of, rows_of}
+use Rattle.relay_node.specs.Summed.{IsSummed, coefficients_of, rows_of, summands_at}
 
 -- the bytes of a piece are whole elements
 piece-width : (field : FieldKind) → piece_bytes ≡ bytes_of_element field * piece_width field
@@ -23,6 +26,22 @@ piece-width Sixteen = refl
 pub whole_piece : (field : FieldKind) → piece_bytes % bytes_of_element field ≡ 0
 whole_piece Eight = refl
 whole_piece Sixteen = refl
+
+-- the inputs of a sum are the places of what its operands name
+pub sum-inputs : (plan : Plan) (sums : List (List ℕ)) (sum : ℕ) (inputs : List ℕ) → sums ≡ sums_of plan → sum < length plan.operands → slice_get sums sum ≡ Some inputs
+    → inputs ≡ map (λ (operand : Operand). input_place plan operand.from) (summands_at plan sum)
+sum-inputs plan sums sum inputs same within found =
+    sym (get_or_from_slice_get sums sum inputs [] found)
+    ∙ ap (λ (lists : List (List ℕ)). get_or lists sum []) same
+    ∙ get_or-map (λ (operands : List Operand). map (λ (operand : Operand). input_place plan operand.from) operands) plan.operands sum [] [] within
+
+-- one of them
+pub sum-input : (plan : Plan) (sum : ℕ) (inputs : List ℕ) (items : List Operand) (place d : ℕ) (e : Operand)
+    → inputs ≡ map (λ (operand : Operand). input_place plan operand.from) (summands_at plan sum) → summands_at plan sum ≡ items → place < length items
+    → get_or inputs place d ≡ input_place plan (get_or items place e).from
+sum-input plan sum inputs items place d e is same within =
+    ap (λ (list : List ℕ). get_or list place d) (is ∙ ap (map (λ (operand : Operand). input_place plan operand.from)) same)
+    ∙ get_or-map (λ (operand : Operand). input_place plan operand.from) items place e d within
 
 -- nothing is added up yet
 pub summed-none : (field : FieldKind) (operands : List Operand) (came : Operand → List ℕ) → IsSummed field operands came 0 (replicate piece_bytes 0)

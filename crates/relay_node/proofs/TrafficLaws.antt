@@ -1,8 +1,6 @@
 -- Where what came to a node is the traffic of blocks, so is what it gives.
-use Rattle.std.specs.Prelude.{◌≡◌, ◌<◌, ◌==◌, ◌&&◌, ℕ, Bool, Option, true, false, All, Contains, List, [], if◌then◌else◌, length, map}
+use Rattle.std.specs.Prelude.{◌≡◌, ◌<◌, ◌==◌, ℕ, Bool, true, false, All, Contains, List, [], if◌then◌else◌, length, map}
 use Rattle.std.proofs.Common.{refl, sym, ap, subst, ◌∙◌, arith, get_or}
-use Rattle.std.proofs.lemmas.Bool.{and_parts, eqb-true}
-use Rattle.std.proofs.lemmas.List.{get_or-map}
 use Rattle.std.proofs.lemmas.List.Elements.{All-contains}
 use Rattle.std.proofs.lemmas.List.Sums.{AllPass-from_list_all}
 use Rattle.gf_tables.specs.declared.kind.FieldKind.{FieldKind}
@@ -11,8 +9,6 @@ use Rattle.generation_frame.specs.declared.frame.Packet.{Packet}
 use Rattle.linear_algebra.specs.Elements.{bytes_of_row, elements_of}
 use Rattle.linear_algebra.specs.Rows.{combination}
 use Rattle.net_model.specs.Walks.{leaves_source, tail_of}
-use Rattle.net_model.specs.declared.Link.{Link}
-use Rattle.net_model.specs.declared.net.Net.{Net}
 use Rattle.node_program.specs.CodeValue.{is_live_in}
 use Rattle.node_program.specs.declared.Operand.{Operand}
 use Rattle.node_program.specs.declared.code.Code.{Code}

@@ -7,8 +7,7 @@ use Rattle.linear_algebra.specs.Elements.{elements_of}
 use Rattle.linear_algebra.specs.Rows.{combination}
 use Rattle.node_program.specs.declared.Operand.{Operand}
 use Rattle.coded_traffic.specs.Traffic.{piece_width, sum_of}
-use Rattle.node_plans.specs.Plans.{IsPlan, input_count, input_place}
-use Rattle.node_plans.specs.Wired.{HasPlaces}
+use Rattle.node_plans.specs.Plans.{IsPlan, input_count, input_place, sums_of}
 use Rattle.node_plans.specs.declared.plan.Plan.{Plan}
 
 abbrev pub coefficients_of : List Operand → List ℕ
@@ -25,10 +24,10 @@ pub record IsSummed (field : FieldKind) (operands : List Operand) (came : Operan
       ≡ combination field (piece_width field) (take count (coefficients_of operands)) (take count (rows_of field operands came))
 
 -- a plan whose sums can be made of what waits, and a piece of a sum of it
-pub record CanSum (plan : Plan) (places : List ℕ) (sums : Waiting) (generation sum piece : ℕ) : Type 0 where
+pub record CanSum (plan : Plan) (sums : Waiting) (generation sum piece : ℕ) : Type 0 where
   pub is_plan : IsPlan plan
-  pub has_places : HasPlaces plan places
   pub inputs : sums.inputs ≡ input_count plan
+  pub each_sum : sums.sums ≡ sums_of plan
   pub in_generations : generation < length sums.tables
   pub in_sums : sum < length plan.operands
   pub in_pieces : piece < pieces

@@ -163,7 +163,6 @@ impl<F: Field> Node<F> {
         let payload = payload_of(
             &self.tables,
             &self.plan,
-            self.places.as_slice(),
             &self.sums,
             generation as usize,
             due,

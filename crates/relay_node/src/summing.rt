@@ -13,16 +13,15 @@ use node_plans::Plan;
 pub(crate) fn payload_of(
     tables: &RowTables,
     plan: &Plan,
-    places: &[u32],
     sums: &DueSums,
     generation: usize,
     due: Due,
 ) -> [u8; 128]
-    requires { CanSum plan.now places.now sums.now generation due.sum due.piece }
+    requires { CanSum plan.now sums.now generation due.sum due.piece }
     ensures { result ≡ sum_at plan.now sums.now generation due.sum due.piece }
 {
     let mut payload = [0; PIECE];
-    sum_up(tables, plan, places, sums, generation, due, &mut payload);
+    sum_up(tables, plan, sums, generation, due, &mut payload);
     payload
 }
 
@@ -30,38 +29,37 @@ pub(crate) fn payload_of(
 fn sum_up(
     tables: &RowTables,
     plan: &Plan,
-    places: &[u32],
     sums: &DueSums,
     generation: usize,
     due: Due,
     payload: &mut [u8],
 )
-    requires sum { CanSum plan.now places.now sums.now generation due.sum due.piece }
+    requires sum { CanSum plan.now sums.now generation due.sum due.piece }
     requires zeros { payload.old ≡ zero_row piece_bytes }
     ensures { payload.new ≡ sum_at plan.now sums.now generation due.sum due.piece }
 {
-    add_operands(tables, plan, places, sums, generation, due, payload);
+    add_operands(tables, plan, sums, generation, due, payload);
 }
 
 // Adds operand after operand to a payload of zeros.
 fn add_operands(
     tables: &RowTables,
     plan: &Plan,
-    places: &[u32],
     sums: &DueSums,
     generation: usize,
     due: Due,
     payload: &mut [u8],
 )
-    requires sum { CanSum plan.now places.now sums.now generation due.sum due.piece }
+    requires sum { CanSum plan.now sums.now generation due.sum due.piece }
     requires zeros { payload.old ≡ zero_row piece_bytes }
     ensures { IsSummed plan.now.field (summands_at plan.now due.sum)
         (came_of plan.now sums.now generation due.piece) (length (summands_at plan.now due.sum))
         payload.new }
 {
-    for operand in plan.operands.at(due.sum as usize).as_slice() {
-        let input = plan.input_place(places, operand.from);
-        let came = sums.input(generation, input, due.piece);
-        tables.add_scaled(plan.field, payload, operand.times, came);
+    let operands = plan.operands.at(due.sum as usize).as_slice();
+    let inputs = sums.sums().at(due.sum as usize).as_slice();
+    for place in 0..operands.len() {
+        let came = sums.input(generation, inputs[place], due.piece);
+        tables.add_scaled(plan.field, payload, operands[place].times, came);
     }
 }

@@ -9,23 +9,29 @@ use Rattle.std.proofs.lemmas.List.{length-map}
 use Rattle.std.proofs.lemmas.List.Sums.{position_or_len_is}
 use Rattle.std.proofs.lemmas.Map.Made.{AllPairs-from_IsDistinct}
 use Rattle.std.proofs.lemmas.Option.{get_or_from_slice_get, none-some, same_Some, slice_get-map, slice_get_read, slice_get_within}
-use Rattle.coded_traffic.specs.Traffic.{Window, block_at}
+use Rattle.coded_traffic.specs.Traffic.{Key, Window, block_at}
 use Rattle.failure_patterns.proofs.DemandLaws.{number_within}
+use Rattle.generation_frame.specs.declared.frame.Packet.{Packet}
+use Rattle.lif_outside.specs.Moves.{Move, flights_given}
 use Rattle.list_laws.proofs.Tests.{passes_at}
 use Rattle.net_model.proofs.ListLaws.{IsDistinct-from_are_distinct}
 use Rattle.net_model.specs.Demands.{demand_count}
 use Rattle.net_model.specs.Lists.{are_distinct}
 use Rattle.net_model.specs.Network.{is_sink_among}
 use Rattle.node_program.specs.declared.code.Code.{Code}
+use Rattle.node_states.proofs.DecodedLaws.{decoded-same}
+use Rattle.node_states.specs.Decoded.{decoded_of}
 use Rattle.node_states.specs.Shown.{ShowsSink}
 use Rattle.node_stations.specs.Opening.{IsAt, demand_of, place_of}
 use Rattle.node_stations.specs.declared.station.Station.{Station}
-use Rattle.relay_core.specs.Core.{Delivery, IsFaithful, RelayState}
+use Rattle.relay_core.specs.Core.{Delivery, IsFaithful, RelayState, payload_of}
 use Rattle.relay_node.specs.Relay.{Relay}
 use Rattle.relay_runner.proofs.MeasureLaws.{flying-none}
+use Rattle.relay_runner.specs.Carried.{HasCarriedBy, packets_given}
 use Rattle.relay_runner.specs.Running.{HasCarried, IsRunning, Running}
-use Rattle.run_states.proofs.WholeLaws.{sink-traffic, sink-whole}
-use Rattle.sink_decoder.specs.Receiving.{IsBegun, Receiver, SinkPlan, TakesTraffic, is_whole}
+use Rattle.run_states.proofs.GivenLaws.{payload-flights}
+use Rattle.run_states.proofs.WholeLaws.{sink-decoded, sink-traffic, sink-whole}
+use Rattle.sink_decoder.specs.Receiving.{IsBegun, Receiver, SinkPlan, TakesTraffic, decoded, is_whole}
 use Rattle.station_table.specs.Table.{sinks_of}
 
 -- of distinct numbers, one is found first at its place
@@ -77,6 +83,12 @@ module _ (code : Code) (place node : ℕ) (at : slice_get code.net.sinks place �
       whole-there : (generation : ℕ) → IsBegun sink generation → is_whole sink generation ≡ true
       whole-there generation begun =
           sink-whole code pattern window run state running.is_run quiet place place-within running.pattern_is sink shows running.is_window.blocks generation
+          (omega (arith, shows.first, begun.from_first)) (omega (arith, shows.first, shows.count, begun.to_last))
+
+      -- what it decodes of one is decoded of what is held
+      decoded-there : (generation : ℕ) → IsBegun sink generation → decoded sink generation ≡ decoded_of code (demand_of code pattern place) state.held generation
+      decoded-there generation begun =
+          sink-decoded code pattern window run state running.is_run quiet place place-within running.pattern_is sink shows running.is_window.blocks generation
           (omega (arith, shows.first, begun.from_first)) (omega (arith, shows.first, shows.count, begun.to_last))
 
       -- and by faithful links it is of the traffic
@@ -140,13 +152,6 @@ module _ (runner : Running) (place node number : ℕ) (sink : Receiver) (asked :
   pub same-rate : sink.plan.rate ≡ runner.code.rate
   same-rate = ap (λ (plan : SinkPlan). plan.rate) own.plan
 
-  -- it is the only one at the place
-  pub same-sink : (other : ℕ) (receiver : Receiver) → slice_get runner.code.net.sinks place ≡ Some other
-      → slice_get runner.sinks other ≡ Some (Some receiver) → sink ≡ receiver
-  same-sink other receiver there found =
-      let same_node : node ≡ other = same_Some node other (sym asked.at ∙ there) in
-      same_Some sink receiver (same_Some (Some sink) (Some receiver) (sym asked.found ∙ ap (slice_get runner.sinks) same_node ∙ found))
-
   -- the generation was begun
   pub begun-there : IsBegun sink (runner.first + number)
   begun-there = record {
@@ -159,6 +164,20 @@ module _ (runner : Running) (place node number : ℕ) (sink : Receiver) (asked :
   whole-block =
       whole-there runner.code place node asked.at runner.pattern asked.carried.window asked.carried.run runner.relays runner.sinks asked.carried.state
       asked.carried.running sink asked.found (runner.first + number) begun-there
+
+  -- what it decodes of the generation is decoded of the packets that links gave
+  pub decoded-given : (moves : List Move) → HasCarriedBy runner moves
+      → decoded sink (runner.first + number)
+      ≡ decoded_of runner.code (demand_of runner.code runner.pattern place) (packets_given moves) (runner.first + number)
+  decoded-given moves by =
+      let same : (key : Key) → payload_of by.state.held key ≡ payload_of (packets_given moves) key =
+      λ key.
+      ap (λ (packets : List Packet). payload_of packets key) by.held
+      ∙ payload-flights runner.code runner.pattern by.window by.run by.state (flights_given moves) by.running.is_window.last by.running.is_run by.gives key in
+      decoded-there runner.code place node asked.at runner.pattern by.window by.run runner.relays runner.sinks by.state by.running sink asked.found
+      (runner.first + number) begun-there
+      ∙ decoded-same runner.code (demand_of runner.code runner.pattern place) by.state.held (packets_given moves) (runner.first + number)
+      (λ link piece among live low. same (record { link = link; generation = runner.first + number; piece = piece }))
 
   -- by faithful links, what is decoded of the traffic is the block of that place
   pub block-there : (into : List ℕ) (window : Window) (run : List Delivery) (state : RelayState)

@@ -1,4 +1,8 @@
 pub mod BlockLaws
+pub mod CameLaws
+pub mod CarriedLaws
+pub mod DecodedBlockLaws
+pub mod JoinLaws
 pub mod MeasureLaws
 pub mod PlannedLaws
 pub mod RunningLaws
@@ -8,3 +12,4 @@ pub mod SteppingLaws
 pub mod StoppingLaws
 pub mod TurningLaws
 pub mod UnderwayLaws
+pub mod WellLaws

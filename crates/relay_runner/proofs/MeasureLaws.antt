@@ -44,12 +44,12 @@ taken-less faithful flight old new taken = elim taken.after [
 abbrev pub Account : {L : Type 0} → LinksGhosts L → Type 0
 Account {L} g =
     (made : List Move) (old new : L) → g.moves made old new
-    → LinksAccounts (holding g.flying g.room g.seed g.repeats) g.faithful g.faults g.sent g.given made old new
+    → LinksAccounts (holding g.flying g.room g.opened_with g.repeats) g.faithful g.faults g.sent g.given made old new
 
 module _ {L : Type 0} (g : LinksGhosts L) (code : Code) (pattern : ℕ) (window : Window) (run : List Delivery) (state : RelayState) (before after : L)
     (relays_after : List Relay) (sinks_after : List (Option Receiver)) where
   abbrev held : L → InFlight
-  held = holding g.flying g.room g.seed g.repeats
+  held = holding g.flying g.room g.opened_with g.repeats
 
   -- what was taken, and the pairs that were put then
   record Does (steps : Steps g code pattern window run state before after relays_after sinks_after) : Type 0 where

@@ -3,6 +3,7 @@ use Rattle.std.specs.Prelude.{◌≡◌, ◌<◌, ◌≤◌, ◌*◌, ◌∷◌,
 use Rattle.std.proofs.Common.{arith, ap, refl, subst, sym, ◌∙◌}
 use Rattle.std.proofs.lemmas.List.{length-map}
 use Rattle.coded_traffic.specs.Traffic.{Window}
+use Rattle.lif_outside.specs.Calls.{MakesMoves}
 use Rattle.lif_outside.specs.LinksAccounts.{holding}
 use Rattle.lif_outside.specs.Moves.{InFlight, Move, took_none}
 use Rattle.lif_outside.specs.declared.links.Links.{Ghosts as LinksGhosts}
@@ -18,7 +19,8 @@ use Rattle.relay_runner.proofs.PlannedLaws.{planned}
 use Rattle.relay_runner.proofs.StationLaws.{node-at, node-replaced, same-sinks, with_node}
 use Rattle.relay_runner.proofs.StoppingLaws.{stops-first}
 use Rattle.relay_runner.proofs.UnderwayLaws.{carries, has_carried, stops-carrying, underway-first, underway-more, underway-none}
-use Rattle.relay_runner.specs.Carrying.{Carries, IsUnderway, StopsCarrying}
+use Rattle.relay_runner.specs.Carried.{IsStopped}
+use Rattle.relay_runner.specs.Carrying.{Carries, IsUnderway}
 use Rattle.relay_runner.specs.Runner.{IsSameWork}
 use Rattle.relay_runner.specs.Running.{CanStart, HasCarried, IsRunning, Running, Starts}
 use Rattle.relay_runner.specs.Stepping.{Steps, StopsStepping}
@@ -64,7 +66,8 @@ module _ {L : Type 0} (g : LinksGhosts L) {F : Type 0} (code : Code) (pattern : 
         omega (arith, room, ap length quiet, room-first code pattern window station.node new packets starts.is_window.few fed gives)
 
     -- where a put fails
-    pub first-stops : (new : Relay) (after : L) → StopsPutting g before after station.node new → StopsCarrying g code pattern window before after
+    pub first-stops : (new : Relay) (after : L) → StopsPutting g before after station.node new
+        → MakesMoves g before after (IsStopped (g.faithful before) code pattern window)
     first-stops new after stops =
         stops-first g code pattern window (relays_of stations) (sinks_of stations) starts station.node new at_source stops.packets stops.last stops.given
         before after stops.calls
@@ -106,7 +109,7 @@ module _ {L : Type 0} (g : LinksGhosts L) {F : Type 0} (code : Code) (pattern : 
       → IsOnWay g start (at_work first count next failed (after_puts new)) before after
   first-way accounts first count next failed start view works can room new after due =
       let follows = (accounts (puts_of due.puts.packets) before after due.puts.calls).follows in
-      let held = holding g.flying g.room g.seed g.repeats in
+      let held = holding g.flying g.room g.opened_with g.repeats in
       let now = at_work first count next failed (after_puts new) in
       subst (λ (runner : Running). IsOnWay g runner now before after) view (record {
         room =
@@ -197,7 +200,8 @@ module _ {L : Type 0} (g : LinksGhosts L) (start now : Running) (before mid : L)
       → StopsStepping g code pattern window run state mid after
 
   pub way-stops : Account g → Joins g → (after : L) → Stops after now.code now.pattern
-      → (window : Window) → Starts start.code start.pattern window start.relays start.sinks → StopsCarrying g start.code start.pattern window before after
+      → (window : Window) → Starts start.code start.pattern window start.relays start.sinks
+      → MakesMoves g before after (IsStopped (g.faithful before) start.code start.pattern window)
   way-stops accounts joins after stops window starts =
       let under = way.under window starts in
       stops-carrying g start.code start.pattern window accounts joins before mid after now.relays now.sinks under
@@ -208,11 +212,12 @@ module _ {L : Type 0} (g : LinksGhosts L) (start now : Running) (before mid : L)
       → (window : Window) → Starts start.code start.pattern window start.relays start.sinks
       → Carries g start.code start.pattern window before after next.relays next.sinks
   way-ends accounts joins next after same quiet none window starts =
+      let under = way.under window starts in
+      let ended = underway-none g start.code start.pattern window accounts joins before mid after now.relays now.sinks under none in
       let follows = (accounts (took_none ∷ []) mid after none).follows in
       let still_quiet : g.flying after ≡ [] = ap (λ (held : InFlight). held.flying) follows.2 ∙ follows.1.1.same_flying ∙ quiet in
       subst (λ (runner : Running). Carries g start.code start.pattern window before after runner.relays runner.sinks) (sym same)
-      (carries g start.code start.pattern window before after now.relays now.sinks
-      (underway-none g start.code start.pattern window accounts joins before mid after now.relays now.sinks (way.under window starts) none) still_quiet)
+      (carries g start.code start.pattern window before after now.relays now.sinks ended.0 under.moves ended.1 still_quiet)
 
 -- a runner that has carried the window of its first number and its count
 pub has-carried : {L : Type 0} (g : LinksGhosts L) (start now : Running) → IsSameWork start now → (window : Window) → start.first ≡ window.first

@@ -30,7 +30,7 @@ use Rattle.station_table.specs.Table.{relays_of, sinks_of}
 
 module _ {L : Type 0} (g : LinksGhosts L)
     (accounts : (made : List Move) (old new : L) → g.moves made old new
-    → LinksAccounts (holding g.flying g.room g.seed g.repeats) g.faithful g.faults g.sent g.given made old new)
+    → LinksAccounts (holding g.flying g.room g.opened_with g.repeats) g.faithful g.faults g.sent g.given made old new)
     (more_moves : (first later : List Move) (a b c : L) → g.moves first a b → g.moves later b c → g.moves (first ++ later) a c)
     {F : Type 0} (code : Code) (stations : List (Station F)) (before : L) (flight : Flight) (mid : L) (made : g.moves (took flight ∷ []) before mid)
     (packet : Packet) (value : (put : Packet) → IsGivenOf put flight → packet ≡ record put { payload = drop 12 flight.frame }) where

@@ -1,8 +1,9 @@
--- What is put when a call fails: packets of the traffic by their keys, none twice.
-use Rattle.std.specs.Prelude.{◌≡◌, ◌≤◌, ◌+◌, ◌++◌, ◌∷◌, ℕ, true, false, cond, All, Contains, IsPermutation, List, [], Option, Some, map, slice_get}
-use Rattle.std.specs.List.{list_any}
+-- What is put when a call fails: packets of the traffic by their keys, none twice, that come from the blocks or are sums of what
+-- came first.
+use Rattle.std.specs.Prelude.{◌≡◌, ◌<◌, ◌≤◌, ◌+◌, ◌++◌, ◌∷◌, ℕ, true, false, cond, All, Contains, IsPermutation, List, [], Option, Some, length, map, slice_get}
 use Rattle.std.proofs.Common.{arith, get_or, inl, inr, refl, sym, ap, subst, ◌∙◌}
-use Rattle.std.proofs.lemmas.Bool.{cases_Bool, or_cases, or_left, or_right}
+use Rattle.std.proofs.lemmas.Bool.{both_ways, cases_Bool, or_cases, or_left, or_right}
+use Rattle.std.proofs.lemmas.List.{append-nil, map-append}
 use Rattle.std.proofs.lemmas.List.Elements.{All-append, All-cons, All-contains, All-head, All-nil, All-tail}
 use Rattle.std.proofs.lemmas.List.Folds.{list_any_at}
 use Rattle.std.proofs.lemmas.List.Sorted.{IsPermutation-refl}
@@ -10,10 +11,11 @@ use Rattle.std.proofs.lemmas.List.Sums.{sum_by-append}
 use Rattle.coded_traffic.specs.Traffic.{IsKey, Key, Window, is_same_key, key_of, packet_of}
 use Rattle.generation_frame.specs.declared.frame.Packet.{Packet}
 use Rattle.lif_outside.proofs.OpenLaws.{still-closed}
-use Rattle.lif_outside.specs.Moves.{Move, is_fault, pairs_put, put_failed, take_failed, took}
+use Rattle.lif_outside.specs.Calls.{MakesMoves}
+use Rattle.lif_outside.specs.Moves.{Move, flights_given, pairs_put, put_failed, take_failed, took}
 use Rattle.lif_outside.specs.declared.links.Flight.{Flight}
 use Rattle.lif_outside.specs.declared.links.Links.{Ghosts as LinksGhosts}
-use Rattle.net_model.specs.Walks.{head_of}
+use Rattle.net_model.specs.Walks.{head_of, leaves_source}
 use Rattle.node_program.specs.declared.code.Code.{Code}
 use Rattle.node_states.proofs.GivingLaws.{has_key-append}
 use Rattle.node_states.proofs.SourceLaws.{given, given-key}
@@ -23,16 +25,22 @@ use Rattle.node_stations.specs.Putting.{flight_of, puts_of}
 use Rattle.relay_core.proofs.FaithfulLaws.{summed-is}
 use Rattle.relay_core.proofs.Kept.{Kept}
 use Rattle.relay_core.proofs.PacketLaws.{has_key-held_after, itself, same_key, times-none}
+use Rattle.relay_core.proofs.RelayedLaws.{relayed-after}
 use Rattle.relay_core.proofs.RunLaws.{reached-kept, run-reaches}
 use Rattle.relay_core.proofs.StepLaws.{operands-are}
-use Rattle.relay_core.specs.Core.{Delivery, IsFaithful, RelayState, has_key, held_after, times_of}
-use Rattle.relay_core.specs.Runs.{AreOfTraffic, IsOfTraffic}
+use Rattle.relay_core.specs.Core.{Delivery, IsFaithful, MaySend, RelayState, has_key, held_after, summed, times_of}
+use Rattle.relay_core.specs.Runs.{AreOfTraffic, AreRelayed, IsOfTraffic}
 use Rattle.relay_node.specs.Relay.{Relay}
-use Rattle.relay_runner.specs.Carrying.{StopsCarrying}
+use Rattle.relay_runner.proofs.CameLaws.{after-came, relayed-told, sent-told}
+use Rattle.relay_runner.proofs.WellLaws.{puts-well}
+use Rattle.relay_runner.specs.Carried.{IsStopped, packets_given}
 use Rattle.relay_runner.specs.Running.{IsRunning, Starts}
 use Rattle.relay_runner.specs.Stepping.{ArePut, StopsStepping}
+use Rattle.run_states.proofs.FlyingLaws.{fits-key, packet_in-frame_of}
+use Rattle.run_states.proofs.StepLaws.{has_key-at}
 use Rattle.run_states.specs.Delivered.{packet_given}
 use Rattle.run_states.specs.Passing.{StopsPassing}
+use Rattle.run_states.specs.Showing.{packets_in}
 use Rattle.sink_decoder.specs.Receiving.{Receiver}
 
 -- what holds of all items of two lists holds of those of the first
@@ -45,10 +53,10 @@ stopped-pairs : (packets : List Packet) (last : Packet) → pairs_put (puts_of p
 stopped-pairs [] last = refl
 stopped-pairs (packet ∷ packets) last = ap (λ (pairs : List Flight). flight_of packet ∷ pairs) (stopped-pairs packets last)
 
--- and among them a call failed
-stopped-fault : (packets : List Packet) (last : Packet) → list_any is_fault (puts_of packets ++ put_failed (flight_of last) ∷ []) ≡ true
-stopped-fault [] last = refl
-stopped-fault (packet ∷ packets) last = stopped-fault packets last
+-- and gave nothing
+stopped-given : (packets : List Packet) (last : Packet) → flights_given (puts_of packets ++ put_failed (flight_of last) ∷ []) ≡ []
+stopped-given [] last = refl
+stopped-given (packet ∷ packets) last = stopped-given packets last
 
 -- how often a key stands among two lists
 times-append : (key : Key) (packets others : List Packet) → times_of key (packets ++ others) ≡ times_of key packets + times_of key others
@@ -90,6 +98,22 @@ module _ {L : Type 0} (g : LinksGhosts L) (code : Code) (pattern : ℕ) (window 
         payloads = λ as_put. All-append Is more sent (All-first Is more (last ∷ []) (is as_put)) (sent_is as_put);
       }
 
+  -- where a packet comes from, on a link that leaves the source, and on another
+  abbrev IsFirst : Packet → Type 0
+  IsFirst packet = leaves_source code.net packet.link ≡ true → Is packet
+
+  abbrev IsSum : List Packet → Packet → Type 0
+  IsSum held packet = leaves_source code.net packet.link ≡ false → packet.payload ≡ summed code pattern held (key_of packet)
+
+  -- packets that say where they come from, beside what was sent that does so too
+  relayed-too : (held more sent : List Packet) → All IsFirst more → All (IsSum held) more → AreRelayed code pattern window held sent
+      → AreRelayed code pattern window held (more ++ sent)
+  relayed-too held more sent firsts sums relayed =
+      record {
+        from_source = All-append IsFirst more sent firsts relayed.from_source;
+        others = All-append (IsSum held) more sent sums relayed.others;
+      }
+
   module _ (run : List Delivery) (relays : List Relay) (sinks : List (Option Receiver)) (flying : List Flight) (state : RelayState)
       (running : IsRunning code pattern window run relays sinks flying state) where
     kept : Kept code pattern window state
@@ -127,9 +151,15 @@ module _ {L : Type 0} (g : LinksGhosts L) (code : Code) (pattern : ℕ) (window 
           more = [];
           calls = calls;
           closed = refl;
-          fault = refl;
+          front = [];
+          fault = take_failed;
+          ended = refl;
+          well = refl;
+          fails = refl;
           puts = refl;
           put = record { once = kept.sent_once; keys = kept.of_traffic; payloads = λ given. (faithful given.1).sent };
+          relayed = subst (λ (came : List Packet). AreRelayed code pattern window came state.sent) (sym (append-nil (map packet_given run)))
+              (sent-told code pattern window run state running.is_run);
         }
 
     -- where a put fails, packets of the step were put before it
@@ -145,11 +175,18 @@ module _ {L : Type 0} (g : LinksGhosts L) (code : Code) (pattern : ℕ) (window 
           more = stops.more;
           calls = more_moves take puts before mid after taken stops.calls;
           closed = still-closed (puts_of stops.more) (put_failed (flight_of stops.last) ∷ []) (puts-closed stops.more) refl;
-          fault = stopped-fault stops.more stops.last;
+          front = take ++ puts_of stops.more;
+          fault = put_failed (flight_of stops.last);
+          ended = refl;
+          well = puts-well stops.more;
+          fails = refl;
           puts = stopped-pairs stops.more stops.last;
           put =
               are-put ((g.faithful before ≡ true) × IsFaithful run) state.sent stops.more stops.last kept.sent_once kept.of_traffic stops.once
               key-is (λ key has. (stops.may key has).unsent) (λ given. (faithful given.1).sent) are;
+          relayed = subst (λ (came : List Packet). AreRelayed code pattern window came (stops.more ++ state.sent)) (sym came)
+              (relayed-told code pattern window now (map packet_given (run ++ delivery ∷ [])) (stops.more ++ state.sent)
+              (after-came code pattern window run state running.is_run delivery) sums);
         }
       where
         -- the take, and the puts after it
@@ -164,6 +201,29 @@ module _ {L : Type 0} (g : LinksGhosts L) (code : Code) (pattern : ℕ) (window 
 
         now : List Packet
         now = held_after delivery state.held
+
+        -- what came, in the run and by the take
+        came : map packet_given run ++ packets_in (flights_given (take ++ puts)) ≡ map packet_given (run ++ delivery ∷ [])
+        came =
+            ap (λ (flights : List Flight). map packet_given run ++ packets_in (flight_of (packet_given delivery) ∷ flights))
+            (stopped-given stops.more stops.last)
+            ∙ ap (λ (packet : Packet). map packet_given run ++ packet ∷ [])
+            (packet_in-frame_of (packet_given delivery) (fits-key code pattern window (packet_given delivery) running.is_window.last is_key))
+            ∙ sym (map-append packet_given run (delivery ∷ []))
+
+        -- each of the packets may be sent
+        may-at : (k : ℕ) (d : Packet) → k < length all
+            → MaySend code pattern (head_of code.net.links delivery.pair.link) now state.sent (key_of (get_or all k d))
+        may-at k d within = stops.may (key_of (get_or all k d)) (has_key-at all k d within)
+
+        -- so what is put and what was sent are sums of what is held
+        sums : AreRelayed code pattern window now (stops.more ++ state.sent)
+        sums =
+            relayed-too now stops.more state.sent
+            (All-first IsFirst stops.more (stops.last ∷ [])
+            (λ k d within leaves. absurd (both_ways (leaves_source code.net (get_or all k d).link) (may-at k d within).not_source leaves)))
+            (All-first (IsSum now) stops.more (stops.last ∷ []) (λ k d within inner. stops.payloads k d within))
+            (relayed-after code pattern window run state running.is_run delivery)
 
         -- each of the packets is of the traffic by its key
         key-is : (key : Key) → has_key key all ≡ true → IsKey code pattern window key
@@ -188,21 +248,36 @@ module _ {L : Type 0} (g : LinksGhosts L) (code : Code) (pattern : ℕ) (window 
   pub stops-first : (relays : List Relay) (sinks : List (Option Receiver)) → Starts code pattern window relays sinks
       → (source new : Relay) → slice_get relays code.net.source ≡ Some source → (packets : List Packet) (last : Packet)
       → GivesEach source (packets ++ last ∷ []) new → (before after : L)
-      → g.moves (puts_of packets ++ put_failed (flight_of last) ∷ []) before after → StopsCarrying g code pattern window before after
+      → g.moves (puts_of packets ++ put_failed (flight_of last) ∷ []) before after
+      → MakesMoves g before after (IsStopped (g.faithful before) code pattern window)
   stops-first relays sinks starts source new at packets last each before after calls =
       let fed : IsFedAll code pattern window source = starts.ready.source source at in
       let all = packets ++ last ∷ [] in
+      let moves = puts_of packets ++ put_failed (flight_of last) ∷ [] in
       let are = given code pattern window source new all fed each in
+      let leaves : All (λ packet. leaves_source code.net packet.link ≡ true) all =
+      λ k d within. (given-key code pattern window source new all fed each (key_of (get_or all k d)) (has_key-at all k d within)).1 in
       record {
-        moves = puts_of packets ++ put_failed (flight_of last) ∷ [];
-        packets = packets;
-        calls = calls;
-        closed = still-closed (puts_of packets) (put_failed (flight_of last) ∷ []) (puts-closed packets) refl;
-        fault = stopped-fault packets last;
-        puts = subst (IsPermutation (map flight_of packets)) (sym (stopped-pairs packets last)) (IsPermutation-refl (map flight_of packets));
-        put = record {
-          once = λ key. omega (arith, times-append key packets (last ∷ []), are.once key);
-          keys = λ key has. (given-key code pattern window source new all fed each key (has-first key packets (last ∷ []) has)).0;
-          payloads = λ as_put. All-first Is packets (last ∷ []) are.are;
+        made = moves;
+        lead = calls;
+        holds = record {
+          closed = still-closed (puts_of packets) (put_failed (flight_of last) ∷ []) (puts-closed packets) refl;
+          front = puts_of packets;
+          fault = put_failed (flight_of last);
+          ended = refl;
+          well = puts-well packets;
+          fails = refl;
+          packets = packets;
+          puts = subst (IsPermutation (map flight_of packets)) (sym (stopped-pairs packets last)) (IsPermutation-refl (map flight_of packets));
+          put = record {
+            once = λ key. omega (arith, times-append key packets (last ∷ []), are.once key);
+            keys = λ key has. (given-key code pattern window source new all fed each key (has-first key packets (last ∷ []) has)).0;
+            payloads = λ as_put. All-first Is packets (last ∷ []) are.are;
+          };
+          relayed = record {
+            from_source = All-first IsFirst packets (last ∷ []) (λ k d within leaves. are.are k d within);
+            others = All-first (IsSum (packets_given moves)) packets (last ∷ [])
+                (λ k d within inner. absurd (both_ways (leaves_source code.net (get_or all k d).link) inner (leaves k d within)));
+          };
         };
       }

@@ -39,10 +39,10 @@ use Rattle.sink_decoder.specs.Receiving.{Receiver}
 
 module _ {L : Type 0} (g : LinksGhosts L)
     (accounts : (made : List Move) (old new : L) → g.moves made old new
-    → LinksAccounts (holding g.flying g.room g.seed g.repeats) g.faithful g.faults g.sent g.given made old new)
+    → LinksAccounts (holding g.flying g.room g.opened_with g.repeats) g.faithful g.faults g.sent g.given made old new)
     (more_moves : (first later : List Move) (a b c : L) → g.moves first a b → g.moves later b c → g.moves (first ++ later) a c) where
   abbrev holds : L → InFlight
-  holds links = holding g.flying g.room g.seed g.repeats links
+  holds links = holding g.flying g.room g.opened_with g.repeats links
 
   -- a take, as a change of what flies
   taken : (flight : Flight) (before mid : L) → g.moves (took flight ∷ []) before mid → IsTaken (g.faithful before) flight (holds before) (holds mid)

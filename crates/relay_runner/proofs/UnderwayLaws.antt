@@ -1,19 +1,18 @@
 -- Calls on links that are a run of a window: how they begin, how they go on, and what they are where they end.
 use Rattle.std.specs.Prelude.{◌≡◌, ◌++◌, ◌∷◌, ℕ, true, IsPermutation, List, [], Option, Some, length, map, slice_get}
-use Rattle.std.specs.List.{list_any}
 use Rattle.std.proofs.Common.{◌∙◌, ap, refl, subst, sym}
-use Rattle.std.proofs.lemmas.Bool.{or_right}
-use Rattle.std.proofs.lemmas.List.{append-nil, map-append, nil_from_length}
+use Rattle.std.proofs.lemmas.List.{append-nil, append_assoc, map-append, nil_from_length}
 use Rattle.std.proofs.lemmas.List.Elements.{All-nil, All-push}
-use Rattle.std.proofs.lemmas.List.Folds.{list_any-append}
 use Rattle.std.proofs.lemmas.List.Sorted.{IsPermutation-append_comm, IsPermutation-append_right, IsPermutation-map, IsPermutation-trans, length_permutation}
 use Rattle.std.proofs.lemmas.Simd.{map-map}
 use Rattle.coded_traffic.specs.Traffic.{Key, Window, keys_of, packet_of, traffic_of}
+use Rattle.generation_frame.specs.Frames.{packet_in}
 use Rattle.generation_frame.specs.declared.frame.Packet.{Packet}
 use Rattle.lif_outside.proofs.OpenLaws.{as_before, still-closed}
+use Rattle.lif_outside.specs.Calls.{MakesMoves}
 use Rattle.lif_outside.specs.LinksAccounts.{LinksAccounts, holding}
 use Rattle.lif_outside.specs.MoveLaws.{flights_given-append, pairs_put-append}
-use Rattle.lif_outside.specs.Moves.{InFlight, IsOpenAsBefore, Move, flights_given, is_fault, pairs_put, took, took_none}
+use Rattle.lif_outside.specs.Moves.{InFlight, IsOpenAsBefore, Move, flights_given, pairs_put, took, took_none}
 use Rattle.lif_outside.specs.declared.links.Flight.{Flight}
 use Rattle.lif_outside.specs.declared.links.Links.{Ghosts as LinksGhosts}
 use Rattle.node_program.specs.declared.code.Code.{Code}
@@ -24,10 +23,14 @@ use Rattle.node_stations.specs.Putting.{flight_of, puts_of}
 use Rattle.relay_core.proofs.RelayedLaws.{first-held, run-relayed}
 use Rattle.relay_core.proofs.RunLaws.{run-reaches}
 use Rattle.relay_core.specs.Core.{Delivery, opening, packets_of}
+use Rattle.relay_core.specs.Runs.{AreRelayed}
 use Rattle.relay_node.specs.Relay.{IsDue, Relay}
-use Rattle.relay_runner.specs.Carrying.{Carries, IsUnderway, StopsCarrying}
+use Rattle.relay_runner.proofs.WellLaws.{puts-well, still-well}
+use Rattle.relay_runner.specs.Carried.{IsStopped, packets_given}
+use Rattle.relay_runner.specs.Carrying.{Carries, IsUnderway}
 use Rattle.relay_runner.specs.Running.{HasCarried, IsRunning, Running, Starts}
 use Rattle.relay_runner.specs.Stepping.{Steps, StopsStepping}
+use Rattle.run_states.proofs.GivenLaws.{packets_in-given, run-fit}
 use Rattle.run_states.proofs.OpeningLaws.{opened}
 use Rattle.run_states.specs.Delivered.{packet_given}
 use Rattle.run_states.specs.Showing.{packets_in}
@@ -72,10 +75,10 @@ has_carried g runner window same_first same_count before now carries =
     }
 
 module _ {L : Type 0} (g : LinksGhosts L) (code : Code) (pattern : ℕ) (window : Window) where
-  -- calls that are a run, after which nothing flies, carry the window
-  pub carries : (before now : L) (relays : List Relay) (sinks : List (Option Receiver)) → IsUnderway g code pattern window before now relays sinks
-      → g.flying now ≡ [] → Carries g code pattern window before now relays sinks
-  carries before now relays sinks under quiet =
+  -- calls that are a run, of which the last found nothing, and after which nothing flies, carry the window
+  pub carries : (before now : L) (relays : List Relay) (sinks : List (Option Receiver)) (under : IsUnderway g code pattern window before now relays sinks)
+      → (front : List Move) → under.moves ≡ front ++ took_none ∷ [] → g.flying now ≡ [] → Carries g code pattern window before now relays sinks
+  carries before now relays sinks under front ended quiet =
       let none : under.state.flying ≡ [] =
       none-permuted under.state.flying (packets_in (g.flying now)) under.running.shown.flies (ap packets_in quiet) in
       let reaches = run-reaches code pattern window under.run under.state under.running.is_window.blocks under.running.is_run in
@@ -83,6 +86,8 @@ module _ {L : Type 0} (g : LinksGhosts L) (code : Code) (pattern : ℕ) (window 
       map-map flight_of (packet_of code pattern window) (keys_of code pattern window) in
       record {
         carried = under;
+        front = front;
+        ended = ended;
         quiet = quiet;
         reaches = reaches;
         held = first-held code pattern under.run (opening code pattern window) under.state under.running.is_run;
@@ -94,10 +99,10 @@ module _ {L : Type 0} (g : LinksGhosts L) (code : Code) (pattern : ℕ) (window 
       }
 
   module _ (accounts : (made : List Move) (old new : L) → g.moves made old new
-      → LinksAccounts (holding g.flying g.room g.seed g.repeats) g.faithful g.faults g.sent g.given made old new) where
+      → LinksAccounts (holding g.flying g.room g.opened_with g.repeats) g.faithful g.faults g.sent g.given made old new) where
     -- the room and the number stay
     pub still-open : (before now : L) (relays : List Relay) (sinks : List (Option Receiver)) → IsUnderway g code pattern window before now relays sinks
-        → IsOpenAsBefore (holding g.flying g.room g.seed g.repeats before) (holding g.flying g.room g.seed g.repeats now)
+        → IsOpenAsBefore (holding g.flying g.room g.opened_with g.repeats before) (holding g.flying g.room g.opened_with g.repeats now)
     still-open before now relays sinks under =
         as_before (g.faithful before) under.moves _ _ under.closed (accounts under.moves before now under.calls).follows
 
@@ -118,11 +123,12 @@ module _ {L : Type 0} (g : LinksGhosts L) (code : Code) (pattern : ℕ) (window 
             is_window = starts.is_window;
             is_run = refl;
             shown = opened code pattern window relays after sinks source new more (g.faithful before)
-                (holding g.flying g.room g.seed g.repeats before) (holding g.flying g.room g.seed g.repeats now)
+                (holding g.flying g.room g.opened_with g.repeats before) (holding g.flying g.room g.opened_with g.repeats now)
                 starts.is_window.last starts.ready at_source each none replaced quiet (accounts (puts_of more) before now calls).follows;
           };
           calls = calls;
           closed = puts-closed more;
+          well = puts-well more;
           puts = subst (IsPermutation (map flight_of first.sent)) (sym (pairs_put-puts_of more)) (IsPermutation-map flight_of first.sent more given);
           gives = flights_given-puts_of more;
           as_put = λ faithful. All-nil (λ (delivery : Delivery). delivery.payload ≡ delivery.pair.payload);
@@ -152,6 +158,7 @@ module _ {L : Type 0} (g : LinksGhosts L) (code : Code) (pattern : ℕ) (window 
             running = steps.running;
             calls = more_moves under.moves later before mid now under.calls steps.calls;
             closed = still-closed under.moves later under.closed (puts-closed steps.more);
+            well = still-well under.moves later under.well (puts-well steps.more);
             puts = subst (λ (packets : List Packet). IsPermutation (map flight_of packets) (pairs_put (under.moves ++ later))) (sym steps.sent)
                 (subst (IsPermutation (map flight_of (steps.more ++ under.state.sent))) (sym put) more);
             gives = flights_given-append under.moves later
@@ -162,43 +169,59 @@ module _ {L : Type 0} (g : LinksGhosts L) (code : Code) (pattern : ℕ) (window 
                 (under.as_put faithful) (steps.as_put (still-faithful under faithful));
           }
 
-      -- a take that gave nothing
-      pub underway-none : IsUnderway g code pattern window before mid relays sinks → g.moves (took_none ∷ []) mid now
-          → IsUnderway g code pattern window before now relays sinks
+      -- a take that gave nothing, as the last call
+      pub underway-none : (under : IsUnderway g code pattern window before mid relays sinks) → g.moves (took_none ∷ []) mid now
+          → (ended : IsUnderway g code pattern window before now relays sinks) × (ended.moves ≡ under.moves ++ took_none ∷ [])
       underway-none under calls =
           let follows = (accounts (took_none ∷ []) mid now calls).follows in
           let same : g.flying mid ≡ g.flying now = sym (ap (λ (held : InFlight). held.flying) follows.2 ∙ follows.1.1.same_flying) in
           let put = pairs_put-append under.moves (took_none ∷ []) ∙ append-nil (pairs_put under.moves) in
-          let given = flights_given-append under.moves (took_none ∷ []) ∙ append-nil (flights_given under.moves) in
-          record {
-            moves = under.moves ++ took_none ∷ [];
-            run = under.run;
-            state = under.state;
-            running = subst (λ (flying : List Flight). IsRunning code pattern window under.run relays sinks flying under.state) same under.running;
-            calls = more_moves under.moves (took_none ∷ []) before mid now under.calls calls;
-            closed = still-closed under.moves (took_none ∷ []) under.closed refl;
-            puts = subst (IsPermutation (map flight_of under.state.sent)) (sym put) under.puts;
-            gives = given ∙ under.gives;
-            as_put = under.as_put;
-          }
+          let given = flights_given-append under.moves (took_none ∷ []) ∙ append-nil (flights_given under.moves) in (
+            record {
+              moves = under.moves ++ took_none ∷ [];
+              run = under.run;
+              state = under.state;
+              running = subst (λ (flying : List Flight). IsRunning code pattern window under.run relays sinks flying under.state) same under.running;
+              calls = more_moves under.moves (took_none ∷ []) before mid now under.calls calls;
+              closed = still-closed under.moves (took_none ∷ []) under.closed refl;
+              well = still-well under.moves (took_none ∷ []) under.well refl;
+              puts = subst (IsPermutation (map flight_of under.state.sent)) (sym put) under.puts;
+              gives = given ∙ under.gives;
+              as_put = under.as_put;
+            },
+            refl,
+          )
 
       -- a step that failed
       pub stops-carrying : (under : IsUnderway g code pattern window before mid relays sinks)
-          → StopsStepping g code pattern window under.run under.state mid now → StopsCarrying g code pattern window before now
+          → StopsStepping g code pattern window under.run under.state mid now
+          → MakesMoves g before now (IsStopped (g.faithful before) code pattern window)
       stops-carrying under stops =
           let put : pairs_put (under.moves ++ stops.moves) ≡ pairs_put under.moves ++ map flight_of stops.more =
           pairs_put-append under.moves stops.moves ∙ ap (λ (pairs : List Flight). pairs_put under.moves ++ pairs) stops.puts in
           let packets = stops.more ++ under.state.sent in
+          let came : packets_given (under.moves ++ stops.moves) ≡ map packet_given under.run ++ packets_in (flights_given stops.moves) =
+          ap packets_in (flights_given-append under.moves stops.moves)
+          ∙ map-append (λ (flight : Flight). packet_in flight.frame) (flights_given under.moves) (flights_given stops.moves)
+          ∙ ap (λ (packets : List Packet). packets ++ packets_in (flights_given stops.moves)) (ap packets_in under.gives
+          ∙ packets_in-given under.run (run-fit code pattern window under.run under.state under.running.is_window.last under.running.is_run)) in
           record {
-            moves = under.moves ++ stops.moves;
-            packets = packets;
-            calls = more_moves under.moves stops.moves before mid now under.calls stops.calls;
-            closed = still-closed under.moves stops.moves under.closed stops.closed;
-            fault = list_any-append is_fault under.moves stops.moves ∙ or_right (list_any is_fault under.moves) (list_any is_fault stops.moves) stops.fault;
-            puts = subst (IsPermutation (map flight_of packets)) (sym put) (put-more stops.more under.state.sent (pairs_put under.moves) under.puts);
-            put = record {
-              once = stops.put.once;
-              keys = stops.put.keys;
-              payloads = λ faithful. stops.put.payloads (still-faithful under faithful, under.as_put faithful);
+            made = under.moves ++ stops.moves;
+            lead = more_moves under.moves stops.moves before mid now under.calls stops.calls;
+            holds = record {
+              closed = still-closed under.moves stops.moves under.closed stops.closed;
+              front = under.moves ++ stops.front;
+              fault = stops.fault;
+              ended = ap (λ (moves : List Move). under.moves ++ moves) stops.ended ∙ sym (append_assoc under.moves stops.front (stops.fault ∷ []));
+              well = still-well under.moves stops.front under.well stops.well;
+              fails = stops.fails;
+              packets = packets;
+              puts = subst (IsPermutation (map flight_of packets)) (sym put) (put-more stops.more under.state.sent (pairs_put under.moves) under.puts);
+              put = record {
+                once = stops.put.once;
+                keys = stops.put.keys;
+                payloads = λ faithful. stops.put.payloads (still-faithful under faithful, under.as_put faithful);
+              };
+              relayed = subst (λ (came : List Packet). AreRelayed code pattern window came packets) (sym came) stops.relayed;
             };
           }

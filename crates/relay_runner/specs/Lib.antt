@@ -1,4 +1,5 @@
 pub mod Running
 pub mod Stepping
 pub mod Carrying
+pub mod Carried
 pub mod Runner

@@ -3,9 +3,11 @@ ghost use Rattle.std.specs.Prelude.{◌≡◌, ◌<◌, ◌≤◌, ◌+◌, ◌*
 ghost use Rattle.coded_traffic.specs.Traffic.{Window};
 ghost use Rattle.generation_frame.specs.Blocks.{row_bytes};
 ghost use Rattle.gf_tables.specs.Kind.{IsOfKind};
-ghost use Rattle.lif_outside.specs.Moves.{open_refused, opened, took_none};
+ghost use Rattle.lif_outside.specs.Calls.{MakesMoves};
+ghost use Rattle.lif_outside.specs.Moves.{Move, open_refused, opened, took_none};
+ghost use Rattle.node_states.specs.Decoded.{decoded_of};
+ghost use Rattle.node_stations.specs.Opening.{demand_of};
 ghost use Rattle.relay_core.specs.Core.{Delivery, IsFaithful, RelayState};
-ghost use Rattle.sink_decoder.specs.Receiving.{Receiver, decoded};
 
 use crate::running::step;
 use crate::starting::start_window;
@@ -58,7 +60,8 @@ impl<'c, F> Model for Runner<'c, F> {
 }
 
 impl<'c, F: Field> Runner<'c, F> {
-    ghost use Rattle.relay_runner.specs.Carrying.{Carries, StopsCarrying};
+    ghost use Rattle.relay_runner.specs.Carried.{HasCarriedBy, IsStopped, Sends, packets_given};
+    ghost use Rattle.relay_runner.specs.Carrying.{Carries};
     ghost use Rattle.relay_runner.specs.Runner.{IsRefused, IsSameWork};
     ghost use Rattle.relay_runner.specs.Running.{AreBlocks, CanStart, HasCarried, IsRunning, StandAt, Starts, count_in, window_from};
     ghost use Rattle.relay_runner.specs.Stepping.{Steps, StopsStepping};
@@ -153,7 +156,8 @@ impl<'c, F: Field> Runner<'c, F> {
             self.new.relays self.new.sinks) }
         ensures stopped { OnErr result ((window : Window)
             → Starts self.old.code self.old.pattern window self.old.relays self.old.sinks
-            → StopsCarrying K.Links self.old.code self.old.pattern window links.old links.new) }
+            → MakesMoves K.Links links.old links.new
+            (IsStopped (K.faithful links.old) self.old.code self.old.pattern window)) }
     {
         let source = self.code.code().net.source as usize;
         let Ok(()) = put_due(&mut self.stations[source].node, links) else {
@@ -180,12 +184,15 @@ impl<'c, F: Field> Runner<'c, F> {
         ensures carried { OnOk result (Carries K.Links self.old.code self.old.pattern
             (window_from self.old.code self.old.next blocks.now) links.old links.new
             self.new.relays self.new.sinks) }
+        ensures sent { OnOk result (Sends K.Links
+            (window_from self.old.code self.old.next blocks.now) links.old links.new self.new) }
         ensures whole { OnOk result (HasCarried self.new) }
         ensures quiet { OnOk result (K.flying links.new ≡ []) }
         ensures room { OnOk result (K.room links.new ≡ K.room links.old) }
-        ensures seed { OnOk result (K.seed links.new ≡ K.seed links.old) }
-        ensures stopped { OnErr result (StopsCarrying K.Links self.old.code self.old.pattern
-            (window_from self.old.code self.old.next blocks.now) links.old links.new) }
+        ensures seed { OnOk result (K.opened_with links.new ≡ K.opened_with links.old) }
+        ensures stopped { OnErr result (MakesMoves K.Links links.old links.new
+            (IsStopped (K.faithful links.old) self.old.code self.old.pattern
+            (window_from self.old.code self.old.next blocks.now))) }
     {
         let first = self.next as u32;
         let count = start_window(self.code.code(), &mut self.stations, first, blocks);
@@ -202,10 +209,9 @@ impl<'c, F: Field> Runner<'c, F> {
         requires sink { sink < length self.now.code.net.sinks }
         requires place { place < self.now.count }
         requires room { length into.old ≡ self.now.code.rate * row_bytes }
-        ensures value { (node : ℕ) (receiver : Receiver)
-            → slice_get self.now.code.net.sinks sink ≡ Some node
-            → slice_get self.now.sinks node ≡ Some (Some receiver)
-            → into.new ≡ decoded receiver (self.now.first + place) }
+        ensures value { (moves : List Move) → HasCarriedBy self.now moves
+            → into.new ≡ decoded_of self.now.code (demand_of self.now.code self.now.pattern sink)
+            (packets_given moves) (self.now.first + place) }
         ensures carried { (window : Window) (run : List Delivery) (state : RelayState)
             → IsRunning self.now.code self.now.pattern window run self.now.relays self.now.sinks
             [] state → IsFaithful run → into.new ≡ slice_index_or window.blocks place [] }

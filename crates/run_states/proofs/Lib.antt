@@ -1,5 +1,6 @@
 pub mod CountLaws
 pub mod FlyingLaws
+pub mod GivenLaws
 pub mod OpeningLaws
 pub mod PassingLaws
 pub mod ReceivingLaws

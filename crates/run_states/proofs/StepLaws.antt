@@ -40,7 +40,7 @@ pub record Steps (code : Code) (pattern : ℕ) (window : Window) (delivery : Del
   pub shown : IsShown code pattern window relays sinks flying (next_of delivery state more flying)
 
 -- a packet's key is among those of packets that it is one of
-has_key-at : (packets : List Packet) (k : ℕ) (d : Packet) → k < length packets → has_key (key_of (get_or packets k d)) packets ≡ true
+pub has_key-at : (packets : List Packet) (k : ℕ) (d : Packet) → k < length packets → has_key (key_of (get_or packets k d)) packets ≡ true
 has_key-at packets k d within =
     let key = key_of (get_or packets k d) in
     list_any_at (λ packet. is_same_key (key_of packet) key) packets k d within (itself key)

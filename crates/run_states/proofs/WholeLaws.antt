@@ -19,6 +19,8 @@ use Rattle.node_plans.proofs.OrderLaws.{live-below}
 use Rattle.node_program.proofs.DecodingLaws.{decoder_of_demand}
 use Rattle.node_program.specs.CodeValue.{is_live_in}
 use Rattle.node_program.specs.declared.code.Code.{Code}
+use Rattle.node_states.proofs.DecodedLaws.{decoded-shown}
+use Rattle.node_states.specs.Decoded.{decoded_of}
 use Rattle.node_states.specs.Shown.{IsWanted, ShowsSink}
 use Rattle.node_stations.specs.Opening.{demand_of}
 use Rattle.relay_core.proofs.PacketLaws.{payload_of-known}
@@ -27,7 +29,7 @@ use Rattle.relay_core.specs.Core.{Delivery, IsFaithful, IsRun, RelayState, has_k
 use Rattle.relay_core.specs.Runs.{Reaches}
 use Rattle.sink_decoder.proofs.HeldLaws.{all_below}
 use Rattle.sink_decoder.proofs.PlaceLaws.{at-place_of, place_of-at, wanted-place}
-use Rattle.sink_decoder.specs.Receiving.{Receiver, SinkPlan, TakesTraffic, came_of, is_live_at, is_whole, links_of, place_of, sink_plan_of, wants}
+use Rattle.sink_decoder.specs.Receiving.{Receiver, SinkPlan, TakesTraffic, came_of, decoded, is_live_at, is_whole, links_of, place_of, sink_plan_of, wants}
 
 -- a row is whole of which all pieces have come
 whole-pieces : (held : Held) (row : ℕ) → ((piece : ℕ) → piece < pieces → is_held held row piece ≡ true) → rows.is_whole held row ≡ true
@@ -118,6 +120,15 @@ module _ (code : Code) (pattern : ℕ) (window : Window) (run : List Delivery) (
         | inl live ↦ rw live (live-whole at within live)
         | inr dead ↦ rw dead refl
       ]
+
+  -- what it decodes of one is decoded of what is held
+  pub sink-decoded : (generation : ℕ) → window.first ≤ generation → generation < window.first + length window.blocks
+      → decoded sink generation ≡ decoded_of code demand state.held generation
+  sink-decoded generation begun numbered =
+      decoded-shown code demand window sink state.held generation shows (rising-links code pattern place here pattern_is) begun numbered
+      (λ link piece wanted low.
+      wanted-held (record { link = link; generation = generation; piece = piece })
+      (record { wanted = wanted; begun = begun; numbered = numbered; of_piece = low }))
 
   -- and what came is the traffic of the blocks
   pub sink-traffic : IsFaithful run → TakesTraffic code demand window sink

@@ -1,14 +1,18 @@
 -- What has to be known of a command that reads one input and acts by it, from what is known of how it acts.
 use Rattle.std.specs.Prelude.{◌≡◌, ◌≢◌, ◌++◌, ℕ, false, List, [], Some, Result, Ok, Err, IsTrue, IsFalse}
+use Rattle.std.specs.List.{list_any}
 use Rattle.std.proofs.Common.{refl, sym, ap, subst, ◌∙◌}
 use Rattle.std.proofs.lemmas.Bool.{false≢true}
 use Rattle.std.proofs.lemmas.List.{append-nil}
 use Rattle.lif_outside.proofs.CallLaws.{calls_then, calls_weaker}
-use Rattle.lif_outside.specs.Calls.{Begins, ByCalls, Calls, Deeds, Outside, store_calls}
+use Rattle.lif_outside.specs.Calls.{Begins, ByCalls, Calls, Deeds, MakesBoth, Outside, store_calls}
+use Rattle.lif_outside.specs.declared.links.Links.{Ghosts as LinksGhosts}
+use Rattle.lif_outside.specs.declared.store.Store.{Ghosts as StoreGhosts}
 use Rattle.lif_outside.proofs.DeedLaws.{Accounted}
 use Rattle.lif_outside.specs.Events.{Event}
 use Rattle.lif_outside.proofs.FaultLaws.{HaveFailed, failed-append}
 use Rattle.lif_outside.specs.Files.{Files}
+use Rattle.lif_outside.specs.Moves as moves
 use Rattle.lif_outside.specs.Told.{Told}
 use Rattle.top_base.specs.Acting.{Due, DueAfter, LeavesUnread, Runs, RunsAfter}
 use Rattle.top_base.specs.Inputs.{HoldsInput, Loses, Reads, is_lost}
@@ -16,7 +20,7 @@ use Rattle.top_base.proofs.InputLaws.{AreAlikeResults, IsInput, IsOfInputs, alik
 use Rattle.top_base.proofs.LeavingLaws.{KeepAll, follow_later, happen_parts, keep_files, later_among, told_at, told_both}
 use Rattle.top_base.specs.Outcome.{AreAlike, any_cycle, fault_line, is_fault, is_of_inputs}
 use Rattle.top_base.specs.Performs.{Behaviour, LeavesAll, by_files}
-use Rattle.top_base.proofs.PerformingLaws.{IsKnown, is_read_fault, is_write_fault}
+use Rattle.top_base.proofs.PerformingLaws.{HaveFailedBy, IsKnown, is_link_fault, is_read_fault, is_write_fault}
 use Rattle.top_base.specs.declared.outcome.Outcome.{Outcome}
 use Rattle.top_base.specs.declared.status.Status.{Status}
 use Rattle.top_base.specs.declared.status.Status.TheVariants.{LinkFault, ReadFault, Usage, WriteFault}
@@ -36,9 +40,15 @@ later_accounted deeds before after first later are keeps accounted =
       failed_append = λ path bytes there. accounted.failed_append path bytes (among _ there);
       said = accounted.said;
       failed_put = accounted.failed_put;
+      moved = accounted.moved;
+      failed_move = accounted.failed_move;
     }
 
--- a status of an input that can't be had isn't that of words that are no form
+-- a status of an input that can't be had isn't that of a call on links, nor that of words that are no form
+lost_unlinked : (status : Status) → IsTrue (is_lost status) → is_link_fault status ≡ false
+lost_unlinked LinkFault lost = absurd (false≢true lost)
+lost_unlinked status lost = refl
+
 lost_used : (status : Status) → IsTrue (is_lost status) → status ≢ Usage
 lost_used status lost is = false≢true (subst (λ s. IsTrue (is_lost s)) is lost)
 
@@ -63,6 +73,17 @@ module _ {X : Type 0} (limit : ℕ) (Is : List ℕ → X → Type 0) (Refuses : 
   runs_had more Acts x outcome one other = calls_then more (Reads limit Is Refuses path (Ok x)) (λ events. Acts x outcome (store_calls events)) _ one other
       (λ first later reads acts. (Ok x, record { first = first; later = later; events_are = refl; holds_first = reads; holds_later = acts }))
 
+  -- one that was had, and what follows on the store and on links
+  pub runs_had-both : {S L : Type 0} {g : StoreGhosts S} {k : LinksGhosts L} → ((first later : List Event) (a b c : S) → g.calls first a b → g.calls later b c → g.calls (first ++ later) a c)
+      → {a b c : S} {at now : L} (Acts : X → Outcome → Calls → Type 0) (x : X) (outcome : Outcome) → ByCalls g.calls a b (Reads limit Is Refuses path (Ok x)) → MakesBoth g k b c at now (Acts x outcome)
+      → MakesBoth g k a c at now (Runs limit Is Refuses Acts path outcome)
+  runs_had-both more Acts x outcome one other = record {
+    calls = record other.calls { on_store = one.made ++ other.calls.on_store };
+    on_store = more one.made other.calls.on_store _ _ _ one.lead other.on_store;
+    on_links = other.on_links;
+    holds = (Ok x, record { first = one.made; later = other.calls.on_store; events_are = refl; holds_first = one.holds; holds_later = other.holds });
+  }
+
   module _ (Acts : X → Outcome → Calls → Type 0) (DueOf : X → Files → Outcome → Type 0) (Changes : Outcome → Outside → Outside → Type 0) (NoFault : Outside → Outside → Type 0) where
     abbrev pub acts : Behaviour
     acts = record {
@@ -79,7 +100,7 @@ module _ {X : Type 0} (limit : ℕ) (Is : List ℕ → X → Type 0) (Refuses : 
       pub due : (x : X) (outcome : Outcome) (deeds : Deeds) (before after : Outside) → Accounted deeds before after → Acts x outcome deeds.calls → IsTrue (is_of_inputs outcome.status)
           → Told before.files (λ files. DueOf x files outcome)
       pub lines : (x : X) (outcome : Outcome) (calls : Calls) → Acts x outcome calls → IsFalse (is_of_inputs outcome.status) → outcome.line ≡ fault_line outcome.status
-      pub causes : (x : X) (outcome : Outcome) (calls : Calls) → Acts x outcome calls → HaveFailed (is_read_fault outcome.status) (is_write_fault outcome.status) calls.on_store
+      pub causes : (x : X) (outcome : Outcome) (calls : Calls) → Acts x outcome calls → HaveFailedBy outcome.status calls
       pub used : (x : X) (outcome : Outcome) (calls : Calls) → Acts x outcome calls → outcome.status ≢ Usage
       pub alike : (x : X) (files : Files) (one other : Outcome) → DueOf x files one → DueOf x files other → AreAlike one.status other.status
       pub lost : (outcome : Outcome) (before after : Outside) → IsTrue (is_lost outcome.status) → LeavesUnread path outcome.status before after → Changes outcome before after
@@ -92,7 +113,8 @@ module _ {X : Type 0} (limit : ℕ) (Is : List ℕ → X → Type 0) (Refuses : 
       lost_calls : (refused outcome : Outcome) (calls : Calls) → (parts : Begins (Reads limit Is Refuses path (Err refused)) (RunsAfter limit Is Refuses Acts (Err refused) outcome) calls)
           → Loses limit Is Refuses path refused.status refused.line calls.on_store
       lost_calls refused outcome calls parts =
-          subst (Loses limit Is Refuses path refused.status refused.line) (sym (parts.events_are ∙ ap (λ later. parts.first ++ later) parts.holds_later.1 ∙ append-nil parts.first)) parts.holds_first
+          subst (Loses limit Is Refuses path refused.status refused.line)
+          (sym (parts.events_are ∙ ap (λ (c : Calls). parts.first ++ c.on_store) parts.holds_later.1 ∙ append-nil parts.first)) parts.holds_first
 
       left_unread : (deeds : Deeds) (before after : Outside) → Accounted deeds before after → LeavesAll before after → (status : Status) (line : List ℕ) → Loses limit Is Refuses path status line deeds.calls.on_store
           → LeavesUnread path status before after
@@ -151,14 +173,23 @@ module _ {X : Type 0} (limit : ℕ) (Is : List ℕ → X → Type 0) (Refuses : 
           let Line : Outcome → Type 0 = λ o. IsFalse (is_of_inputs o.status) → o.line ≡ fault_line o.status in
           subst Line (sym parts.holds_later.0) (loses-line limit Is Refuses input path refused.status refused.line calls.on_store (lost_calls refused outcome calls parts)) not
 
-      causes : (outcome : Outcome) (calls : Calls) → Runs limit Is Refuses Acts path outcome calls → HaveFailed (is_read_fault outcome.status) (is_write_fault outcome.status) calls.on_store
+      causes : (outcome : Outcome) (calls : Calls) → Runs limit Is Refuses Acts path outcome calls → HaveFailedBy outcome.status calls
       causes outcome calls (Ok x, parts) =
-          subst (HaveFailed (is_read_fault outcome.status) (is_write_fault outcome.status)) (sym parts.events_are)
-          (failed-append false false (is_read_fault outcome.status) (is_write_fault outcome.status) parts.first parts.later (reads-unfailed limit Is Refuses path x parts.first parts.holds_first)
-          (well.causes x outcome (record calls { on_store = parts.later }) parts.holds_later))
+          let later = well.causes x outcome (record calls { on_store = parts.later }) parts.holds_later in
+          record {
+            on_store = subst (HaveFailed (is_read_fault outcome.status) (is_write_fault outcome.status)) (sym parts.events_are)
+                (failed-append false false (is_read_fault outcome.status) (is_write_fault outcome.status) parts.first parts.later
+                (reads-unfailed limit Is Refuses path x parts.first parts.holds_first) later.on_store);
+            on_links = later.on_links;
+          }
       causes outcome calls (Err refused, parts) =
-          subst (λ (o : Outcome). HaveFailed (is_read_fault o.status) (is_write_fault o.status) calls.on_store) (sym parts.holds_later.0)
-          (loses-failed limit Is Refuses input path refused.status refused.line calls.on_store (lost_calls refused outcome calls parts))
+          let lost = lost_calls refused outcome calls parts in
+          subst (λ (o : Outcome). HaveFailedBy o.status calls) (sym parts.holds_later.0)
+          (record {
+            on_store = loses-failed limit Is Refuses input path refused.status refused.line calls.on_store lost;
+            on_links = ap (λ (c : Calls). list_any moves.is_fault c.on_links) parts.holds_later.1
+                ∙ sym (lost_unlinked refused.status (loses-lost limit Is Refuses input path refused.status refused.line calls.on_store lost));
+          })
 
       -- one status is due at most
       alike_after : (files : Files) (one other : Result X Outcome) (outcome outcome' : Outcome) → AreAlikeResults limit Is Refuses one other → DueAfter limit Is Refuses DueOf files one outcome

@@ -1,11 +1,10 @@
 -- What has to be known of a command that reads one input and says what it finds.
-use Rattle.std.specs.Prelude.{◌≡◌, ◌≢◌, ◌⊎◌, ℕ, List, [], false, Ok, Err, IsTrue, IsFalse}
-use Rattle.std.proofs.Common.{refl, sym, subst, ◌∙◌, ⊎_elim}
+use Rattle.std.specs.Prelude.{◌≡◌, ◌≢◌, ◌⊎◌, ℕ, List, false, Ok, Err, IsTrue, IsFalse}
+use Rattle.std.proofs.Common.{refl, sym, ap, ◌∙◌, ⊎_elim}
 use Rattle.std.proofs.lemmas.Bool.{false≢true}
 use Rattle.lif_outside.proofs.CallLaws.{calls_weaker}
 use Rattle.lif_outside.specs.Calls.{ByCalls, Calls, Outside, store_calls}
 use Rattle.lif_outside.specs.Events.{Event}
-use Rattle.lif_outside.proofs.FaultLaws.{HaveFailed, none_failed}
 use Rattle.top_base.specs.Acting.{LeavesUnread}
 use Rattle.top_base.proofs.ActingLaws.{ActsWell, acts_known, acts_used, runs_lost, runs_only}
 use Rattle.top_base.specs.Inputs.{IsNoMemory, Reads}
@@ -14,18 +13,12 @@ use Rattle.top_base.specs.Inspecting.{Finds, ReadsWell, inspects}
 use Rattle.top_base.proofs.LeavingLaws.{keep_files, none_keep, told_any}
 use Rattle.top_base.specs.Outcome.{AreAlike, is_fault, is_of_inputs}
 use Rattle.top_base.specs.Performs.{LeavesAll}
-use Rattle.top_base.proofs.PerformingLaws.{IsKnown, inputs_faultless, is_read_fault, is_write_fault, no_causes}
+use Rattle.top_base.proofs.PerformingLaws.{IsKnown, inputs_faultless, none_failed-by}
 use Rattle.top_base.specs.declared.outcome.Outcome.{Outcome}
 use Rattle.top_base.specs.declared.status.Status.{Status}
 use Rattle.top_base.specs.declared.status.Status.TheVariants.{LinkFault, ReadFault, Usage, WriteFault}
 
--- no call, and a status of the inputs
-pub plain_failed : (status : Status) (calls : List Event) → IsTrue (is_of_inputs status) → calls ≡ [] → HaveFailed (is_read_fault status) (is_write_fault status) calls
-plain_failed status calls inputs none =
-    let of = no_causes status (inputs_faultless status inputs) in
-    subst (λ read. HaveFailed read (is_write_fault status) calls) (sym of.0) (subst (λ write. HaveFailed false write calls) (sym of.1) (none_failed calls none))
-
--- and where no file is changed
+-- where no file is changed, and the status comes of the inputs
 unchanged : (path : List ℕ) (status : Status) (before after : Outside) → IsTrue (is_of_inputs status) → LeavesAll before after → LeavesUnread path status before after
 unchanged path ReadFault before after inputs all = absurd (false≢true inputs)
 unchanged path WriteFault before after inputs all = absurd (false≢true inputs)
@@ -64,10 +57,10 @@ module _ {X : Type 0} (limit : ℕ) (Is : List ℕ → X → Type 0) (Refuses : 
     finds_well = record {
       changes = λ x outcome deeds before after accounted held runs.
           unchanged path outcome.status before after (well.of_inputs x outcome runs.0)
-          (keep_files before.files after.files deeds.calls.on_store (none_keep deeds.calls.on_store runs.1) accounted.files);
+          (keep_files before.files after.files deeds.calls.on_store (none_keep deeds.calls.on_store (ap (λ (c : Calls). c.on_store) runs.1)) accounted.files);
       due = λ x outcome deeds before after accounted runs inputs. told_any before.files (λ files. Ends x outcome) (λ files. runs.0);
       lines = λ x outcome calls runs not. absurd (false≢true (sym not ∙ well.of_inputs x outcome runs.0));
-      causes = λ x outcome calls runs. plain_failed outcome.status calls.on_store (well.of_inputs x outcome runs.0) runs.1;
+      causes = λ x outcome calls runs. none_failed-by outcome.status calls (inputs_faultless outcome.status (well.of_inputs x outcome runs.0)) runs.1;
       used = λ x outcome calls runs. well.used x outcome runs.0;
       alike = λ x files. well.alike x;
       lost = λ outcome before after lost left. left;

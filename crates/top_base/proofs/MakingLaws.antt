@@ -1,5 +1,6 @@
 -- What has to be known of a command that makes files, from what is known of what it makes.
 use Rattle.std.specs.Prelude.{◌≡◌, ◌≢◌, ℕ, false, List, [], ◌∷◌, Contains, None, Ok, Option, Some, IsTrue, IsFalse}
+use Rattle.std.specs.List.{list_any}
 use Rattle.std.proofs.Common.{refl, sym, ap, subst, ◌∙◌}
 use Rattle.std.proofs.lemmas.Bool.{false≢true}
 use Rattle.lif_outside.proofs.CallLaws.{calls_weaker}
@@ -8,6 +9,7 @@ use Rattle.lif_outside.proofs.DeedLaws.{Accounted}
 use Rattle.lif_outside.specs.Events.{Event, Follow}
 use Rattle.lif_outside.proofs.FaultLaws.{HaveFailed, none_failed}
 use Rattle.lif_outside.specs.Files.{AreDistinct}
+use Rattle.lif_outside.specs.Moves as moves
 use Rattle.lif_outside.specs.Runs.{StopsWithin, Written}
 use Rattle.lif_outside.specs.Sequences.{Are}
 use Rattle.lif_outside.specs.Told.{Told}
@@ -18,14 +20,13 @@ use Rattle.top_base.specs.Acting.{LeavesUnread, Runs}
 use Rattle.top_base.proofs.ActingLaws.{ActsWell, acts_known, acts_used}
 use Rattle.top_base.specs.Inputs.{HoldsInput, is_lost}
 use Rattle.top_base.proofs.InputLaws.{IsInput}
-use Rattle.top_base.proofs.InspectingLaws.{plain_failed}
 use Rattle.top_base.proofs.LeavingLaws.{keep_files, none_keep, told_any}
 use Rattle.top_base.specs.Making.{ChangesMaking, DueMaking, DueOf, LeavesMade, LeavesPart, RunsMaking, WorksWell, Writes, makes_by, makes_files, shares}
 use Rattle.top_base.specs.Outcome.{AreAlike, fault_line, is_fault, is_of_inputs}
 use Rattle.top_base.proofs.PathLaws.{clear_distinct}
 use Rattle.top_base.specs.Paths.{shared_path}
 use Rattle.top_base.specs.Performs.{LeavesAll}
-use Rattle.top_base.proofs.PerformingLaws.{IsKnown, at_once_known, is_read_fault, is_write_fault}
+use Rattle.top_base.proofs.PerformingLaws.{HaveFailedBy, IsKnown, at_once_known, inputs_faultless, none_failed-by}
 use Rattle.top_base.specs.declared.outcome.Outcome.{Outcome}
 use Rattle.top_base.specs.declared.status.Status.{Status}
 use Rattle.top_base.specs.declared.status.Status.TheVariants.{Done, LinkFault, OutOfMemory, ReadFault, SamePath, Usage, WriteFault}
@@ -49,7 +50,7 @@ module _ {X : Type 0} (limit : ℕ) (Is : List ℕ → X → Type 0) (Refuses : 
         → ByCalls calls a b (λ events. (makes_files limit Is Refuses Makes CanMake Declines path outputs).runs outcome (store_calls events))
     runs_shared shared found is by =
         subst (λ found. ByCalls calls a b (λ events. (makes_by limit Is Refuses Makes CanMake Declines path outputs found).runs outcome (store_calls events))) (sym found)
-        (calls_weaker (Are []) _ by (λ made none. (is, none)))
+        (calls_weaker (Are []) _ by (λ made none. (is, ap store_calls none)))
 
     pub runs_apart : shared_path (path ∷ []) outputs ≡ None → ByCalls calls a b (λ events. Runs limit Is Refuses (Writes limit Is Refuses Makes CanMake Declines) path outcome (store_calls events))
         → ByCalls calls a b (λ events. (makes_files limit Is Refuses Makes CanMake Declines path outputs).runs outcome (store_calls events))
@@ -66,11 +67,16 @@ module _ {X : Type 0} (limit : ℕ) (Is : List ℕ → X → Type 0) (Refuses : 
     due_of x OutOfMemory line calls inputs runs = absurd (false≢true inputs)
     due_of x status line calls inputs runs = runs.0
 
-    causes : (x : X) (status : Status) (line : List ℕ) (calls : List Event) → Of x status line calls → HaveFailed (is_read_fault status) (is_write_fault status) calls
-    causes x Done line calls runs = subst (HaveFailed false false) (sym runs.2) (writes_of-unfailed runs.0)
-    causes x WriteFault line calls runs = writes_of-failed runs.0 calls runs.3
-    causes x OutOfMemory line calls runs = none_failed calls runs.0
-    causes x status line calls runs = plain_failed status calls (well.of_inputs x status line runs.0) runs.1
+    causes : (x : X) (status : Status) (line : List ℕ) (calls : Calls) → Of x status line calls.on_store → calls.on_links ≡ [] → HaveFailedBy status calls
+    causes x Done line calls runs none = record {
+      on_store = subst (HaveFailed false false) (sym runs.2) (writes_of-unfailed runs.0);
+      on_links = ap (list_any moves.is_fault) none;
+    }
+    causes x WriteFault line calls runs none = record { on_store = writes_of-failed runs.0 calls.on_store runs.3; on_links = ap (list_any moves.is_fault) none }
+    causes x OutOfMemory line calls runs none = record { on_store = none_failed calls.on_store runs.0; on_links = ap (list_any moves.is_fault) none }
+    causes x status line calls runs none =
+        none_failed-by status calls (inputs_faultless status (well.of_inputs x status line runs.0))
+        (ap (λ events. record { on_store = events; on_links = calls.on_links }) runs.1 ∙ ap (λ made. record { on_store = []; on_links = made }) none)
 
     line_of : (x : X) (status : Status) (line : List ℕ) (calls : List Event) → Of x status line calls → IsFalse (is_of_inputs status) → line ≡ fault_line status
     line_of x Done line calls runs not = absurd (false≢true (sym not))
@@ -141,12 +147,12 @@ module _ {X : Type 0} (limit : ℕ) (Is : List ℕ → X → Type 0) (Refuses : 
       makes_well : ActsWell limit Is Refuses path (Writes limit Is Refuses Makes CanMake Declines) (DueOf limit Is Refuses Makes CanMake Declines)
           (λ outcome. ChangesMaking limit Is Refuses Makes CanMake Declines path outputs outcome.status outcome.line) (WorksWell limit Is Refuses Makes CanMake Declines path outputs)
       makes_well = record {
-        changes = λ x outcome deeds before after accounted held runs. changes x deeds before after accounted held outcome.status outcome.line runs;
+        changes = λ x outcome deeds before after accounted held runs. changes x deeds before after accounted held outcome.status outcome.line runs.0;
         due = λ x outcome deeds before after accounted runs inputs. told_any before.files (λ files. DueMaking limit Is Refuses Makes CanMake Declines x outcome.status outcome.line)
-            (λ files. due_of x outcome.status outcome.line deeds.calls.on_store inputs runs);
-        lines = λ x outcome calls runs not. line_of x outcome.status outcome.line calls.on_store runs not;
-        causes = λ x outcome calls runs. causes x outcome.status outcome.line calls.on_store runs;
-        used = λ x outcome calls runs. used_of x outcome.status outcome.line calls.on_store runs;
+            (λ files. due_of x outcome.status outcome.line deeds.calls.on_store inputs runs.0);
+        lines = λ x outcome calls runs not. line_of x outcome.status outcome.line calls.on_store runs.0 not;
+        causes = λ x outcome calls runs. causes x outcome.status outcome.line calls runs.0 runs.1;
+        used = λ x outcome calls runs. used_of x outcome.status outcome.line calls.on_store runs.0;
         alike = λ x files one other. well.alike x one.status one.line other.status other.line;
         lost = λ outcome before after. lost outcome.status outcome.line before after;
         faultless = λ outcome files before after told. faultless outcome.status outcome.line before after;

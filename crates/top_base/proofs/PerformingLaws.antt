@@ -1,15 +1,20 @@
 -- What is promised of a command, from how its calls run.
 use Rattle.std.proofs.Common.{◌≡◌, ◌≢◌, ℕ, List, Some, Bool, true, false, refl, sym, ap, subst, ◌∙◌, inl, inr, ⊎_elim}
-use Rattle.std.specs.Prelude.{◌⊎◌, Option, IsTrue, IsFalse}
+use Rattle.std.specs.Prelude.{◌⊎◌, Option, IsTrue, IsFalse, []}
+use Rattle.std.specs.List.{list_any}
 use Rattle.std.proofs.lemmas.Bool.{false≢true}
+use Rattle.lif_outside.specs.declared.links.Links.{Ghosts as LinksGhosts}
 use Rattle.lif_outside.specs.declared.sink.Sink.{Ghosts as SinkGhosts}
 use Rattle.lif_outside.specs.declared.store.Store.{Ghosts as StoreGhosts}
 use Rattle.lif_outside.specs.Accounts.{SinkAccounts, StoreAccounts}
-use Rattle.lif_outside.specs.Calls.{Calls, Deeds, Does, MakesPuts, Objects, Outside, outside_after, outside_before, store_calls}
+use Rattle.lif_outside.specs.Calls.{Calls, Deeds, Does, MakesNone, MakesPuts, Objects, Outside, outside_after, outside_before, store_calls}
 use Rattle.lif_outside.proofs.DeedLaws.{Accounted, Accounted-from_calls}
 use Rattle.lif_outside.specs.Events.{Event}
-use Rattle.lif_outside.proofs.FaultLaws.{HaveFailed}
+use Rattle.lif_outside.proofs.FaultLaws.{HaveFailed, none_failed}
 use Rattle.lif_outside.specs.Files.{Files}
+use Rattle.lif_outside.specs.LinksAccounts.{LinksAccounts, holding}
+use Rattle.lif_outside.specs.Moves.{Move}
+use Rattle.lif_outside.specs.Moves as moves
 use Rattle.lif_outside.specs.Puts.{Put, SaysAll, SaysPart}
 use Rattle.lif_outside.proofs.PutLaws.{says_all-grow, says_part-grow, says_part-failed, says_part-there}
 use Rattle.lif_outside.specs.Told.{Told}
@@ -17,13 +22,13 @@ use Rattle.lif_outside.specs.ToldLaws.{becomes_weaker}
 use Rattle.top_base.specs.Causes.{HasCauses}
 use Rattle.top_base.proofs.LeavingLaws.{keep_files, none_keep}
 use Rattle.top_base.specs.Outcome.{AddsOutcome, AreAlike, Concludes, SaysOutcome, SaysWell, any_cycle, fault_line, is_fault, is_of_inputs, status_unsaid}
-use Rattle.top_base.specs.Performs.{Answers, Behaviour, Decision, IsDue, IsDueAsTold, Leaves, Performs, RunsOnStore, at_once, by_files, by_words}
+use Rattle.top_base.specs.Performs.{Answers, Behaviour, Decision, IsDue, IsDueAsTold, Leaves, Performs, RunsOn, RunsOnStore, at_once, by_files, by_words}
 use Rattle.top_base.specs.declared.outcome.Outcome.{Outcome}
 use Rattle.top_base.specs.declared.status.Status.{Status}
 use Rattle.top_base.specs.declared.status.Status.TheVariants.{Done, NetRefused, ReadFault, WriteFault, OutOfMemory, LinkFault}
 use Rattle.top_base.specs.declared.status.NetWhy.TheVariants.{Text, Cycle}
 
--- whether a status is that of a read that failed, and of a write
+-- whether a status is that of a read that failed, of a write, and of a call on links
 abbrev pub is_read_fault : Status → Bool
 is_read_fault ReadFault = true
 is_read_fault status = false
@@ -31,6 +36,10 @@ is_read_fault status = false
 abbrev pub is_write_fault : Status → Bool
 is_write_fault WriteFault = true
 is_write_fault status = false
+
+abbrev pub is_link_fault : Status → Bool
+is_link_fault LinkFault = true
+is_link_fault status = false
 
 -- and which statuses these are
 is_read_fault-true : (status : Status) → is_read_fault status ≡ true → status ≡ ReadFault
@@ -41,7 +50,16 @@ is_write_fault-true : (status : Status) → is_write_fault status ≡ true → s
 is_write_fault-true WriteFault is = refl
 is_write_fault-true status is = absurd (false≢true is)
 
--- a status of the inputs is that of no fault, and that is neither
+is_link_fault-true : (status : Status) → is_link_fault status ≡ true → status ≡ LinkFault
+is_link_fault-true LinkFault is = refl
+is_link_fault-true status is = absurd (false≢true is)
+
+-- Which calls have failed, by the status: a read, a create or an append, and a call on links.
+pub record HaveFailedBy (status : Status) (calls : Calls) : Type 0 where
+  pub on_store : HaveFailed (is_read_fault status) (is_write_fault status) calls.on_store
+  pub on_links : list_any moves.is_fault calls.on_links ≡ is_link_fault status
+
+-- a status of the inputs is that of no fault, and that is none of these
 pub inputs_faultless : (status : Status) → IsTrue (is_of_inputs status) → IsFalse (is_fault status)
 inputs_faultless ReadFault inputs = absurd (false≢true inputs)
 inputs_faultless WriteFault inputs = absurd (false≢true inputs)
@@ -49,16 +67,30 @@ inputs_faultless LinkFault inputs = absurd (false≢true inputs)
 inputs_faultless OutOfMemory inputs = refl
 inputs_faultless status inputs = refl
 
-pub no_causes : (status : Status) → IsFalse (is_fault status) → (is_read_fault status ≡ false) × (is_write_fault status ≡ false)
+pub no_causes : (status : Status) → IsFalse (is_fault status) → (is_read_fault status ≡ false) × (is_write_fault status ≡ false) × (is_link_fault status ≡ false)
 no_causes ReadFault no_fault = absurd (false≢true (sym no_fault))
 no_causes WriteFault no_fault = absurd (false≢true (sym no_fault))
 no_causes LinkFault no_fault = absurd (false≢true (sym no_fault))
-no_causes status no_fault = (refl, refl)
+no_causes status no_fault = (refl, refl, refl)
+
+-- where there is no call, none has failed, and the status is that of no fault
+pub none_failed-by : (status : Status) (calls : Calls) → IsFalse (is_fault status) → MakesNone calls → HaveFailedBy status calls
+none_failed-by status calls no_fault none =
+    let of = no_causes status no_fault in
+    record {
+      on_store = subst (λ read. HaveFailed read (is_write_fault status) calls.on_store) (sym of.0)
+          (subst (λ write. HaveFailed false write calls.on_store) (sym of.1) (none_failed calls.on_store (ap (λ (c : Calls). c.on_store) none)));
+      on_links = ap (λ (c : Calls). list_any moves.is_fault c.on_links) none ∙ sym of.2;
+    }
 
 -- a status whose line couldn't be said
 unsaid_read : (status : Status) → is_read_fault (status_unsaid status) ≡ is_read_fault status
 unsaid_read Done = refl
 unsaid_read status = refl
+
+unsaid_link : (status : Status) → is_link_fault (status_unsaid status) ≡ is_link_fault status
+unsaid_link Done = refl
+unsaid_link status = refl
 
 unsaid_write : (status : Status) → is_write_fault status ≡ true → status_unsaid status ≡ WriteFault
 unsaid_write Done is = refl
@@ -69,27 +101,30 @@ unsaid_done Done e = cc
 unsaid_done status e = cc
 
 -- which calls the statuses of faults come from, where the line was said
-causes_said : (deeds : Deeds) (line : List ℕ) (status : Status) → HaveFailed (is_read_fault status) (is_write_fault status) deeds.calls.on_store → SaysAll line deeds.puts → HasCauses deeds status
+causes_said : (deeds : Deeds) (line : List ℕ) (status : Status) → HaveFailedBy status deeds.calls → SaysAll line deeds.puts → HasCauses deeds status
 causes_said deeds line status failed says = record {
-  read_fault = ((λ e. failed.failed_read ∙ ap is_read_fault e), (λ is. is_read_fault-true status (sym failed.failed_read ∙ is)));
-  failed_write = λ is. is_write_fault-true status (sym failed.failed_write ∙ is);
-  write_fault = λ e. inl (failed.failed_write ∙ ap is_write_fault e);
+  read_fault = ((λ e. failed.on_store.failed_read ∙ ap is_read_fault e), (λ is. is_read_fault-true status (sym failed.on_store.failed_read ∙ is)));
+  failed_write = λ is. is_write_fault-true status (sym failed.on_store.failed_write ∙ is);
+  write_fault = λ e. inl (failed.on_store.failed_write ∙ ap is_write_fault e);
+  link_fault = ((λ e. failed.on_links ∙ ap is_link_fault e), (λ is. is_link_fault-true status (sym failed.on_links ∙ is)));
   failed_put = λ is. absurd (false≢true (sym says.done ∙ is));
 }
 
 -- and where it wasn't
-causes_unsaid : (deeds : Deeds) (line : List ℕ) (status : Status) → HaveFailed (is_read_fault status) (is_write_fault status) deeds.calls.on_store → SaysPart line deeds.puts → HasCauses deeds (status_unsaid status)
+causes_unsaid : (deeds : Deeds) (line : List ℕ) (status : Status) → HaveFailedBy status deeds.calls → SaysPart line deeds.puts → HasCauses deeds (status_unsaid status)
 causes_unsaid deeds line status failed says =
-    let same = failed.failed_read ∙ sym (unsaid_read status) in
+    let same = failed.on_store.failed_read ∙ sym (unsaid_read status) in
+    let same_link = failed.on_links ∙ sym (unsaid_link status) in
     record {
       read_fault = ((λ e. same ∙ ap is_read_fault e), (λ is. is_read_fault-true (status_unsaid status) (sym same ∙ is)));
-      failed_write = λ is. unsaid_write status (sym failed.failed_write ∙ is);
+      failed_write = λ is. unsaid_write status (sym failed.on_store.failed_write ∙ is);
+      link_fault = ((λ e. same_link ∙ ap is_link_fault e), (λ is. is_link_fault-true (status_unsaid status) (sym same_link ∙ is)));
       write_fault = λ e. inr (says_part-failed line deeds.puts says);
       failed_put = λ is. unsaid_done status;
     }
 
 -- and in either case
-causes_of : (deeds : Deeds) (outcome : Outcome) (status : Status) → HaveFailed (is_read_fault outcome.status) (is_write_fault outcome.status) deeds.calls.on_store → SaysOutcome outcome status deeds.puts → HasCauses deeds status
+causes_of : (deeds : Deeds) (outcome : Outcome) (status : Status) → HaveFailedBy outcome.status deeds.calls → SaysOutcome outcome status deeds.puts → HasCauses deeds status
 causes_of deeds outcome status failed says = ⊎_elim
     (λ all. subst (HasCauses deeds) (sym all.0) (causes_said deeds outcome.line outcome.status failed all.1))
     (λ part. subst (HasCauses deeds) (sym part.0) (causes_unsaid deeds outcome.line outcome.status failed part.1))
@@ -155,7 +190,7 @@ pub record IsKnown (command : Behaviour) : Type 0 where
   pub due : (outcome : Outcome) (deeds : Deeds) (before after : Outside) → Accounted deeds before after → command.runs outcome deeds.calls → IsTrue (is_of_inputs outcome.status)
       → IsDueAsTold command.due before.files outcome
   pub lines : (outcome : Outcome) (calls : Calls) → command.runs outcome calls → IsFalse (is_of_inputs outcome.status) → outcome.line ≡ fault_line outcome.status
-  pub causes : (outcome : Outcome) (calls : Calls) → command.runs outcome calls → HaveFailed (is_read_fault outcome.status) (is_write_fault outcome.status) calls.on_store
+  pub causes : (outcome : Outcome) (calls : Calls) → command.runs outcome calls → HaveFailedBy outcome.status calls
   pub alike : AreAlikeDue command.due
   pub faultless : (expected outcome : Outcome) (calls : Calls) (before after : Outside) → IsDue command.due before.files expected → command.runs outcome calls → command.changes outcome before after
       → command.no_fault before after → IsFalse (is_fault outcome.status)
@@ -196,7 +231,7 @@ module _ (command : Behaviour) (of_command : IsKnown command) where
     caused = causes_of deeds is.outcome status (of_command.causes is.outcome deeds.calls is.runs) is.says
 
   -- What is promised of a command, by its deeds and what they account for.
-  pub performs : {S C : Type 0} {g : StoreGhosts S} {h : SinkGhosts C} (o : Objects g h) (status : Status)
+  pub performs : {S C L : Type 0} {g : StoreGhosts S} {h : SinkGhosts C} {k : LinksGhosts L} (o : Objects g h k) (status : Status)
       → (does : Does o (Concludes command.runs status)) → Accounted does.deeds (outside_before o) (outside_after o) → Performs command o status
   performs o status does accounted =
       let before = outside_before o in
@@ -206,6 +241,7 @@ module _ (command : Behaviour) (of_command : IsKnown command) where
           deeds = does.deeds;
           on_store = does.on_store;
           on_say = does.on_say;
+          on_links = does.on_links;
           holds = (does.holds, caused status does.deeds before after accounted does.holds);
         };
         of_content = leaves status does.deeds before after accounted does.holds;
@@ -215,27 +251,34 @@ module _ (command : Behaviour) (of_command : IsKnown command) where
 -- what ends at once with an outcome of no fault, and with a line that is its own where the inputs don't decide it
 pub at_once_known : (expected : Outcome) → IsFalse (is_fault expected.status) → (IsFalse (is_of_inputs expected.status) → expected.line ≡ fault_line expected.status) → IsKnown (at_once expected)
 at_once_known expected no_fault line = record {
-  changes = λ outcome deeds before after accounted runs. keep_files before.files after.files deeds.calls.on_store (none_keep deeds.calls.on_store runs.1) accounted.files;
+  changes = λ outcome deeds before after accounted runs. keep_files before.files after.files deeds.calls.on_store (none_keep deeds.calls.on_store (ap (λ (c : Calls). c.on_store) runs.1)) accounted.files;
   due = λ outcome deeds before after accounted runs inputs. runs.0;
   lines = λ outcome calls runs not. subst (λ (o : Outcome). o.line ≡ fault_line o.status) (sym runs.0) (line (subst (λ (o : Outcome). IsFalse (is_of_inputs o.status)) runs.0 not));
-  causes = λ outcome calls runs.
-      let plain = no_causes expected.status no_fault in
-      subst (λ (o : Outcome). HaveFailed (is_read_fault o.status) (is_write_fault o.status) calls.on_store) (sym runs.0)
-      (subst (HaveFailed (is_read_fault expected.status) (is_write_fault expected.status)) (sym runs.1) (record { failed_read = sym plain.0; failed_write = sym plain.1 }));
+  causes = λ outcome calls runs. subst (λ (o : Outcome). HaveFailedBy o.status calls) (sym runs.0) (none_failed-by expected.status calls no_fault runs.1);
   alike = λ one other is is'. ap (λ (o : Outcome). any_cycle o.status) (is ∙ sym is');
   faultless = λ due outcome calls before after is runs change well. subst (λ (o : Outcome). IsFalse (is_fault o.status)) (sym runs.0) no_fault;
 }
 
--- what is promised of a command that works on the store alone, by its calls and the puts of its line
-pub performs_said : {S C : Type 0} {g : StoreGhosts S} {h : SinkGhosts C} (o : Objects g h) (status : Status)
+-- what runs on the store alone runs on links too, with no call on these
+pub runs_on-store : {S L : Type 0} {g : StoreGhosts S} {k : LinksGhosts L} {a b : S} (at : L) → ((at : L) → k.moves [] at at)
+    → (command : Behaviour) (outcome : Outcome) → RunsOnStore g command a b outcome → RunsOn g k command a b at at outcome
+runs_on-store at no_moves command outcome by = record { calls = store_calls by.made; on_store = by.lead; on_links = no_moves at; holds = by.holds }
+
+-- what is promised of a command, by its calls and the puts of its line
+pub performs_said : {S C L : Type 0} {g : StoreGhosts S} {h : SinkGhosts C} {k : LinksGhosts L} (o : Objects g h k) (status : Status)
     → ((events : List Event) → g.calls events o.store_old o.store_new → StoreAccounts g.files g.read_faults g.write_faults g.made events o.store_old o.store_new)
     → ((puts : List Put) → h.puts puts o.say_old o.say_new → SinkAccounts h.written h.faults puts o.say_old o.say_new)
-    → (command : Behaviour) → IsKnown command → (outcome : Outcome) → RunsOnStore g command o.store_old o.store_new outcome → MakesPuts h o.say_old o.say_new (SaysOutcome outcome status) → Performs command o status
-performs_said o status store_accounts say_accounts command of_command outcome calls puts =
+    → ((made : List Move) → k.moves made o.links_old o.links_new
+    → LinksAccounts (holding k.flying k.room k.opened_with k.repeats) k.faithful k.faults k.sent k.given made o.links_old o.links_new)
+    → (command : Behaviour) → IsKnown command → (outcome : Outcome) → RunsOn g k command o.store_old o.store_new o.links_old o.links_new outcome
+    → MakesPuts h o.say_old o.say_new (SaysOutcome outcome status) → Performs command o status
+performs_said o status store_accounts say_accounts links_accounts command of_command outcome runs puts =
     let done : Does o (Concludes command.runs status) = record {
-      deeds = record { calls = store_calls calls.made; puts = puts.made };
-      on_store = calls.lead;
+      deeds = record { calls = runs.calls; puts = puts.made };
+      on_store = runs.on_store;
       on_say = puts.lead;
-      holds = record { outcome = outcome; runs = calls.holds; says = puts.holds };
+      on_links = runs.on_links;
+      holds = record { outcome = outcome; runs = runs.holds; says = puts.holds };
     } in
-    performs command of_command o status done (Accounted-from_calls o done.deeds (store_accounts calls.made calls.lead) (say_accounts puts.made puts.lead))
+    performs command of_command o status done
+    (Accounted-from_calls o done.deeds (store_accounts runs.calls.on_store runs.on_store) (say_accounts puts.made puts.lead) (links_accounts runs.calls.on_links runs.on_links))

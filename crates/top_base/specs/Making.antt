@@ -35,7 +35,7 @@ module _ {X : Type 0} (limit : ℕ) (Is : List ℕ → X → Type 0) (Refuses : 
   RunsMaking x status line calls = Declines x status line × (calls ≡ [])
 
   abbrev pub Writes : X → Outcome → Calls → Type 0
-  Writes x outcome calls = RunsMaking x outcome.status outcome.line calls.on_store
+  Writes x outcome calls = RunsMaking x outcome.status outcome.line calls.on_store × (calls.on_links ≡ [])
 
   -- what is due of what was read
   abbrev pub DueMaking : X → Status → List ℕ → Type 0

@@ -1,8 +1,9 @@
 -- What is promised of a command, by what it does.
 use Rattle.std.specs.Prelude.{◌≡◌, ◌⊎◌, Option, Some, IsTrue, IsFalse}
+use Rattle.lif_outside.specs.declared.links.Links.{Ghosts as LinksGhosts}
 use Rattle.lif_outside.specs.declared.sink.Sink.{Ghosts as SinkGhosts}
 use Rattle.lif_outside.specs.declared.store.Store.{Ghosts as StoreGhosts}
-use Rattle.lif_outside.specs.Calls.{Calls, Does, MakesCalls, Objects, Outside, outside_after, outside_before, store_calls}
+use Rattle.lif_outside.specs.Calls.{Calls, Does, MakesBoth, MakesCalls, Objects, Outside, outside_after, outside_before, store_calls}
 use Rattle.lif_outside.specs.Files.{Files, SameFiles}
 use Rattle.lif_outside.specs.Told.{Becomes, Told}
 use Rattle.top_base.specs.Causes.{HasCauses}
@@ -41,6 +42,10 @@ pub record Behaviour : Type 1 where
 abbrev pub RunsOnStore : {S : Type 0} → StoreGhosts S → Behaviour → S → S → Outcome → Type 0
 RunsOnStore g does old new outcome = MakesCalls g old new (λ events. does.runs outcome (store_calls events))
 
+-- the calls that were made on a store and on links are those of this outcome
+abbrev pub RunsOn : {S L : Type 0} → StoreGhosts S → LinksGhosts L → Behaviour → S → S → L → L → Outcome → Type 0
+RunsOn g k does store_old store_new links_old links_new outcome = MakesBoth g k store_old store_new links_old links_new (does.runs outcome)
+
 -- What some outcome leaves: the files that it changes and the counts that it raises, that it was due, where the inputs
 -- decide it, and what is said. Where they don't, the line is that of the status.
 pub record Leaves (does : Behaviour) (status : Status) (before after : Outside) : Type 0 where
@@ -57,8 +62,8 @@ Answers does status before after =
     → (outcome.status ≡ Done → SaysWell before after)
     → AreAlike status outcome.status ⊎ (status ≡ OutOfMemory)
 
-pub record Performs {S C : Type 0} {g : StoreGhosts S} {h : SinkGhosts C} (does : Behaviour) (o : Objects g h) (status : Status) : Type 0 where
-  -- the calls and what is put, and which calls the statuses of faults come from: of every store and sink
+pub record Performs {S C L : Type 0} {g : StoreGhosts S} {h : SinkGhosts C} {k : LinksGhosts L} (does : Behaviour) (o : Objects g h k) (status : Status) : Type 0 where
+  -- the calls and what is put, and which calls the statuses of faults come from: of every store, sink and links
   pub of_calls : Does o (λ deeds. Concludes does.runs status deeds × HasCauses deeds status)
   -- what the files hold and what is said, where that is told
   pub of_content : Leaves does status (outside_before o) (outside_after o)

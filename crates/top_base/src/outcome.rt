@@ -1,6 +1,6 @@
 //! How a command ends: a status, and the line that is said with it.
 ghost use Rattle.std.specs.Prelude.{◌≡◌, OnOk, OnErr};
-ghost use Rattle.top_base.specs.Lines.{usage_line, write_fault_line, out_of_memory_line};
+ghost use Rattle.top_base.specs.Lines.{link_fault_line, out_of_memory_line, usage_line, write_fault_line};
 ghost use Rattle.lif_outside.specs.Calls.{MakesPuts};
 ghost use Rattle.lif_outside.specs.Puts.{SaysAll, SaysPart};
 ghost use Rattle.top_base.specs.Outcome.{SaysOutcome, status_unsaid};
@@ -38,6 +38,17 @@ impl<'a> Outcome<'a> {
         Outcome {
             status: Status::WriteFault,
             line: Line::write_fault(),
+        }
+    }
+
+    /// A call on the links failed.
+    pub fn link_fault() -> Outcome<'a>
+        ensures status { result.status ≡ Status.LinkFault }
+        ensures line { result.line ≡ link_fault_line }
+    {
+        Outcome {
+            status: Status::LinkFault,
+            line: Line::link_fault(),
         }
     }
 

@@ -8,7 +8,7 @@ mod rates;
 mod sizes;
 mod written;
 
-use lif_outside::{Fail, MemSink, MemStore, NoGate};
+use lif_outside::{Fail, MemSink, MemStore, NoGate, SeedLinks};
 use lif_top::{Status, lif};
 use std::alloc::{AllocError, Global};
 use std::process::Abort;
@@ -65,7 +65,8 @@ fn call<R: Threads + Sync>(
     store: &mut MemStore,
     say: &mut MemSink,
 ) -> Status {
-    lif(rt, alloc, words, store, say, &NoGate)
+    let mut links = SeedLinks::new(alloc);
+    lif(rt, alloc, words, store, say, &mut links, &NoGate)
 }
 
 // Calls the program, and looks at its status and at what is said.

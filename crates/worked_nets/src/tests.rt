@@ -3,7 +3,7 @@ mod cuts;
 mod orders;
 mod sizes;
 
-use lif_outside::{Call, Fail, MemSink, MemStore, NoGate};
+use lif_outside::{Call, Fail, MemSink, MemStore, NoGate, SeedLinks};
 use lif_top::{Status, lif};
 use std::alloc::{AllocError, Global};
 use std::process::Abort;
@@ -43,7 +43,8 @@ fn call<R: Threads + Sync>(
     store: &mut MemStore,
     say: &mut MemSink,
 ) -> Status {
-    lif(rt, alloc, words, store, say, &NoGate)
+    let mut links = SeedLinks::new(alloc);
+    lif(rt, alloc, words, store, say, &mut links, &NoGate)
 }
 
 fn failing_reads(alloc: Global, nth: u64) -> Result<Vec<Fail>, AllocError> {

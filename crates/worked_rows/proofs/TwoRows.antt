@@ -4,7 +4,7 @@ use Rattle.std.specs.List.{All}
 use Rattle.std.proofs.lemmas.List.Elements.{All-nil, All-cons, All-head, All-tail}
 use Rattle.gf_tables.specs.Product.{shift, repeated_shift, sum_of_shifts, octet_product, product}
 use Rattle.gf_tables.specs.declared.kind.FieldKind.TheVariants.{Eight}
-use Rattle.linear_algebra.specs.Rows.{add_rows, zero_row, combination}
+use Rattle.linear_algebra.specs.Rows.{add_rows, combination}
 use Rattle.linear_algebra.proofs.CombinationLaws.{combination-one}
 use Rattle.linear_algebra.proofs.RowLaws.{scale_row-one, scale_row-zero, add_rows-zero_row, add_rows-comm, add_rows-twice, add_rows-elements, length-add_rows, zero_row-zero_row}
 use Rattle.node_program.specs.Decoding.{IsBlock, IsAccepted, decoding_of}

@@ -1,6 +1,5 @@
 //! Worked examples that are run.
 mod beginnings;
-mod carrying;
 mod checks;
 mod code_files;
 mod codes;

@@ -14,7 +14,7 @@ mod saying;
 mod wide_field;
 mod words;
 
-use lif_outside::{Fail, MemSink, MemStore, NoGate};
+use lif_outside::{Fail, MemSink, MemStore, NoGate, SeedLinks};
 use lif_top::{CodeRefusal, Status, lif};
 use std::alloc::{AllocError, Global};
 use std::process::Abort;
@@ -154,7 +154,8 @@ fn call<R: Threads + Sync>(
     store: &mut MemStore,
     say: &mut MemSink,
 ) -> Status {
-    lif(rt, alloc, words, store, say, &NoGate)
+    let mut links = SeedLinks::new(alloc);
+    lif(rt, alloc, words, store, say, &mut links, &NoGate)
 }
 
 // Whether a run tells what stands at a path then.

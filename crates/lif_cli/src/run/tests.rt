@@ -1,6 +1,6 @@
 //! What no clause says: the exit status as a value, and that nothing but the line comes of words that can't be had.
 use super::*;
-use lif_outside::{MemSink, MemStore};
+use lif_outside::{MemSink, MemStore, SeedLinks};
 use logged_store::Logged;
 
 // Whether a run with words that can't be had ends with this number, says this line, and does nothing else.
@@ -13,7 +13,8 @@ fn says_alone<R: Threads + Sync>(
 ) -> bool {
     let mut store = Logged::new(alloc, MemStore::new(alloc, 100, Vec::new(alloc)));
     let mut say = MemSink::new(alloc, Vec::new(alloc));
-    let code = run(rt, alloc, words, &mut store, &mut say);
+    let mut links = SeedLinks::new(alloc);
+    let code = run(rt, alloc, words, &mut store, &mut say, &mut links);
     code == ExitCode::from(number)
         && say.bytes() == line
         && store.is_whole()

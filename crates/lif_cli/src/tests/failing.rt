@@ -4,7 +4,7 @@ use super::memory::MemFiles;
 use super::{behind_reads, varied_bytes, words_of};
 use crate::disk::FileStore;
 use crate::run::{Words, run};
-use lif_outside::MemSink;
+use lif_outside::{MemSink, SeedLinks};
 use logged_store::{Event, Logged};
 use std::alloc::Global;
 use std::io;
@@ -181,7 +181,8 @@ fn goes<R: Threads + Sync>(
 ) -> bool {
     let mut store = Logged::new(alloc, FileStore::new(files));
     let mut say = MemSink::new(alloc, Vec::new(alloc));
-    let status = run(rt, alloc, words, &mut store, &mut say);
+    let mut links = SeedLinks::new(alloc);
+    let status = run(rt, alloc, words, &mut store, &mut say, &mut links);
     store.is_whole()
         && !files.went_on()
         && goes_as(status, say.bytes(), store.log(), whole)
@@ -219,7 +220,8 @@ fn first_wrong_call<R: Threads + Sync>(
     let mut store = Logged::new(alloc, FileStore::new(&files));
     let mut say = MemSink::new(alloc, Vec::new(alloc));
     let words = words_of(alloc, WORDS)?;
-    let _status = run(rt, alloc, words, &mut store, &mut say);
+    let mut links = SeedLinks::new(alloc);
+    let _status = run(rt, alloc, words, &mut store, &mut say, &mut links);
     if !is_sending(store.log(), source) {
         return Ok(Some(0));
     }

@@ -1,5 +1,5 @@
 -- What `send` leaves, by its outcome: what the files hold, where that is told, and which counts rose.
-use Rattle.std.specs.Prelude.{◌≡◌, ◌⊎◌, ℕ, List, [], Contains, Ok, Option, unwrap_or}
+use Rattle.std.specs.Prelude.{◌≡◌, ◌⊎◌, ℕ, Bool, true, List, [], Contains, Ok, Option, unwrap_or}
 use Rattle.lif_outside.specs.Calls.{Outside}
 use Rattle.lif_outside.specs.Counts.{Rose}
 use Rattle.lif_outside.specs.Files.{ChangesOnly, Holds, HoldsPrefix, IsSameOrEmpty}
@@ -29,52 +29,61 @@ pub record HasCode (send : Send) (code : Code) (before : Outside) : Type 0 where
 abbrev pub HasSource : Send → List ℕ → Outside → Type 0
 HasSource send source before = Told before.files (λ files. HoldsShort source_limit source (files send.source))
 
--- every sink's file is the source
-pub record LeavesSource (send : Send) (code : Code) (source : List ℕ) (before after : Outside) : Type 0 where
+-- Every sink's file is the source, where the links are faithful. They were opened with SEED, and nothing flies on them.
+pub record LeavesSource (faithful : Bool) (send : Send) (code : Code) (source : List ℕ) (before after : Outside) : Type 0 where
   pub has_code : HasCode send code before
   pub has_source : HasSource send source before
-  pub left : LeavesOutputs send code (λ old new. Holds source new) before after
+  pub seed : after.in_flight.seed ≡ send.seed
+  pub quiet : after.in_flight.flying ≡ []
+  pub left : LeavesOutputs send code (λ old new. faithful ≡ true → Holds source new) before after
 
 -- a sink's file couldn't be created; each is as before or empty
 abbrev pub LeavesUnmade : Send → Code → Outside → Outside → Type 0
 LeavesUnmade send code before after = LeavesOutputs send code IsSameOrEmpty before after
 
--- The source was read only in part, or a sink's file couldn't be written further: each file holds a prefix of what was read,
--- which is the front of what the source's path holds.
-pub record LeavesPart (send : Send) (code : Code) (before after : Outside) : Type 0 where
+-- The source was read only in part, or couldn't be carried or written further: by faithful links each file holds a prefix of what
+-- was read, which is the front of what the source's path holds.
+pub record LeavesPart (faithful : Bool) (send : Send) (code : Code) (before after : Outside) : Type 0 where
   pub read : List ℕ
   pub is_front : Told before.files (λ files. IsFrontOf (unwrap_or (files send.source) []) read)
-  pub left : LeavesOutputs send code (λ old new. HoldsPrefix read new) before after
+  pub left : LeavesOutputs send code (λ old new. faithful ≡ true → HoldsPrefix read new) before after
 
 -- a sink's file couldn't be created or written, and its count rose
-pub record LeavesUnwritten (send : Send) (code : Code) (before after : Outside) : Type 0 where
+pub record LeavesUnwritten (faithful : Bool) (send : Send) (code : Code) (before after : Outside) : Type 0 where
   pub has_code : HasCode send code before
   pub output : List ℕ
   pub is_output : Contains (outputs_of send code) output
   pub rose : Rose (before.write_faults output) (after.write_faults output)
-  pub left : LeavesUnmade send code before after ⊎ LeavesPart send code before after
+  pub left : LeavesUnmade send code before after ⊎ LeavesPart faithful send code before after
 
 -- the source couldn't be read, and its count rose
-pub record LeavesUnsent (send : Send) (code : Code) (before after : Outside) : Type 0 where
+pub record LeavesUnsent (faithful : Bool) (send : Send) (code : Code) (before after : Outside) : Type 0 where
   pub has_code : HasCode send code before
   pub rose : Rose (before.read_faults send.source) (after.read_faults send.source)
-  pub left : LeavesPart send code before after
+  pub left : LeavesPart faithful send code before after
 
 -- the source is longer than its limit
-pub record LeavesLong (send : Send) (code : Code) (before after : Outside) : Type 0 where
+pub record LeavesLong (faithful : Bool) (send : Send) (code : Code) (before after : Outside) : Type 0 where
   pub has_code : HasCode send code before
   pub long : Told before.files (λ files. HoldsLong source_limit (files send.source))
-  pub left : LeavesPart send code before after
+  pub left : LeavesPart faithful send code before after
 
--- what is left by the status and the line
-abbrev pub ChangesTo : Send → Status → List ℕ → Outside → Outside → Type 0
-ChangesTo send Done line before after =
-    (code : Code) × (source : List ℕ) × (line ≡ line_of_sent code source) × LeavesSource send code source before after
-ChangesTo send WriteFault line before after = (code : Code) × LeavesUnwritten send code before after
-ChangesTo send ReadFault line before after = LeavesUnread send.code ReadFault before after ⊎ ((code : Code) × LeavesUnsent send code before after)
-ChangesTo send TooLong line before after = LeavesAll before after ⊎ ((code : Code) × LeavesLong send code before after)
-ChangesTo send LinkFault line before after = ⊥
-ChangesTo send status line before after = LeavesAll before after
+-- a call on the links failed, and their count rose
+pub record LeavesUncarried (faithful : Bool) (send : Send) (code : Code) (before after : Outside) : Type 0 where
+  pub has_code : HasCode send code before
+  pub rose : Rose before.link_faults after.link_faults
+  pub left : LeavesPart faithful send code before after
 
-abbrev pub Changes : Send → Outcome → Outside → Outside → Type 0
-Changes send outcome before after = ChangesTo send outcome.status outcome.line before after
+-- what is left by the status and the line, by links that are faithful or not
+abbrev pub ChangesTo : Bool → Send → Status → List ℕ → Outside → Outside → Type 0
+ChangesTo faithful send Done line before after =
+    (code : Code) × (source : List ℕ) × (line ≡ line_of_sent code source) × LeavesSource faithful send code source before after
+ChangesTo faithful send WriteFault line before after = (code : Code) × LeavesUnwritten faithful send code before after
+ChangesTo faithful send ReadFault line before after =
+    LeavesUnread send.code ReadFault before after ⊎ ((code : Code) × LeavesUnsent faithful send code before after)
+ChangesTo faithful send TooLong line before after = LeavesAll before after ⊎ ((code : Code) × LeavesLong faithful send code before after)
+ChangesTo faithful send LinkFault line before after = (code : Code) × LeavesUncarried faithful send code before after
+ChangesTo faithful send status line before after = LeavesAll before after
+
+abbrev pub Changes : Bool → Send → Outcome → Outside → Outside → Type 0
+Changes faithful send outcome before after = ChangesTo faithful send outcome.status outcome.line before after

@@ -1,4 +1,5 @@
--- What the command `send` does.
+-- What the command `send` does, by links that are faithful or not.
+use Rattle.std.specs.Prelude.{Bool}
 use Rattle.code_file.specs.Limits.{code_limit}
 use Rattle.top_base.specs.Accepting.{IsCodeOf, RefusesCode}
 use Rattle.top_base.specs.Acting.{Due, Runs}
@@ -9,10 +10,10 @@ use Rattle.lif_top.specs.Send.Due.{DueOf, NoFault}
 use Rattle.lif_top.specs.Send.Runs.{Sends}
 
 -- CODE is read and checked, and SRC is sent through it
-abbrev pub send_command : Send → Behaviour
-send_command send = record {
-  runs = Runs code_limit IsCodeOf RefusesCode (Sends send) send.code;
-  changes = Changes send;
+abbrev pub send_command : Bool → Send → Behaviour
+send_command faithful send = record {
+  runs = Runs code_limit IsCodeOf RefusesCode (Sends faithful send) send.code;
+  changes = Changes faithful send;
   due = by_files (Due code_limit IsCodeOf RefusesCode (DueOf send) send.code);
   no_fault = NoFault send;
 }

@@ -26,9 +26,10 @@ DueWith send code file status line = ⊥
 abbrev pub DueOf : Send → Code → Files → Outcome → Type 0
 DueOf send code files outcome = DueWith send code (files send.source) outcome.status outcome.line
 
--- no count of faults of the command's own paths rose
+-- no count of faults of the command's own paths rose, and not that of the links
 pub record NoFault (send : Send) (before after : Outside) : Type 0 where
   pub code_read : ¬ Rose (before.read_faults send.code) (after.read_faults send.code)
   pub source_read : ¬ Rose (before.read_faults send.source) (after.read_faults send.source)
   pub outputs_written : (files : Files) (code : Code) (path : List ℕ) → before.files ≡ Some files → HoldsFileOf code (files send.code) → Contains (outputs_of send code) path
       → ¬ Rose (before.write_faults path) (after.write_faults path)
+  pub links_worked : ¬ Rose before.link_faults after.link_faults

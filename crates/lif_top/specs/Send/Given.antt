@@ -1,5 +1,5 @@
 -- What `send` is given, beside an accepted code: a pattern, a source, and paths to write to.
-use Rattle.std.specs.Prelude.{◌≡◌, ℕ, List, [], ◌∷◌, length, Option, None, position, IsSome}
+use Rattle.std.specs.Prelude.{◌≡◌, ℕ, List, [], ◌∷◌, length, Option, None, position, IsSome, unwrap_or}
 use Rattle.std.specs.Str.{bytes_eq}
 use Rattle.generation_frame.specs.Blocks.{block_count}
 use Rattle.node_program.specs.declared.code.Code.{Code}
@@ -15,6 +15,10 @@ source_limit = 67108864
 -- the number of the pattern that is named
 abbrev pub pattern_of : Send → Code → Option ℕ
 pattern_of send code = position (λ pattern. bytes_eq pattern.name send.pattern) code.net.patterns
+
+-- that number, where the pattern is known
+abbrev pub pattern_in : Send → Code → ℕ
+pattern_in send code = unwrap_or (pattern_of send code) 0
 
 -- the paths of the sinks' files, in order
 abbrev pub outputs_of : Send → Code → List (List ℕ)

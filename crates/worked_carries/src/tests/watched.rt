@@ -23,7 +23,7 @@ impl<K: Links> Links for Watched<K> {
 
     ghost room = { λ watched. K.room watched.links };
 
-    ghost seed = { λ watched. K.seed watched.links };
+    ghost opened_with = { λ watched. K.opened_with watched.links };
 
     ghost repeats = { λ watched. K.repeats watched.links };
 
@@ -43,14 +43,14 @@ impl<K: Links> Links for Watched<K> {
         K.more_moves first later a.links b.links c.links one other };
 
     ghost accounts = { λ made old new calls. accounts_inside (λ watched. watched.links)
-        (holding K.flying K.room K.seed K.repeats) K.faithful K.faults K.sent K.given made old new
+        (holding K.flying K.room K.opened_with K.repeats) K.faithful K.faults K.sent K.given made old new
         (K.accounts made old.links new.links calls) };
 
-    fn open(&mut self, alloc: Global, number: u64, most: u32) -> Result<(), AllocError>
+    fn open(&mut self, alloc: Global, seed: u64, most: u32) -> Result<(), AllocError>
         requires { K.flying self.old.links ≡ [] }
-        ensures { K.moves (open_move number most result ∷ []) self.old.links self.new.links }
+        ensures { K.moves (open_move seed most result ∷ []) self.old.links self.new.links }
     {
-        self.links.open(alloc, number, most)
+        self.links.open(alloc, seed, most)
     }
 
     fn put(&mut self, link: u32, frame: &[u8; 140]) -> Result<(), Failed>

@@ -1,6 +1,6 @@
 //! Which jobs enter the gate that a command is given.
 use super::store_with;
-use lif_outside::{Gate, MemSink};
+use lif_outside::{Gate, MemSink, SeedLinks};
 use lif_top::{Status, lif};
 use std::alloc::Global;
 use std::sync::atomic::{AtomicU64, Ordering};
@@ -35,7 +35,8 @@ fn entries_of<R: Threads + Sync>(
     let gate = Entries {
         counted: AtomicU64::new(0),
     };
-    match lif(rt, alloc, &words, &mut store, &mut say, &gate) {
+    let mut links = SeedLinks::new(alloc);
+    match lif(rt, alloc, &words, &mut store, &mut say, &mut links, &gate) {
         Status::Done => Some(gate.counted.load(Ordering::SeqCst)),
         _ => None,
     }

@@ -20,7 +20,13 @@ const ROWS: &[Row] = &[
     (SIDE_BY_SIDE, 1, &[1], &[(1, ALL)], 1),
     (SIDE_BY_SIDE, 2, &[0], &[(0, ALL)], 1),
     // The last link adds once and twice the block, or once alone.
-    (TWO_WAYS, 0, &[0, 1, 2, 3], &[(2, ALL), (3, THRICE)], 1),
+    (
+        TWO_WAYS,
+        0,
+        &[0, 1, 2, 3],
+        &[(0, ALL), (1, ALL), (2, ALL), (3, THRICE)],
+        1,
+    ),
     (TWO_WAYS, 1, &[1, 3], &[(1, ALL), (3, ALL)], 1),
     // The link from `c` to `d` does too, or twice alone, and the sinks undo it.
     (

@@ -1,16 +1,17 @@
-use Rattle.std.proofs.Common.{sym, subst, ◌<◌, ◌/◌, ◌*◌, length}
-use Rattle.least_set.specs.Members.{SameElsewhere, SetsBit, bound}
-use Rattle.least_set.proofs.OverLaws.{in_place, over_insert}
+-- The number is added in all levels, and is the least one where it is less than that.
+use Rattle.std.proofs.Common.{◌≡◌, Some, length, subst, sym}
+use Rattle.least_set.specs.Members.{HasLeast, SetsBit}
+use Rattle.least_set.proofs.OverLaws.{in_place, least_insert, put_back}
 use Rattle.least_set.proofs.LeastSet.insert.Goals as goal
 
 pub invariant_of-self : goal.invariant_of-self
 invariant_of-self c =
-    let words = c.self.inside.words.items in
-    let over_words = c.self.inside.over_words.items in
-    let first = subst (λ ws. SetsBit c.args.number ws c.set_bit.new.words) c.deref_mut.ensures.value c.set_bit.ensures.bits in
-    let first_rest = subst (λ ws. SameElsewhere (c.args.number / 64) ws c.set_bit.new.words) c.deref_mut.ensures.value c.set_bit.ensures.elsewhere in
-    let second = subst (λ ws. SetsBit (c.args.number / 64) ws c.set_bit-2.new.words) c.deref_mut-2.ensures.value c.set_bit-2.ensures.bits in
-    let second_rest = subst (λ ws. SameElsewhere (c.args.number / 64 / 64) ws c.set_bit-2.new.words) c.deref_mut-2.ensures.value c.set_bit-2.ensures.elsewhere in
-    let below : c.args.number < 64 * length words = subst (λ set. c.args.number < bound set) (sym c.self.view_is) c.requires in
-    in_place c.self.inside.words.len words c.set_bit.new.words c.self.inside.over_words.len over_words c.set_bit-2.new.words _ c.self.inside.words.ok.0 first.long c.self.inside.over_words.ok.0 second.long
-    (over_insert words c.set_bit.new.words over_words c.set_bit-2.new.words c.self.inside.over_all c.args.number c.self.invariant below first first_rest second second_rest)
+    let words = c.self.inside.words in
+    let over_words = c.self.inside.over_words in
+    let added = c.add-self-inside.new in
+    let bits = subst (λ ws. SetsBit c.args.number ws added.words) c.deref_mut.ensures.value c.add-self-inside.ensures.bits in
+    let long = subst (λ ws. length added.over_words ≡ length ws) c.deref_mut-2.ensures.value c.add-self-inside.ensures.long in (
+      in_place words.len words.items added.words over_words.len over_words.items added.over_words c.add-self-inside.result words.ok.0 bits.long over_words.ok.0 long c.add-self-inside.ensures.over,
+      subst (HasLeast (Some c.lesser.result)) (sym (put_back words.len words.items added.words words.ok.0 bits.long))
+          (least_insert c.self.inside.least c.args.number c.lesser.result words.items added.words c.self.invariant.1 bits c.lesser.ensures.some c.lesser.ensures.none),
+    )

@@ -18,7 +18,8 @@ use Rattle.lif_cli.proofs.run.end_of.Goals as goal
 pub returns-in-NotText-clause-runs : goal.returns-in-NotText-clause-runs
 returns-in-NotText-clause-runs g c =
     let promised = c.lif-in-NotText.ensures.promises in
-    subst (RunsWords (objects g.S.Store g.C.Sink c.args.store.now c.lif-in-NotText.new.store c.args.say.now c.lif-in-NotText.new.say) c.lif-in-NotText.result) (sym c.in-NotText.is)
+    subst (RunsWords (objects g.S.Store g.C.Sink g.L.Links c.args.store.now c.lif-in-NotText.new.store c.args.say.now c.lif-in-NotText.new.say c.args.links.now
+    c.lif-in-NotText.new.links) c.lif-in-NotText.result) (sym c.in-NotText.is)
     (promised.usage.1 refl, promised.performed)
 
 -- a line that was put once
@@ -28,10 +29,16 @@ says_line (Err why) = inr (refl, says_part-once out_of_memory_line (Err why))
 
 pub returns-in-NoMemory-clause-runs : goal.returns-in-NoMemory-clause-runs
 returns-in-NoMemory-clause-runs g c =
-    let o = objects g.S.Store g.C.Sink c.args.store.now c.args.store.now c.args.say.now c.put.new.self in
+    let o = objects g.S.Store g.C.Sink g.L.Links c.args.store.now c.args.store.now c.args.say.now c.put.new.self c.args.links.now c.args.links.now in
     subst (RunsWords o OutOfMemory) (sym c.in-NoMemory.is) (
       refl,
-      performs_said o OutOfMemory (λ events lead. g.met.S.Store.accounts events _ _ lead) (λ puts lead. g.met.C.Sink.accounts puts _ _ lead) (at_once no_memory) (at_once_known no_memory refl (λ not. refl)) no_memory
-          (calls_of (λ events. (at_once no_memory).runs no_memory (store_calls events)) [] (g.met.S.Store.no_calls c.args.store.now) (refl, refl))
+      performs_said o OutOfMemory (λ events lead. g.met.S.Store.accounts events _ _ lead) (λ puts lead. g.met.C.Sink.accounts puts _ _ lead)
+          (λ made lead. g.met.L.Links.accounts made _ _ lead) (at_once no_memory) (at_once_known no_memory refl (λ not. refl)) no_memory
+          (record {
+            calls = store_calls [];
+            on_store = g.met.S.Store.no_calls c.args.store.now;
+            on_links = g.met.L.Links.no_moves c.args.links.now;
+            holds = (refl, refl);
+          })
           (calls_of (SaysOutcome no_memory OutOfMemory) (put_event out_of_memory_line c.put.result ∷ []) c.put.ensures (says_line c.put.result)),
     )

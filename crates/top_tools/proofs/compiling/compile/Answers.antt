@@ -1,6 +1,7 @@
 use Rattle.std.proofs.Common.{◌≡◌, [], ℕ, List, None, Some, ap, refl, sym, ◌∙◌}
 use Rattle.std.specs.Option.{option_map}
-use Rattle.lif_outside.proofs.CallLaws.{calls_of}
+use Rattle.lif_outside.proofs.CallLaws.{calls_of, calls_weaker}
+use Rattle.lif_outside.specs.Calls.{store_calls}
 use Rattle.lif_outside.specs.Sequences.{Are}
 use Rattle.net_reader.specs.Text.{net_limit}
 use Rattle.top_base.proofs.ActingLaws.{runs_had, runs_lost}
@@ -11,6 +12,7 @@ use Rattle.top_base.specs.Networks.{IsNetOf, RefusesNet}
 use Rattle.top_base.specs.declared.outcome.Outcome.{Outcome}
 use Rattle.top_base.specs.declared.status.Status.TheVariants.{SamePath}
 use Rattle.top_tools.proofs.compiling.compile.Goals as goal
+use Rattle.top_tools.specs.Compile.Command.{Compiles}
 use Rattle.top_tools.specs.Compile.Given.{outputs_of, shared_of}
 use Rattle.top_tools.specs.Compile.Made.{IsGood, IsMade, RefusesMaking}
 
@@ -30,9 +32,13 @@ pub returns-in-Ok : goal.returns-in-Ok
 returns-in-Ok g c =
     let given = compile_given_in c.args.words.now in
     let apart : shared_of given ≡ None = sym c.shared_path.ensures ∙ ap (option_map (λ path. path.now)) c.in_default.is in
-    runs_apart net_limit IsNetOf RefusesNet (IsMade given) IsGood RefusesMaking given.net (outputs_of given) c.compile_net.result apart
-    (runs_had net_limit IsNetOf RefusesNet given.net g.met.S.Store.more_calls (Writes net_limit IsNetOf RefusesNet (IsMade given) IsGood RefusesMaking) c.in-Ok.ordered.net c.compile_net.result
-    c.in-Ok.ensures.had c.compile_net.ensures)
+    let net = c.in-Ok.ordered.net in
+    let outcome = c.compile_net.result in
+    let writes = Writes net_limit IsNetOf RefusesNet (IsMade given) IsGood RefusesMaking in
+    runs_apart net_limit IsNetOf RefusesNet (IsMade given) IsGood RefusesMaking given.net (outputs_of given) outcome apart
+    (runs_had net_limit IsNetOf RefusesNet given.net g.met.S.Store.more_calls writes net outcome c.in-Ok.ensures.had
+    (calls_weaker (Compiles given net outcome.status outcome.line) (λ events. writes net outcome (store_calls events)) c.compile_net.ensures
+    (λ made is. (is, refl))))
 
 pub returns-in-Err : goal.returns-in-Err
 returns-in-Err g c =

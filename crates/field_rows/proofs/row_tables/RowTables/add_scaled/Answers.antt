@@ -1,7 +1,13 @@
 use Rattle.std.proofs.Common.{◌≡◌, ◌<◌, ◌/◌, ◌%◌, refl, arith, length}
 use Rattle.gf_tables.specs.Product.{product}
 use Rattle.field_rows.proofs.PairProducts.{pairs_added}
+use Rattle.field_rows.proofs.PlainSums.{row_added}
 use Rattle.field_rows.proofs.row_tables.RowTables.add_scaled.Goals as goal
+
+pub returns-then-by-eq1-clause-sum : goal.returns-then-by-eq1-clause-sum
+returns-then-by-eq1-clause-sum c =
+    rw c.if-by-eq1.true
+    (row_added c.args.field c.args.into.now c.args.from.now c.add_row.new.into c.requires.same_length c.add_row.ensures (λ k. (c.type_inv.from k).fits) (λ k. (c.type_inv.into k).fits))
 
 pub returns-in-Eight-clause-sum : goal.returns-in-Eight-clause-sum
 unfolding product

@@ -1,89 +1,134 @@
-use Rattle.std.proofs.Common.{◌≡◌, ◌<◌, ◌*◌, ◌++◌, ◌∷◌, [], Contains, length, map, take, refl, ap, ◌∙◌, sym, subst, arith, slice_index_or, string_bytes}
-use Rattle.std.proofs.lemmas.List.{length-map, take_all, take_at}
-use Rattle.generation_frame.specs.Blocks.{block_of, counted_bytes}
-use Rattle.generation_frame.proofs.BlockLaws.{counted-block, length-block}
-use Rattle.lif_outside.proofs.CallLaws.{calls_of, calls_then, calls_weaker}
-use Rattle.lif_outside.specs.Runs.{StopsWithin, appends_to}
-use Rattle.top_base.proofs.Exits.{on_err}
-use Rattle.lif_top.proofs.Turning.{append_stops, appended_more, appended_none}
-use Rattle.lif_top.specs.Send.Ready.{paths_of, some_piece}
+use Rattle.std.specs.Prelude.{◌≤◌}
+use Rattle.std.proofs.Common.{◌≡◌, ◌+◌, ◌*◌, ◌++◌, ◌∷◌, [], List, ℕ, length, take, refl, ap, ◌∙◌, sym, subst, arith}
+use Rattle.std.proofs.lemmas.List.{take_at}
+use Rattle.coded_traffic.specs.Traffic.{Window}
+use Rattle.generation_frame.specs.Blocks.{block_of, capacity, row_bytes}
+use Rattle.generation_frame.proofs.BlockLaws.{length-block}
+use Rattle.lif_outside.proofs.CallLaws.{both_on_links}
+use Rattle.lif_outside.specs.Calls.{MakesBoth, MakesCalls}
+use Rattle.lif_outside.specs.Events.{Event}
+use Rattle.lif_outside.specs.Moves.{Move}
+use Rattle.lif_outside.specs.Runs.{StopsWithin, appends_of}
+use Rattle.lif_outside.specs.Sequences.{Are}
+use Rattle.lif_outside.specs.declared.links.Links.{Ghosts as LinksGhosts}
+use Rattle.lif_outside.specs.declared.store.Store.{Ghosts as StoreGhosts}
+use Rattle.node_program.specs.declared.code.Code.{Code}
+use Rattle.relay_runner.specs.Carried.{HasCarriedBy, IsCarried, IsStopped, Sends, packets_given}
+use Rattle.relay_runner.specs.Running.{Running, window_from}
+use Rattle.lif_top.proofs.DeliveryLaws.{one-block, window-one}
+use Rattle.lif_top.proofs.GivenLaws.{subst-three}
+use Rattle.lif_top.specs.Send.Delivering.{BreaksPiece, DeliversPiece, HasMoved, window_at}
+use Rattle.lif_top.specs.Send.Ready.{paths_of}
+use Rattle.lif_top.specs.Send.Turns.{turn_at}
 use Rattle.lif_top.proofs.delivery.Delivery.carry_piece.Goals as goal
 
-pub loop-sink-init : goal.loop-sink-init
-loop-sink-init g c =
+-- the block at hand is that of the piece
+at-hand : (code : Code) (piece block behind hand : List ℕ) (room size : ℕ) → length piece ≤ capacity code.rate → block ≡ block_of size piece → size ≡ code.rate → room ≡ code.rate * row_bytes
+    → hand ≡ take room (block ++ behind) → hand ≡ block_of code.rate piece
+at-hand code piece block behind hand room size fits is same enough taken =
+    let made : block ≡ block_of code.rate piece = is ∙ ap (λ rate. block_of rate piece) same in
+    let long : length block ≡ room = ap length made ∙ length-block code.rate piece code.code.draft.some_rate fits ∙ sym enough in
+    taken ∙ take_at block behind room long ∙ made
+
+-- it is as long as a block is, and the window that it is has it alone
+module _ (code : Code) (piece hand : List ℕ) (fits : length piece ≤ capacity code.rate) (is : hand ≡ block_of code.rate piece) where
+  long-hand : length hand ≡ code.rate * row_bytes
+  long-hand = ap length is ∙ length-block code.rate piece code.code.draft.some_rate fits
+
+  window-is : (first : ℕ) → window_from code first hand ≡ window_at code first piece
+  window-is first = window-one code hand long-hand first ∙ ap (λ block. record { first = first; blocks = block ∷ [] }) is
+
+-- what was carried and then appended is the delivery of the piece
+delivers : {S L : Type 0} (g : StoreGhosts S) (k : LinksGhosts L) (old new : Running) (paths : List (List ℕ)) (piece : List ℕ) (window : Window) (Q : List Event → List Event → Type 0)
+    (a b : S) (at now : L) → (sent : Sends k window at now new) → new.code ≡ old.code → new.pattern ≡ old.pattern → new.first ≡ old.next → window ≡ window_at old.code old.next piece
+    → MakesCalls g a b (Q (appends_of (turn_at paths new.code new.pattern (packets_given sent.moves) new.first ∷ [])))
+    → MakesBoth g k a b at now (DeliversPiece (k.faithful at) old.code old.pattern paths old.next piece Q)
+delivers g k old new paths piece window Q a b at now sent code pattern first is appended = record {
+  calls = record { on_store = appended.made; on_links = sent.moves };
+  on_store = appended.lead;
+  on_links = sent.calls;
+  holds = record {
+    on_links = subst-three (λ code pattern window. IsCarried (k.faithful at) code pattern window sent.moves) code pattern is sent.carried;
+    on_store = subst-three (λ code pattern first. Q (appends_of (turn_at paths code pattern (packets_given sent.moves) first ∷ [])) appended.made) code pattern first appended.holds;
+  };
+}
+
+pub carry-requires-clause-blocks : goal.carry-requires-clause-blocks
+carry-requires-clause-blocks g c =
     let self = c.args.self.now in
-    let rate = self.carrier.code.rate in
-    let old : length c.deref_mut.result.now ≡ rate * 1024 = ap length c.deref_mut.ensures.value ∙ omega (arith, self.block_length) in
-    let is : c.cut.new.block ≡ block_of rate c.args.piece.now = c.cut.ensures ∙ ap (λ r. block_of r c.args.piece.now) (omega (arith, old)) in
-    let long : length c.cut.new.block ≡ self.block.len =
-    ap length is ∙ length-block rate c.args.piece.now self.carrier.code.code.draft.some_rate c.requires.fits ∙ omega (arith, self.block_length) in
+    let code = self.runner.code in
+    let piece = c.args.piece.now in
+    let old : length c.deref_mut.result.now ≡ code.rate * 1024 = ap length c.deref_mut.ensures.value ∙ omega (arith, self.block_length) in
+    let hand = at-hand code piece c.cut.new.block _ c.deref.result.now self.block.len _ c.requires.fits c.cut.ensures (omega (arith, old)) (omega (arith, self.block_length)) c.deref.ensures.value in
+    let long = long-hand code piece c.deref.result.now c.requires.fits hand in
+    let one = one-block code c.deref.result.now long in
+    let size = code.rate * row_bytes in
+    let single : 1 * size ≡ size = omega arith in
     record {
-      code = c.carry.ensures.code;
-      block = c.carry.ensures.block ∙ c.deref.ensures.value ∙ take_at c.cut.new.block _ _ long ∙ is;
-      outputs = refl;
-      calls = calls_of _ [] (g.met.S.Store.no_calls c.args.store.now) (appended_none c.args.piece.now);
+      some = omega (arith, one);
+      few = omega (arith, one);
+      whole = long ∙ sym (ap (λ n. n * size) one ∙ single);
+      last = omega (arith, one, c.requires.numbered);
     }
 
-pub append_decoded-requires-clause-carried : goal.append_decoded-requires-clause-carried
-append_decoded-requires-clause-carried g c =
-    let code = c.args.self.now.carrier.code in
-    ap length c.loop-sink.invariant.block ∙ length-block code.rate c.args.piece.now code.code.draft.some_rate c.requires.fits
-    ∙ ap (λ code. code.rate * 1024) (sym c.loop-sink.invariant.code)
-
-pub append_decoded-requires-clause-piece : goal.append_decoded-requires-clause-piece
-append_decoded-requires-clause-piece g c =
-    let code = c.args.self.now.carrier.code in
-    ap counted_bytes c.loop-sink.invariant.block ∙ counted-block code.rate c.args.piece.now (omega (arith, c.requires.fits, code.code.draft.low_rate))
-
-pub append_decoded-requires-clause-made : goal.append_decoded-requires-clause-made
-append_decoded-requires-clause-made g c = λ path there.
-    let before = c.loop-sink.invariant.calls in
-    (g.met.S.Store.accounts before.made _ _ before.lead).counts.still_made path
-    (c.requires.made path (subst (λ outputs. Contains (map string_bytes outputs.items) path) c.loop-sink.invariant.outputs there))
-
-pub returns-in_err-append_decoded-clause-code : goal.returns-in_err-append_decoded-clause-code
-returns-in_err-append_decoded-clause-code g c = ap (λ carrier. carrier.code) c.append_decoded.ensures.carrier ∙ c.loop-sink.invariant.code
-
-pub returns-in_err-append_decoded-clause-outputs : goal.returns-in_err-append_decoded-clause-outputs
-returns-in_err-append_decoded-clause-outputs g c = c.append_decoded.ensures.outputs ∙ c.loop-sink.invariant.outputs
-
-pub returns-in_err-append_decoded-clause-failed : goal.returns-in_err-append_decoded-clause-failed
-returns-in_err-append_decoded-clause-failed g c =
-    let paths = paths_of c.args.self.now in
-    let n = c.loop-sink.sink in
+pub returns-in_default-clause-interrupted : goal.returns-in_default-clause-interrupted
+returns-in_default-clause-interrupted g c =
+    let self = c.args.self.now in
+    let runner = self.runner in
+    let code = runner.code in
     let piece = c.args.piece.now in
-    let inside : n < length paths = omega (arith, length-map c.args.self.now.outputs.items string_bytes) in
-    let here = ap (λ outputs. slice_index_or (map string_bytes outputs.items) n []) c.loop-sink.invariant.outputs in
-    on_err c.from_residual.result (calls_then g.met.S.Store.more_calls _ _ (StopsWithin (appends_to paths (some_piece piece))) c.loop-sink.invariant.calls
-    c.in_err-append_decoded.ensures.failed
-    (λ first later one other. subst (λ first. StopsWithin (appends_to paths (some_piece piece)) (first ++ later)) (sym one)
-    (append_stops paths n inside piece later (subst (λ path. StopsWithin (appends_to (path ∷ []) (some_piece piece)) later) here other))))
+    let faithful = g.K.Links.faithful c.args.links.now in
+    let old : length c.deref_mut.result.now ≡ code.rate * 1024 = ap length c.deref_mut.ensures.value ∙ omega (arith, self.block_length) in
+    let hand = at-hand code piece c.cut.new.block _ c.deref.result.now self.block.len _ c.requires.fits c.cut.ensures (omega (arith, old)) (omega (arith, self.block_length)) c.deref.ensures.value in
+    both_on_links c.args.store.now (g.met.S.Store.no_calls c.args.store.now) (IsStopped faithful code runner.pattern (window_from code runner.next c.deref.result.now))
+    (BreaksPiece faithful code runner.pattern runner.next piece) c.in_default.ensures.stopped
+    (λ moves is. record {
+      on_links = subst (λ window. IsStopped faithful code runner.pattern window moves) (window-is code piece c.deref.result.now c.requires.fits hand runner.next) is;
+      on_store = refl;
+    })
 
-pub loop-sink-preserved : goal.loop-sink-preserved
-loop-sink-preserved g c =
-    let paths = paths_of c.args.self.now in
-    let n = c.loop-sink.sink in
+pub returns-in-Ok-append_all-clause-moved : goal.returns-in-Ok-append_all-clause-moved
+returns-in-Ok-append_all-clause-moved g c =
+    let self = c.args.self.now in
+    let runner = self.runner in
+    let code = runner.code in
     let piece = c.args.piece.now in
-    let inside : n < length paths = omega (arith, length-map c.args.self.now.outputs.items string_bytes) in
-    let here = ap (λ outputs. slice_index_or (map string_bytes outputs.items) n []) c.loop-sink.invariant.outputs in
-    record {
-      code = ap (λ carrier. carrier.code) c.append_decoded.ensures.carrier ∙ c.loop-sink.invariant.code;
-      block = ap (λ carrier. carrier.block) c.append_decoded.ensures.carrier ∙ c.loop-sink.invariant.block;
-      outputs = c.append_decoded.ensures.outputs ∙ c.loop-sink.invariant.outputs;
-      calls = calls_then g.met.S.Store.more_calls _ _ _ c.loop-sink.invariant.calls c.in_ok-append_decoded.ensures.appended
-          (λ first later one other. ap (λ calls. calls ++ later) one
-          ∙ ap (λ calls. appends_to (take n paths) (some_piece piece) ++ calls) (other ∙ ap (λ path. appends_to (path ∷ []) (some_piece piece)) here)
-          ∙ appended_more paths n inside piece);
-    }
+    let old : length c.deref_mut.result.now ≡ code.rate * 1024 = ap length c.deref_mut.ensures.value ∙ omega (arith, self.block_length) in
+    let hand = at-hand code piece c.cut.new.block _ c.deref.result.now self.block.len _ c.requires.fits c.cut.ensures (omega (arith, old)) (omega (arith, self.block_length)) c.deref.ensures.value in
+    let one = one-block code c.deref.result.now (long-hand code piece c.deref.result.now c.requires.fits hand) in
+    let after = c.in-Ok.ensures in
+    subst (HasMoved runner) (sym c.append_all.ensures.runner)
+    (record {
+      code = after.code;
+      pattern = after.pattern;
+      first = after.first;
+      one = after.count ∙ one;
+      next = after.next ∙ ap (λ n. runner.next + n) one;
+      carried = after.whole;
+    })
 
-pub returns-clause-code : goal.returns-clause-code
-returns-clause-code g c = c.loop-sink.invariant.code
+pub returns-in-Ok-append_all-clause-delivered : goal.returns-in-Ok-append_all-clause-delivered
+returns-in-Ok-append_all-clause-delivered g c =
+    let self = c.args.self.now in
+    let runner = self.runner in
+    let code = runner.code in
+    let piece = c.args.piece.now in
+    let old : length c.deref_mut.result.now ≡ code.rate * 1024 = ap length c.deref_mut.ensures.value ∙ omega (arith, self.block_length) in
+    let hand = at-hand code piece c.cut.new.block _ c.deref.result.now self.block.len _ c.requires.fits c.cut.ensures (omega (arith, old)) (omega (arith, self.block_length)) c.deref.ensures.value in
+    let after = c.in-Ok.ensures in
+    delivers g.S.Store g.K.Links runner c.carry.new.self (paths_of self) piece (window_from code runner.next c.deref.result.now) Are c.args.store.now c.append_all.new.store
+    c.args.links.now c.carry.new.links after.sent after.code after.pattern after.first (window-is code piece c.deref.result.now c.requires.fits hand runner.next)
+    (c.in-Ok-append_all.ensures.appended after.sent.moves after.sent.by)
 
-pub returns-clause-outputs : goal.returns-clause-outputs
-returns-clause-outputs g c = c.loop-sink.invariant.outputs
-
-pub returns-clause-appended : goal.returns-clause-appended
-returns-clause-appended g c =
-    let paths = paths_of c.args.self.now in
-    calls_weaker _ _ c.loop-sink.invariant.calls (λ made is. is ∙ ap (λ all. appends_to all (some_piece c.args.piece.now))
-    (take_all c.loop-sink.sink paths (omega (arith, length-map c.args.self.now.outputs.items string_bytes))))
+pub returns-in-Err-clause-interrupted : goal.returns-in-Err-clause-interrupted
+returns-in-Err-clause-interrupted g c =
+    let self = c.args.self.now in
+    let runner = self.runner in
+    let code = runner.code in
+    let piece = c.args.piece.now in
+    let old : length c.deref_mut.result.now ≡ code.rate * 1024 = ap length c.deref_mut.ensures.value ∙ omega (arith, self.block_length) in
+    let hand = at-hand code piece c.cut.new.block _ c.deref.result.now self.block.len _ c.requires.fits c.cut.ensures (omega (arith, old)) (omega (arith, self.block_length)) c.deref.ensures.value in
+    let after = c.in-Ok.ensures in
+    delivers g.S.Store g.K.Links runner c.carry.new.self (paths_of self) piece (window_from code runner.next c.deref.result.now) StopsWithin c.args.store.now c.append_all.new.store
+    c.args.links.now c.carry.new.links after.sent after.code after.pattern after.first (window-is code piece c.deref.result.now c.requires.fits hand runner.next)
+    (c.in-Err.ensures.failed after.sent.moves after.sent.by)

@@ -4,11 +4,11 @@ use Rattle.node_program.specs.Decoding.{IsAccepted}
 use Rattle.coded_traffic.specs.Traffic.{block_at}
 use Rattle.generation_frame.specs.Blocks.{row_bytes}
 use Rattle.node_program.specs.declared.code.Code.{Code}
-use Rattle.relay_runner.proofs.BlockLaws.{IsAsked, begun-there, block-there, has-sink, is-asked, node-station, same-rate, same-sink, whole-block}
+use Rattle.relay_runner.proofs.BlockLaws.{IsAsked, begun-there, block-there, decoded-given, has-sink, is-asked, node-station, same-rate, whole-block}
 use Rattle.relay_runner.proofs.runner.Runner.block.Goals as goal
 use Rattle.relay_runner.proofs.runner.Runner.block.Goals.{After-at-node, In-Some}
 use Rattle.relay_runner.specs.Running.{Running}
-use Rattle.sink_decoder.specs.Receiving.{IsBegun, Receiver, decoded, is_whole}
+use Rattle.sink_decoder.specs.Receiving.{IsBegun, decoded, is_whole}
 use Rattle.station_table.specs.Table.{sinks_of}
 
 -- the code at hand is the runner's
@@ -63,13 +63,10 @@ unreachable-requires g c =
     c.index.result.now c.index.ensures c.in-None.is
 
 pub returns-clause-value : goal.returns-clause-value
-returns-clause-value g c = λ node receiver there found.
-    let same : c.in-Some.decoder ≡ receiver =
-    same-sink c.args.self.now c.args.sink c.at-node.result.now c.args.place c.in-Some.decoder (asked g (goal.at.returns-clause-value g c).In-Some)
-    node receiver there found in
+returns-clause-value g c = λ moves by.
     c.block.ensures.value
-    ∙ ap (λ (sink : Receiver). decoded sink (c.self.inside.first + c.args.place)) same
-    ∙ ap (λ (runner : Running). decoded receiver (runner.first + c.args.place)) c.self.view_is
+    ∙ ap (λ (runner : Running). decoded c.in-Some.decoder (runner.first + c.args.place)) c.self.view_is
+    ∙ decoded-given c.args.self.now c.args.sink c.at-node.result.now c.args.place c.in-Some.decoder (asked g (goal.at.returns-clause-value g c).In-Some) moves by
 
 pub returns-clause-carried : goal.returns-clause-carried
 returns-clause-carried g c = λ window run state running faithful.

@@ -1,12 +1,16 @@
 -- The stations begin the window and are fed it, and then it is carried.
 use Rattle.std.proofs.Common.{◌≡◌, ◌+◌, ◌++◌, List, ap, drop, length, refl, subst, take, ◌∙◌}
 use Rattle.std.proofs.lemmas.List.{take_at}
+use Rattle.lif_outside.specs.Calls.{MakesMoves}
+use Rattle.node_program.specs.Decoding.{IsAccepted}
 use Rattle.node_stations.proofs.PuttingLaws.{on_err-then, on_ok-then}
 use Rattle.node_stations.specs.declared.station.Station.{Station}
+use Rattle.relay_runner.proofs.CarriedLaws.{has-sent}
 use Rattle.relay_runner.proofs.RunningLaws.{has-carried}
 use Rattle.relay_runner.proofs.StartingLaws.{made-start, seen-count, start-planned}
 use Rattle.relay_runner.proofs.UnderwayLaws.{still-open}
-use Rattle.relay_runner.specs.Carrying.{Carries, StopsCarrying}
+use Rattle.relay_runner.specs.Carried.{IsStopped, Sends}
+use Rattle.relay_runner.specs.Carrying.{Carries}
 use Rattle.relay_runner.specs.Running.{Running, Starts, window_from}
 use Rattle.station_table.specs.Table.{relays_of, sinks_of}
 use Rattle.relay_runner.proofs.runner.Runner.carry.Given as given
@@ -82,6 +86,17 @@ returns-clause-carried g c =
     c.args.links.now c.run.new.links c.run.new.self.relays c.run.new.self.sinks) c.self.view_is
     (carries (window_from code c.self.inside.next c.args.blocks.now) (starts g at))) c.run.ensures.carried
 
+pub returns-clause-sent : goal.returns-clause-sent
+returns-clause-sent g c =
+    let at = (goal.at.returns-clause-sent g c).After-start_window-count in
+    let window = window_from c.self.inside.code.now c.self.inside.next c.args.blocks.now in
+    let accepted : IsAccepted c.self.inside.code.now = subst IsAccepted c.code.ensures.value c.code.ensures.accepted in
+    on_ok-then c.run.result (λ carries.
+    subst (λ (runner : Running). Sends g.K.Links (window_from runner.code runner.next c.args.blocks.now) c.args.links.now c.run.new.links c.run.new.self)
+    c.self.view_is
+    (has-sent g.K.Links (runner_begun g at) c.run.new.self c.run.ensures.work window refl (counted g at) accepted c.args.links.now c.run.new.links
+    (carries window (starts g at)))) c.run.ensures.carried
+
 pub returns-clause-whole : goal.returns-clause-whole
 returns-clause-whole g c =
     let at = (goal.at.returns-clause-whole g c).After-start_window-count in
@@ -119,6 +134,6 @@ returns-clause-stopped g c =
     let at = (goal.at.returns-clause-stopped g c).After-start_window-count in
     let code = c.self.inside.code.now in
     on_err-then c.run.result (λ stops.
-    subst (λ (runner : Running). StopsCarrying g.K.Links runner.code runner.pattern (window_from runner.code runner.next c.args.blocks.now)
-    c.args.links.now c.run.new.links) c.self.view_is
+    subst (λ (runner : Running). MakesMoves g.K.Links c.args.links.now c.run.new.links
+    (IsStopped (g.K.Links.faithful c.args.links.now) runner.code runner.pattern (window_from runner.code runner.next c.args.blocks.now))) c.self.view_is
     (stops (window_from code c.self.inside.next c.args.blocks.now) (starts g at))) c.run.ensures.stopped

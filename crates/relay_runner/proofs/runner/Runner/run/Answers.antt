@@ -1,9 +1,10 @@
 -- The source's packets are put, and then turn follows turn.
 use Rattle.std.proofs.Common.{Ok, refl, ◌≡◌, ◌≤◌, ◌*◌, length, subst, sym, ap}
 use Rattle.coded_traffic.specs.Traffic.{Window}
+use Rattle.lif_outside.specs.Calls.{MakesMoves}
 use Rattle.node_program.specs.declared.code.Code.{Code}
 use Rattle.node_stations.proofs.PuttingLaws.{on_err}
-use Rattle.relay_runner.specs.Carrying.{StopsCarrying}
+use Rattle.relay_runner.specs.Carried.{IsStopped}
 use Rattle.relay_runner.specs.Running.{CanStart, Running, Starts}
 use Rattle.relay_runner.specs.declared.Turn.{Turn}
 use Rattle.relay_runner.specs.declared.Turn.TheVariants.{Moved, Quiet}
@@ -33,7 +34,8 @@ pub returns-in_default-clause-stopped : goal.returns-in_default-clause-stopped
 returns-in_default-clause-stopped g c =
     let place = ap (λ (code : Code). code.net.source) c.code.ensures.value in
     subst (λ (runner : Running). (window : Window) → Starts runner.code runner.pattern window runner.relays runner.sinks
-    → StopsCarrying g.K.Links runner.code runner.pattern window c.args.links.now c.put_due.new.links) c.self.view_is
+    → MakesMoves g.K.Links c.args.links.now c.put_due.new.links (IsStopped (g.K.Links.faithful c.args.links.now) runner.code runner.pattern window))
+    c.self.view_is
     (λ window starts. first-stops g.K.Links c.self.inside.code.now c.self.inside.pattern c.self.inside.stations.items c.code.result.now.net.source
     c.index_mut.result.now place c.index_mut.ensures.value c.args.links.now c.requires.nothing_flies window starts
     c.put_due.new.node c.put_due.new.links c.in_default.ensures.failed)
@@ -49,7 +51,8 @@ turns-init g c =
 pub returns-in_err-turn-clause-stopped : goal.returns-in_err-turn-clause-stopped
 returns-in_err-turn-clause-stopped g c =
     on_err {P = (window : Window) → Starts c.args.self.now.code c.args.self.now.pattern window c.args.self.now.relays c.args.self.now.sinks
-    → StopsCarrying g.K.Links c.args.self.now.code c.args.self.now.pattern window c.args.links.now c.turn.new.links} c.from_residual.result
+    → MakesMoves g.K.Links c.args.links.now c.turn.new.links
+    (IsStopped (g.K.Links.faithful c.args.links.now) c.args.self.now.code c.args.self.now.pattern window)} c.from_residual.result
     (way-stops g.K.Links c.args.self.now c.turns.self c.args.links.now c.turns.links c.turns.invariant g.met.K.Links.accounts g.met.K.Links.more_moves
     c.turn.new.links c.in_err-turn.ensures.stopped)
 

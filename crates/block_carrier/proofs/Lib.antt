@@ -1,4 +1,0 @@
-pub mod RowLaws
-pub mod CarriedLaws
-pub mod DecodedLaws
-pub mod CarrierLaws

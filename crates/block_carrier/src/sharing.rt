@@ -1,8 +1,0 @@
-//! That threads can take values of every type of this crate, and share them: it is shown by being proved.
-use crate::Carrier;
-
-fn shared<T: Send + Sync>() {}
-
-fn share_every_type() {
-    shared::<Carrier<'static>>();
-}

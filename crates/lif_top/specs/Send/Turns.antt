@@ -1,0 +1,29 @@
+-- What the sinks' files get of what came to the sinks, generation by generation.
+use Rattle.std.specs.Prelude.{ℕ, Bool, List, [], filter, length, map, nat_lt, slice_index_or}
+use Rattle.std.specs.List.{range_with_len}
+use Rattle.generation_frame.specs.Blocks.{counted_bytes}
+use Rattle.generation_frame.specs.declared.frame.Packet.{Packet}
+use Rattle.lif_outside.specs.Runs.{Written}
+use Rattle.node_program.specs.declared.code.Code.{Code}
+use Rattle.node_states.specs.Decoded.{decoded_of}
+use Rattle.node_stations.specs.Opening.{demand_of}
+
+-- what the file of a sink gets of a generation: the bytes that the block counts which the sink decodes of the packets that came
+abbrev pub part_at : List (List ℕ) → Code → ℕ → List Packet → ℕ → ℕ → Written
+part_at paths code pattern came generation place =
+    (slice_index_or paths place [], counted_bytes (decoded_of code (demand_of code pattern place) came generation))
+
+abbrev pub has_bytes : Written → Bool
+has_bytes part = nat_lt 0 (length part.1)
+
+-- what the files of so many sinks get, from one on, of those that get some bytes
+abbrev pub parts_from : List (List ℕ) → Code → ℕ → List Packet → ℕ → ℕ → ℕ → List Written
+parts_from paths code pattern came generation sink count =
+    filter has_bytes (map (part_at paths code pattern came generation) (range_with_len sink count))
+
+-- what all get, and what they get of the first generations
+abbrev pub turn_at : List (List ℕ) → Code → ℕ → List Packet → ℕ → List Written
+turn_at paths code pattern came generation = parts_from paths code pattern came generation 0 (length paths)
+
+abbrev pub turns_before : List (List ℕ) → Code → ℕ → List Packet → ℕ → List (List Written)
+turns_before paths code pattern came generations = map (turn_at paths code pattern came) (range_with_len 0 generations)

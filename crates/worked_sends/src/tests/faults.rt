@@ -1,0 +1,131 @@
+//! Links of which a call fails.
+use super::sending::{SEND, ends, has, store_of};
+use super::watched::{Calls, watch};
+use lif_outside::{ListLinks, MemStore};
+use std::alloc::Global;
+use std::test;
+use std::thread::Threads;
+use worked_rows::files::BUTTERFLY;
+
+// How many bytes of the source a generation of the butterfly has room for.
+const CAPACITY: usize = 2044;
+
+// The letters from `A` on, again and again.
+fn letters(alloc: Global, count: usize) -> Option<Vec<u8>> {
+    let mut bytes = Vec::with_capacity(alloc, count).ok()?;
+    for place in 0..count {
+        bytes.push(b'A' + (place % 26) as u8).ok()?;
+    }
+    Some(bytes)
+}
+
+// Whether `send` through the butterfly ends so where this put and this take fail, and the calls made on the links.
+fn calls_where<R: Threads + Sync>(
+    rt: &R,
+    alloc: Global,
+    put: u64,
+    take: u64,
+    store: &mut MemStore,
+    status: u8,
+    line: &str,
+) -> Option<Calls> {
+    let puts = Vec::from_slice(alloc, &[put]).ok()?;
+    let takes = Vec::from_slice(alloc, &[take]).ok()?;
+    let listed = ListLinks::new(alloc, Vec::new(alloc), puts, takes);
+    let mut links = watch(alloc, listed);
+    let ended = ends(rt, alloc, SEND, store, &mut links, status, line);
+    ended.then_some(links.calls)
+}
+
+// Whether both sinks' files are the same number of bytes at the front of a source.
+fn are_fronts(store: &MemStore, source: &[u8], count: usize) -> bool {
+    match source.get(..count) {
+        Some(front) => has(store, "out.t1", front) && has(store, "out.t2", front),
+        None => false,
+    }
+}
+
+// How many puts and takes were made, and how many calls failed and came after that.
+fn counts(calls: &Calls) -> (usize, u32, u32, u32) {
+    (calls.puts.len(), calls.takes, calls.faults, calls.late)
+}
+
+// Whether `send` of a source of 5000 bytes ends with a fault of the links, or is done, with so many bytes in each file,
+// where this put and this take fail. Nothing is asked of the links after a fault.
+fn ends_where<R: Threads + Sync>(
+    rt: &R,
+    alloc: Global,
+    put: u64,
+    take: u64,
+    is_done: bool,
+    kept: usize,
+) -> bool {
+    let Some(source) = letters(alloc, 5000) else {
+        return false;
+    };
+    let Some(mut store) = store_of(alloc, BUTTERFLY, &source) else {
+        return false;
+    };
+    let (status, line, faults) = if is_done {
+        (0, "sent 5000 bytes in 3 generations to 2 sinks\n", 0)
+    } else {
+        (15, "link fault\n", 1)
+    };
+    match calls_where(rt, alloc, put, take, &mut store, status, line) {
+        Some(calls) => {
+            calls.faults == faults && calls.late == 0 && are_fronts(&store, &source, kept)
+        }
+        None => false,
+    }
+}
+
+// The call of a number that is tried: the first 80, and then every 37th.
+fn tried(turn: u64) -> u64 {
+    if turn <= 80 {
+        turn
+    } else {
+        80u64.saturating_add(turn.saturating_sub(80).saturating_mul(37))
+    }
+}
+
+#[test]
+fn the_third_put_fails(rt: HostRuntime) {
+    let alloc = rt.alloc();
+    let made = match store_of(alloc, BUTTERFLY, &[7; 2000]) {
+        Some(mut store) => {
+            let calls = calls_where(&rt, alloc, 3, 0, &mut store, 15, "link fault\n");
+            let empty = has(&store, "out.t1", b"") && has(&store, "out.t2", b"");
+            calls.filter(|_| empty).map(|calls| counts(&calls))
+        }
+        None => None,
+    };
+    assert!(rt; made == Some((3, 0, 1, 0)));
+}
+
+#[test]
+fn each_put_can_fail(rt: HostRuntime) {
+    // 72 frames are put for each of three generations.
+    for turn in 1..=84 {
+        let nth = tried(turn);
+        let is_done = nth > 216;
+        let kept = (nth.saturating_sub(1) as usize / 72).saturating_mul(CAPACITY);
+        assert!(rt;
+            ends_where(&rt, rt.alloc(), nth, 0, is_done, kept.min(5000)),
+            "put {nth}"
+        );
+    }
+}
+
+#[test]
+fn each_take_can_fail(rt: HostRuntime) {
+    // 72 frames are taken in each of three generations, and then nothing flies.
+    for turn in 1..=84 {
+        let nth = tried(turn);
+        let is_done = nth > 219;
+        let kept = (nth.saturating_sub(1) as usize / 73).saturating_mul(CAPACITY);
+        assert!(rt;
+            ends_where(&rt, rt.alloc(), 0, nth, is_done, kept.min(5000)),
+            "take {nth}"
+        );
+    }
+}

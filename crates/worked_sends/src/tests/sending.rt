@@ -1,0 +1,96 @@
+//! Runs of the program over links of any kind.
+ghost use Rattle.std.specs.Prelude.{◌≡◌, [], IfSome};
+ghost use Rattle.lif_outside.specs.Listed.{held_in};
+
+use lif_outside::{Links, ListLinks, MemSink, MemStore, NoGate};
+use lif_top::lif;
+use std::alloc::Global;
+use std::thread::Threads;
+use worked_rows::runs::words_of;
+
+/// A source that is sent through a code, at which paths it comes out, and what is said then.
+#[derive(Clone, Copy)]
+pub(super) struct Sending<'a> {
+    pub words: &'a [&'a str],
+    pub code: &'a [u8],
+    pub source: &'a [u8],
+    pub outputs: &'a [&'a str],
+    pub line: &'a str,
+}
+
+/// How `send` is called, and the outputs of the codes with one sink and with two.
+pub(super) const SEND: &[&str] = &["send", "code", "none", "1", "src", "out"];
+
+pub(super) const ONE_SINK: &[&str] = &["out.t"];
+
+pub(super) const TWO_SINKS: &[&str] = &["out.t1", "out.t2"];
+
+/// A store with a code and a source.
+pub(super) fn store_of(alloc: Global, code: &[u8], source: &[u8]) -> Option<MemStore> {
+    let mut store = MemStore::new(alloc, 65536, Vec::new(alloc));
+    store.put_file(alloc, "code", code).ok()?;
+    store.put_file(alloc, "src", source).ok()?;
+    Some(store)
+}
+
+/// Whether a path of a store has these bytes.
+pub(super) fn has(store: &MemStore, path: &str, bytes: &[u8]) -> bool {
+    store.file(path) == Some(bytes)
+}
+
+/// Whether a run ends with the status of this number and says this line.
+pub(super) fn ends<R: Threads + Sync, K: Links>(
+    rt: &R,
+    alloc: Global,
+    words: &[&str],
+    store: &mut MemStore,
+    links: &mut K,
+    status: u8,
+    line: &str,
+) -> bool
+    requires { K.flying links.old ≡ [] }
+{
+    let Ok(words) = words_of(alloc, words) else {
+        return false;
+    };
+    let mut say = MemSink::new(alloc, Vec::new(alloc));
+    let ended = lif(rt, alloc, words.as_slice(), store, &mut say, links, &NoGate);
+    ended.code() == status && say.bytes() == line.as_bytes()
+}
+
+/// Whether a source is sent, and stands at each output then.
+pub(super) fn is_sent<R: Threads + Sync, K: Links>(
+    rt: &R,
+    alloc: Global,
+    sending: &Sending<'_>,
+    links: &mut K,
+) -> bool
+    requires { K.flying links.old ≡ [] }
+{
+    let Some(mut store) = store_of(alloc, sending.code, sending.source) else {
+        return false;
+    };
+    ends(rt, alloc, sending.words, &mut store, links, 0, sending.line)
+        && sending
+            .outputs
+            .iter()
+            .all(|path| has(&store, path, sending.source))
+}
+
+/// Links that give the pair at a listed place, for the first 400 takes: by rule 0 the oldest, by rule 1 the newest, by any
+/// other one in the middle.
+pub(super) fn by_list(alloc: Global, rule: u32) -> Option<ListLinks>
+    ensures { IfSome result (λ links. (held_in links).flying ≡ []) }
+{
+    let mut picks = Vec::with_capacity(alloc, 400).ok()?;
+    for take in 0..400u32 {
+        picks
+            .push(match rule {
+                0 => 0,
+                1 => u32::MAX,
+                _ => take * 7 % 13,
+            })
+            .ok()?;
+    }
+    Some(ListLinks::new(alloc, picks, Vec::new(alloc), Vec::new(alloc)))
+}
