@@ -50,7 +50,7 @@ fn counts(calls: &Calls) -> (usize, u32, u32, u32) {
     (calls.puts.len(), calls.takes, calls.faults, calls.late)
 }
 
-// Whether `send` of a source of 5000 bytes ends with a fault of the links, or is done, with so many bytes in each file,
+// Whether `send` of a source of 10,000 bytes ends with a fault of the links, or is done, with so many bytes in each file,
 // where this put and this take fail. Nothing is asked of the links after a fault.
 fn ends_where<R: Threads + Sync>(
     rt: &R,
@@ -60,14 +60,14 @@ fn ends_where<R: Threads + Sync>(
     is_done: bool,
     kept: usize,
 ) -> bool {
-    let Some(source) = letters(alloc, 5000) else {
+    let Some(source) = letters(alloc, 10_000) else {
         return false;
     };
     let Some(mut store) = store_of(alloc, BUTTERFLY, &source) else {
         return false;
     };
     let (status, line, faults) = if is_done {
-        (0, "sent 5000 bytes in 3 generations to 2 sinks\n", 0)
+        (0, "sent 10000 bytes in 5 generations to 2 sinks\n", 0)
     } else {
         (15, "link fault\n", 1)
     };
@@ -76,15 +76,6 @@ fn ends_where<R: Threads + Sync>(
             calls.faults == faults && calls.late == 0 && are_fronts(&store, &source, kept)
         }
         None => false,
-    }
-}
-
-// The call of a number that is tried: the first 80, and then every 37th.
-fn tried(turn: u64) -> u64 {
-    if turn <= 80 {
-        turn
-    } else {
-        80u64.saturating_add(turn.saturating_sub(80).saturating_mul(37))
     }
 }
 
@@ -104,13 +95,11 @@ fn the_third_put_fails(rt: HostRuntime) {
 
 #[test]
 fn each_put_can_fail(rt: HostRuntime) {
-    // 72 frames are put for each of three generations.
-    for turn in 1..=84 {
-        let nth = tried(turn);
-        let is_done = nth > 216;
+    // 72 frames are put for each of five generations.
+    for nth in 1..=361u64 {
         let kept = (nth.saturating_sub(1) as usize / 72).saturating_mul(CAPACITY);
         assert!(rt;
-            ends_where(&rt, rt.alloc(), nth, 0, is_done, kept.min(5000)),
+            ends_where(&rt, rt.alloc(), nth, 0, nth > 360, kept.min(10_000)),
             "put {nth}"
         );
     }
@@ -118,13 +107,11 @@ fn each_put_can_fail(rt: HostRuntime) {
 
 #[test]
 fn each_take_can_fail(rt: HostRuntime) {
-    // 72 frames are taken in each of three generations, and then nothing flies.
-    for turn in 1..=84 {
-        let nth = tried(turn);
-        let is_done = nth > 219;
+    // 72 frames are taken in each of five generations, and then nothing flies.
+    for nth in 1..=366u64 {
         let kept = (nth.saturating_sub(1) as usize / 73).saturating_mul(CAPACITY);
         assert!(rt;
-            ends_where(&rt, rt.alloc(), 0, nth, is_done, kept.min(5000)),
+            ends_where(&rt, rt.alloc(), 0, nth, nth > 365, kept.min(10_000)),
             "take {nth}"
         );
     }
