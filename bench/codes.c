@@ -11,6 +11,12 @@
 // each row, lead into a node, and so many links from that to the sink. Link number j of them carries the first row and the
 // second one times power j of an element.
 //
+// `layers` takes the numbers of layers, of nodes in each and of links into each node, which is the rate too. It is a code
+// over the field of 256 elements. So many links lead from the source to each node of the first layer, and from each node of
+// a layer to nodes of the next one that follow one another in a ring; the nodes of the last layer are the sinks. A link
+// from the source carries the sum of all rows, and another one that of all links into its tail, with coefficients by
+// chance, none of them zero. Where some sink has no decoder then, nothing is written, and it fails.
+//
 // A decoder has the first links into its sink that carry anything, and is the inverse of what they carry.
 #include <stdint.h>
 #include <stdio.h>
@@ -147,6 +153,36 @@ static void fill_node(struct code *code, unsigned outs) {
         struct link *link = add_link(code, 1, 2);
         add_operand(link, 0, 1);
         add_operand(link, 1, power(8, 2, out % 255));
+    }
+}
+
+// Another number each time, as if by chance.
+static unsigned next_number(void) {
+    static uint32_t state = 1;
+    state = state * 1664525 + 1013904223;
+    return state >> 16;
+}
+
+// The sum of all rows, or of all links so far into the tail.
+static void fill_sum(struct code *code, struct link *link) {
+    unsigned count = link->tail == 0 ? code->rate : code->count;
+    for (unsigned from = 0; from < count; from++) {
+        if (link->tail != 0 && code->links[from].head != link->tail) continue;
+        add_operand(link, from, power(8, 2, next_number() % 255));
+    }
+}
+
+static void fill_layers(struct code *code, unsigned layers, unsigned width, unsigned degree) {
+    code->field = 8;
+    code->rate = degree;
+    code->nodes = 1 + layers * width;
+    code->sinks = width;
+    for (unsigned number = 0; number < layers * width * degree; number++) {
+        unsigned layer = number / (width * degree);
+        unsigned node = number / degree % width;
+        unsigned tail = layer == 0 ? 0 : 1 + (layer - 1) * width + node;
+        unsigned place = layer == 0 ? node : (node + number % degree) % width;
+        fill_sum(code, add_link(code, tail, 1 + layer * width + place));
     }
 }
 
@@ -383,7 +419,8 @@ static int write_code(struct code *code) {
 }
 
 static int say_usage(void) {
-    fprintf(stderr, "usage: codes butterfly | node LINKS | fan FIELD RATE MIDDLES SINKS INTO PATTERNS\n");
+    fprintf(stderr, "usage: codes butterfly | node LINKS | fan FIELD RATE MIDDLES SINKS INTO PATTERNS | "
+                    "layers LAYERS WIDTH DEGREE\n");
     return 2;
 }
 
@@ -417,9 +454,25 @@ static int run_node(struct code *code, const char *word) {
     return write_code(code);
 }
 
+// Whether layers are within the limits of the format. Links from a node are as many as those into one.
+static int is_layers(unsigned layers, unsigned width, unsigned degree) {
+    return layers >= 1 && layers < MOST_NODES && width >= 1 && width < MOST_NODES && layers * width < MOST_NODES &&
+           degree >= 1 && degree <= MOST_RATE && degree <= width && layers * width * degree <= MOST_LINKS;
+}
+
+static int run_layers(struct code *code, char **words) {
+    unsigned layers = number(words[0]);
+    unsigned width = number(words[1]);
+    unsigned degree = number(words[2]);
+    if (!is_layers(layers, width, degree)) return say_usage();
+    fill_layers(code, layers, width, degree);
+    return write_code(code);
+}
+
 int main(int count, char **words) {
     static struct code code;
     if (count == 3 && strcmp(words[1], "node") == 0) return run_node(&code, words[2]);
+    if (count == 5 && strcmp(words[1], "layers") == 0) return run_layers(&code, words + 2);
     if (count == 8 && strcmp(words[1], "fan") == 0) return run_fan(&code, words + 2);
     if (count != 2 || strcmp(words[1], "butterfly") != 0) return say_usage();
     fill_butterfly(&code);

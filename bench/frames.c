@@ -6,6 +6,8 @@
 // links into the sink carry what the middle nodes got. In a round come all pieces of four generations. The node keeps a
 // piece of a link until that of the other one came; then it makes the payloads of all links out by one call of the
 // library, each in its frame. The sink keeps the pieces as rows, and makes the blocks by one call for each.
+#include "frame.h"
+
 #include <isa-l/erasure_code.h>
 #include <stdint.h>
 #include <stdio.h>
@@ -13,7 +15,7 @@
 #include <string.h>
 #include <time.h>
 
-enum { GENERATIONS = 4, PIECES = 8, PIECE = 128, HEAD = 12, FRAME = HEAD + PIECE, ROW = 1024, INS = 2, MOST_OUTS = 1024, MOST_RATE = 32 };
+enum { GENERATIONS = 4, INS = 2, MOST_OUTS = 1024, MOST_RATE = 32 };
 
 struct tally {
     uint64_t frames;
@@ -40,22 +42,6 @@ static uint8_t power(uint8_t element, unsigned exponent) {
 // The payload of a link's piece: the same in each generation.
 static void fill_payload(uint8_t *payload, unsigned link, unsigned piece) {
     for (unsigned place = 0; place < PIECE; place++) payload[place] = (uint8_t)(place * 7 + piece * 31 + link * 97 + 1);
-}
-
-static void put_number(uint8_t *into, uint32_t number) {
-    into[0] = (uint8_t)(number >> 24);
-    into[1] = (uint8_t)(number >> 16);
-    into[2] = (uint8_t)(number >> 8);
-    into[3] = (uint8_t)number;
-}
-
-static void put_head(uint8_t *frame, uint32_t link, uint32_t generation, unsigned piece) {
-    frame[0] = 'L';
-    frame[1] = 'F';
-    frame[2] = 1;
-    frame[3] = (uint8_t)piece;
-    put_number(frame + 4, link);
-    put_number(frame + 8, generation);
 }
 
 static void count_frame(struct tally *tally, const uint8_t *frame) {

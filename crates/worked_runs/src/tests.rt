@@ -4,6 +4,7 @@ mod faults;
 mod lengths;
 mod making;
 mod many_demands;
+mod many_links;
 mod many_rows;
 mod many_sinks;
 mod numbers;
