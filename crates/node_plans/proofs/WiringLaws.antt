@@ -1,5 +1,5 @@
 -- The listed links are the wiring of a code, and what its plans are made of.
-use Rattle.std.specs.Prelude.{◌≡◌, ℕ, ◌<◌, ◌≤◌, ◌==◌, ◌&&◌, ◌||◌, Bool, true, false, Some, List, All, Contains, Vec, filter, length, map, slice_get, slice_index_or}
+use Rattle.std.specs.Prelude.{◌≡◌, ℕ, ◌<◌, ◌≤◌, ◌==◌, ◌&&◌, ◌||◌, Bool, true, false, Option, Some, List, All, Contains, Vec, filter, length, map, slice_get, slice_index_or}
 use Rattle.std.specs.Global.{Global}
 use Rattle.std.specs.List.{position_or_len, range_with_len}
 use Rattle.std.proofs.Common.{refl, sym, ◌∙◌, ap, arith, get_or, inl, inr}
@@ -21,6 +21,7 @@ use Rattle.node_plans.proofs.OrderLaws.{live-below}
 use Rattle.node_plans.proofs.PlanLaws.{ins-each, outs-each, position-ending}
 use Rattle.node_plans.specs.Listed.{AreListed, ending_at, is_live_by, items_of, operands_by}
 use Rattle.node_plans.specs.Plans.{input_count, input_place, ins_of, outs_of, plan_of}
+use Rattle.node_plans.specs.SinkPlaces.{AreSinkPlaces}
 use Rattle.node_plans.specs.Wired.{HasPlaces, IsWiringOf, Wired}
 use Rattle.node_plans.specs.declared.listing.Listed.{Listed}
 use Rattle.node_plans.specs.declared.plan.Plan.{Plan}
@@ -50,11 +51,11 @@ module _ (code : Code) (pattern : ℕ) (live : List Bool)
       ])
       (operands_at code.operands link) (operands_of_draft code.code.draft link)
 
-  -- what is listed by it is the wiring
-  pub IsWiringOf-listed : (listed : Listed) (places : List ℕ) → length live ≡ length code.net.links → AreListed code live (length code.net.links) listed
-      → places ≡ listed.places.items
-      → IsWiringOf code pattern (record { live = live; ins = items_of listed.ins.items; outs = items_of listed.outs.items; places = places })
-  IsWiringOf-listed listed places count are same = record {
+  -- what is listed by it is the wiring, with the places of the sinks
+  pub IsWiringOf-listed : (listed : Listed) (places : List ℕ) (sinks : List (Option ℕ)) → length live ≡ length code.net.links
+      → AreListed code live (length code.net.links) listed → places ≡ listed.places.items → AreSinkPlaces code code.net.sinks sinks
+      → IsWiringOf code pattern (record { live = live; ins = items_of listed.ins.items; outs = items_of listed.outs.items; places = places; sinks = sinks })
+  IsWiringOf-listed listed places sinks count are same at_sinks = record {
     live_count = count;
     live = entries;
     ins_count = are.ins.count;
@@ -67,11 +68,14 @@ module _ (code : Code) (pattern : ℕ) (live : List Bool)
         ap (λ (places : List ℕ). get_or places link 0) same ∙ are.place link within (entry link within ∙ alive)
         ∙ ap (length {A = ℕ}) (ending_at-live (head_of code.net.links) link head (omega arith))
         ∙ sym (position-ending code pattern (head_of code.net.links) link alive);
+    sink_count = at_sinks.count;
+    sink = at_sinks.each;
   }
 
 -- the lists of a wiring, as they are read at a node
 module _ (code : Code) (pattern node : ℕ) (within : node < length code.net.nodes) (live : List Bool) (ins outs : List (Vec ℕ Global)) (places : List ℕ)
-    (is : IsWiringOf code pattern (record { live = live; ins = items_of ins; outs = items_of outs; places = places })) (found : Vec ℕ Global) where
+    (sinks : List (Option ℕ)) (is : IsWiringOf code pattern (record { live = live; ins = items_of ins; outs = items_of outs; places = places; sinks = sinks }))
+    (found : Vec ℕ Global) where
   pub ins-read : found ≡ slice_index_or ins node found → found.items ≡ ins_of code pattern node
   ins-read read = items_of-read ins node found (omega (arith, is.ins_count, length-items_of ins)) read ∙ is.ins node within
 

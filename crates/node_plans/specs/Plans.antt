@@ -1,5 +1,5 @@
 -- What a node does of a code under a pattern: the live links into it and out of it, and what each of those adds up.
-use Rattle.std.specs.Prelude.{◌≡◌, ◌<◌, ◌≤◌, ◌==◌, ◌&&◌, ℕ, true, All, IsTrue, List, [], filter, if◌then◌else◌, length, map, slice_index_or}
+use Rattle.std.specs.Prelude.{◌≡◌, ◌<◌, ◌≤◌, ◌==◌, ◌&&◌, ℕ, true, All, IsTrue, List, [], Option, filter, if◌then◌else◌, length, map, position, slice_index_or}
 use Rattle.std.specs.List.{position_or_len, range_with_len}
 use Rattle.gf_tables.specs.Product.{size_of}
 use Rattle.net_model.specs.Limits.{highest_rate}
@@ -22,6 +22,10 @@ abbrev pub outs_of : Code → ℕ → ℕ → List ℕ
 outs_of code pattern node =
     filter (λ link. is_live_in code pattern link && (tail_of code.net.links link == node))
     (range_with_len 0 (length code.net.links))
+
+-- the place of a node among the sinks, where it is one
+abbrev pub place_of : Code → ℕ → Option ℕ
+place_of code node = position (λ one. one == node) code.net.sinks
 
 -- the plan of a node
 abbrev pub plan_of : Code → ℕ → ℕ → Plan

@@ -1,11 +1,12 @@
-//! The live links at each node.
-ghost use Rattle.std.specs.Prelude.{◌≡◌, ◌<◌, IfOk, length};
+//! The live links at each node, and the sinks.
+ghost use Rattle.std.specs.Prelude.{◌≡◌, ◌<◌, IfOk, length, slice_index_or};
 ghost use Rattle.std.specs.Arc.{arc_value};
 ghost use Rattle.due_sums.specs.Waiting.{AreSums};
 
 use crate::Plan;
 use crate::listing::{Listed, list_links};
 use crate::live_operands::operands_of_links;
+use crate::sink_places::sink_places;
 use item_list::ItemList;
 use net_model::LinkList;
 use node_program::{Code, LiveLinks, live_links};
@@ -16,14 +17,16 @@ use std::sync::Arc;
 /// For each link a place.
 pub type PlaceTable = ItemList<u32>;
 
-/// The live links of a code under a pattern: those into each node and out of it, and the place of each among those
-/// into its head. It is made once for all nodes.
+/// The live links of a code under a pattern: those into each node and out of it, and the place of each
+/// among those into its head; and the place of each node among the sinks, where it is one. It is made
+/// once for all nodes.
 #[derive(Drop)]
 pub struct Wiring {
     live: LiveLinks,
     ins: Vec<Vec<u32>>,
     outs: Vec<Vec<u32>>,
     places: Arc<PlaceTable>,
+    sinks: Vec<Option<u32>>,
 }
 
 impl Model for Wiring {
@@ -39,6 +42,7 @@ impl Model for Wiring {
       ins = items_of wiring.ins.items;
       outs = items_of wiring.outs.items;
       places = arc_value wiring.places;
+      sinks = wiring.sinks.items;
     } };
 }
 
@@ -46,7 +50,8 @@ impl Wiring {
     ghost use Rattle.node_plans.specs.Plans.{IsPlan, input_count, plan_of, sums_of};
     ghost use Rattle.node_plans.specs.Wired.{HasPlaces, IsWiringOf};
 
-    /// The wiring of a code under a pattern, in time linear in its links and operands.
+    /// The wiring of a code under a pattern. Nodes, links, operands and sinks are gone over once, and
+    /// each link is looked up among those that fail in the pattern.
     pub fn of(alloc: Global, code: &Code, pattern: u32) -> Result<Wiring, AllocError>
         requires { pattern < length code.now.net.patterns }
         ensures { IfOk result (IsWiringOf code.now pattern) }
@@ -54,11 +59,13 @@ impl Wiring {
         let live = live_links(alloc, code, pattern)?;
         let Listed { ins, outs, places } = list_links(alloc, code, live.as_slice())?;
         let places = Arc::new(alloc, ItemList::of(places))?;
+        let sinks = sink_places(alloc, code)?;
         Ok(Wiring {
             live,
             ins,
             outs,
             places,
+            sinks,
         })
     }
 
@@ -74,6 +81,14 @@ impl Wiring {
         ensures { arc_value result.now ≡ self.now.places }
     {
         &self.places
+    }
+
+    /// The place of a node among the sinks, where it is one.
+    pub fn sink_at(&self, node: u32) -> Option<u32>
+        requires { node < length self.now.sinks }
+        ensures { result ≡ slice_index_or self.now.sinks node None }
+    {
+        self.sinks[node as usize]
     }
 
     /// The plan of a node, in time linear in the links at it and their operands.

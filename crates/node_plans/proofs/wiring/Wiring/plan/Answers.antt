@@ -13,7 +13,7 @@ operands_of_links-requires-clause-links c =
     let code = c.args.code.now in
     let Is : Wired → Type 0 = IsWiringOf code c.args.pattern in
     let wiring = subst Is (sym c.self.view_is) c.requires.wiring in
-    let outs = outs-read code c.args.pattern c.args.node c.requires.node _ _ c.self.inside.outs.items _ wiring c.index-2.result.now c.index-2.ensures in
+    let outs = outs-read code c.args.pattern c.args.node c.requires.node _ _ c.self.inside.outs.items _ _ wiring c.index-2.result.now c.index-2.ensures in
     let Below : List ℕ → Type 0 = All (λ link. link < length code.net.links) in
     subst Below (sym (c.as_slice-4.ensures ∙ c.in_ok-outs.ensures ∙ c.as_slice-2.ensures.value ∙ outs)) (outs_of-below code c.args.pattern c.args.node)
 
@@ -24,10 +24,10 @@ returns-clause-value c =
     let wiring = subst Is (sym c.self.view_is) c.requires.wiring in
     let ins : c.in_ok-ins.ins ≡ ins_of code c.args.pattern c.args.node =
     c.in_ok-ins.ensures ∙ c.as_slice.ensures.value
-    ∙ ins-read code c.args.pattern c.args.node c.requires.node _ c.self.inside.ins.items _ _ wiring c.index.result.now c.index.ensures in
+    ∙ ins-read code c.args.pattern c.args.node c.requires.node _ c.self.inside.ins.items _ _ _ wiring c.index.result.now c.index.ensures in
     let outs : c.in_ok-outs.outs ≡ outs_of code c.args.pattern c.args.node =
     c.in_ok-outs.ensures ∙ c.as_slice-2.ensures.value
-    ∙ outs-read code c.args.pattern c.args.node c.requires.node _ _ c.self.inside.outs.items _ wiring c.index-2.result.now c.index-2.ensures in
+    ∙ outs-read code c.args.pattern c.args.node c.requires.node _ _ c.self.inside.outs.items _ _ wiring c.index-2.result.now c.index-2.ensures in
     let operands : c.in_ok-operands.operands ≡ map (operands_by code c.self.inside.live) (outs_of code c.args.pattern c.args.node) =
     c.in_ok-operands.ensures ∙ ap (λ (live : List Bool). map (operands_by code live) c.as_slice-4.result.now) c.as_slice-3.ensures
     ∙ ap (map (operands_by code c.self.inside.live)) (c.as_slice-4.ensures ∙ outs) in
