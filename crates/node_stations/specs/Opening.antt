@@ -1,12 +1,9 @@
 -- Sinks as they are opened and begun.
-use Rattle.std.specs.Prelude.{◌≡◌, ◌==◌, ℕ, List, Option, Some, None, length, position, slice_get}
+use Rattle.std.specs.Prelude.{◌≡◌, ℕ, List, Option, Some, None, length, slice_get}
 use Rattle.failure_patterns.specs.Demands.{number_of}
+use Rattle.node_plans.specs.Plans.{place_of}
 use Rattle.node_program.specs.declared.code.Code.{Code}
 use Rattle.sink_decoder.specs.Receiving.{HasNothing, Receiver, sink_plan_of}
-
--- the place of a node among the sinks, where it is one
-abbrev pub place_of : Code → ℕ → Option ℕ
-place_of code node = position (λ one. one == node) code.net.sinks
 
 -- the number of the demand of a sink
 abbrev pub demand_of : Code → ℕ → ℕ → ℕ

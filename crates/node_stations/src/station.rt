@@ -1,5 +1,5 @@
 //! A node with the sink at it.
-ghost use Rattle.std.specs.Prelude.{◌≡◌, ◌<◌, ◌≤◌, ◌+◌, ◌^◌, ◌==◌, Contains, IfOk, IfSome, OnErr, OnOk, length, position};
+ghost use Rattle.std.specs.Prelude.{◌≡◌, ◌<◌, ◌≤◌, ◌+◌, ◌^◌, Contains, IfOk, IfSome, OnErr, OnOk, length};
 ghost use Rattle.generation_frame.specs.Blocks.{pieces};
 ghost use Rattle.gf_tables.specs.Kind.{IsOfKind};
 ghost use Rattle.node_plans.specs.Wired.{IsWiringOf};
@@ -112,13 +112,6 @@ impl<F: Field> Station<F> {
     }
 }
 
-// The place of a node among the sinks, where it is one.
-fn sink_at(sinks: &[u32], node: u32) -> Option<usize>
-    ensures { result ≡ position (λ one. one == node) sinks.now }
-{
-    sinks.iter().position(|one| *one == node)
-}
-
 // The sink at a node, where it is one.
 fn open_sink<F: Field>(
     alloc: Global,
@@ -129,13 +122,13 @@ fn open_sink<F: Field>(
     tables: &Arc<RowTables>,
 ) -> Result<Option<Decoder<F>>, AllocError>
     requires pattern { pattern < length code.now.net.patterns }
+    requires node { node < length code.now.net.nodes }
     requires field { IsOfKind code.now.field F.SIZE F.BYTES F.MARK F.product }
     requires wiring { IsWiringOf code.now pattern wiring.now }
     ensures { IfOk result (λ sink. IsSinkOf code.now pattern node sink) }
 {
-    match sink_at(code.code().net.sinks.as_slice(), node) {
-        Some(place) => {
-            let sink = place as u32;
+    match wiring.sink_at(node) {
+        Some(sink) => {
             let demand = Demand { sink, pattern };
             let sink = Decoder::open_with(alloc, code, demand, wiring.live(), tables)?;
             Ok(Some(sink))

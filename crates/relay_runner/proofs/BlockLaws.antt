@@ -18,11 +18,12 @@ use Rattle.net_model.proofs.ListLaws.{IsDistinct-from_are_distinct}
 use Rattle.net_model.specs.Demands.{demand_count}
 use Rattle.net_model.specs.Lists.{are_distinct}
 use Rattle.net_model.specs.Network.{is_sink_among}
+use Rattle.node_plans.specs.Plans.{place_of}
 use Rattle.node_program.specs.declared.code.Code.{Code}
 use Rattle.node_states.proofs.DecodedLaws.{decoded-same}
 use Rattle.node_states.specs.Decoded.{decoded_of}
 use Rattle.node_states.specs.Shown.{ShowsSink}
-use Rattle.node_stations.specs.Opening.{IsAt, demand_of, place_of}
+use Rattle.node_stations.specs.Opening.{IsAt, demand_of}
 use Rattle.node_stations.specs.declared.station.Station.{Station}
 use Rattle.relay_core.specs.Core.{Delivery, IsFaithful, RelayState, payload_of}
 use Rattle.relay_node.specs.Relay.{Relay}

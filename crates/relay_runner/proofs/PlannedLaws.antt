@@ -4,8 +4,9 @@ use Rattle.std.proofs.Common.{refl, subst, sym}
 use Rattle.coded_traffic.specs.Traffic.{Window}
 use Rattle.lif_outside.specs.declared.links.Flight.{Flight}
 use Rattle.lif_outside.specs.declared.links.Links.{Ghosts as LinksGhosts}
+use Rattle.node_plans.specs.Plans.{place_of}
 use Rattle.node_program.specs.declared.code.Code.{Code}
-use Rattle.node_stations.specs.Opening.{IsAt, place_of}
+use Rattle.node_stations.specs.Opening.{IsAt}
 use Rattle.node_stations.specs.declared.station.Station.{Station}
 use Rattle.relay_core.specs.Core.{Delivery, RelayState}
 use Rattle.relay_node.specs.Relay.{Relay}

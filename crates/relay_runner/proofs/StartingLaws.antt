@@ -8,11 +8,12 @@ use Rattle.std.proofs.lemmas.Option.{same_Some}
 use Rattle.coded_traffic.specs.Traffic.{Window}
 use Rattle.generation_frame.specs.Blocks.{row_bytes}
 use Rattle.linear_algebra.specs.Elements.{AreBytes}
+use Rattle.node_plans.specs.Plans.{place_of}
 use Rattle.node_plans.specs.declared.plan.Plan.{Plan}
 use Rattle.node_program.specs.declared.code.Code.{Code}
 use Rattle.node_states.specs.Shown.{IsFedAll, IsReplaced, WorksOn}
 use Rattle.node_stations.specs.Delivering.{AtSink}
-use Rattle.node_stations.specs.Opening.{AreSinks, IsAt, IsBegunAt, demand_of, place_of}
+use Rattle.node_stations.specs.Opening.{AreSinks, IsAt, IsBegunAt, demand_of}
 use Rattle.node_stations.specs.declared.station.Station.{Station}
 use Rattle.relay_node.specs.Relay as nodes
 use Rattle.relay_node.specs.Relay.{Relay}

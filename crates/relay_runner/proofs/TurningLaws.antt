@@ -11,12 +11,13 @@ use Rattle.lif_outside.specs.Moves.{FollowMoves, InFlight, IsTaken, Move, took}
 use Rattle.lif_outside.specs.declared.links.Flight.{Flight}
 use Rattle.lif_outside.specs.declared.links.Links.{Ghosts as LinksGhosts}
 use Rattle.net_model.specs.Walks.{head_of}
+use Rattle.node_plans.specs.Plans.{place_of}
 use Rattle.node_program.specs.declared.code.Code.{Code}
 use Rattle.node_states.proofs.DeliveryLaws as deliveries
 use Rattle.node_states.specs.Shown.{IsReplaced, ShowsSink}
 use Rattle.node_stations.specs.Delivering.{AtSink, SinkTakes}
 use Rattle.node_stations.specs.Given.{IsGivenOf, IsOfPut}
-use Rattle.node_stations.specs.Opening.{IsAt, demand_of, place_of}
+use Rattle.node_stations.specs.Opening.{IsAt, demand_of}
 use Rattle.node_stations.specs.Passing.{FailsPassing, HasRoomAfter, Passes}
 use Rattle.node_stations.specs.Putting.{flight_of, puts_of}
 use Rattle.relay_core.proofs.Kept.{Kept}

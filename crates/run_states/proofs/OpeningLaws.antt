@@ -14,14 +14,14 @@ use Rattle.lif_outside.specs.declared.links.Flight.{Flight}
 use Rattle.net_model.specs.Walks.{head_of, leaves_source}
 use Rattle.node_plans.proofs.OrderLaws.{source-no_ins}
 use Rattle.node_plans.proofs.PlanLaws.{ins-each}
-use Rattle.node_plans.specs.Plans.{ins_of, outs_of}
+use Rattle.node_plans.specs.Plans.{ins_of, outs_of, place_of}
 use Rattle.node_plans.specs.declared.plan.Plan.{Plan}
 use Rattle.node_program.specs.CodeValue.{is_live_in}
 use Rattle.node_program.specs.declared.code.Code.{Code}
 use Rattle.node_states.proofs.GivingLaws.{has_key-append, or_turned, shown_after}
 use Rattle.node_states.proofs.SourceLaws.{source-gives}
 use Rattle.node_states.specs.Shown.{GivesEach, IsInto, IsReplaced, Shows, ShowsHeld, ShowsSent, ShowsSink, WorksOn}
-use Rattle.node_stations.specs.Opening.{IsAt, demand_of, place_of}
+use Rattle.node_stations.specs.Opening.{IsAt, demand_of}
 use Rattle.node_stations.specs.Putting.{puts_of}
 use Rattle.relay_core.proofs.PacketLaws.{has_key-passing, itself}
 use Rattle.relay_core.proofs.TrafficLaws.{is_key-packets}

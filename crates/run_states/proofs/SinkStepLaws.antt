@@ -13,6 +13,7 @@ use Rattle.generation_frame.specs.declared.frame.Packet.{Packet}
 use Rattle.net_model.specs.Demands.{demand_count, pattern_of_demand, sink_of_demand}
 use Rattle.net_model.specs.Walks.{head_of}
 use Rattle.net_model.specs.declared.Link.{Link}
+use Rattle.node_plans.specs.Plans.{place_of}
 use Rattle.node_program.proofs.DecodingLaws.{decoder_of_demand}
 use Rattle.node_program.specs.Code.{leads_into}
 use Rattle.node_program.specs.CodeValue.{is_live_in}
@@ -21,7 +22,7 @@ use Rattle.node_program.specs.declared.code.Code.{Code}
 use Rattle.node_states.proofs.SinkLaws.{shows-unwanted}
 use Rattle.node_states.specs.Shown.{IsReplaced, ShowsSink}
 use Rattle.node_stations.specs.Delivering.{AtSink, SinkTakes}
-use Rattle.node_stations.specs.Opening.{IsAt, demand_of, place_of}
+use Rattle.node_stations.specs.Opening.{IsAt, demand_of}
 use Rattle.relay_core.specs.Core.{Delivery, held_after}
 use Rattle.run_states.proofs.ReceivingLaws.{received}
 use Rattle.run_states.specs.Delivered.{packet_given}

@@ -7,11 +7,11 @@ use Rattle.std.proofs.Math.Seq.{get_or-append_seam}
 use Rattle.std.proofs.lemmas.Bool.{cases_lt}
 use Rattle.std.proofs.lemmas.List.{length-append, length-map, length-set}
 use Rattle.std.proofs.lemmas.Option.{get_or_from_slice_get, none-some, same_Some, slice_get-get_or, slice_get-map, slice_get_read, slice_get_within}
-use Rattle.node_plans.specs.Plans.{plan_of}
+use Rattle.node_plans.specs.Plans.{place_of, plan_of}
 use Rattle.node_program.specs.declared.code.Code.{Code}
 use Rattle.node_states.specs.Shown.{IsReplaced}
 use Rattle.node_stations.specs.Delivering.{AtSink}
-use Rattle.node_stations.specs.Opening.{IsAt, IsBegunAt, IsOpened, IsSinkOf, demand_of, place_of}
+use Rattle.node_stations.specs.Opening.{IsAt, IsBegunAt, IsOpened, IsSinkOf, demand_of}
 use Rattle.node_stations.specs.declared.station.Station.{Station}
 use Rattle.relay_node.specs.Relay.{Relay}
 use Rattle.sink_decoder.specs.Receiving.{Receiver, sink_plan_of}

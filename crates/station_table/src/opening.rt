@@ -11,8 +11,9 @@ use node_stations::Station;
 use std::alloc::{AllocError, Global};
 use std::sync::Arc;
 
-/// The stations of all nodes of a code under a pattern, before any generation. `F` is the code's field. They share the tables
-/// of the code's links and of products.
+/// The stations of all nodes of a code under a pattern, before any generation. `F` is the code's field.
+/// They share the tables of the code's links, of its sinks and of products, so that nodes, links,
+/// operands, sinks and decoders are gone over once.
 pub fn open_stations<F: Field>(
     alloc: Global,
     code: &Checked,
