@@ -176,7 +176,7 @@ fn renewals<F: Field>(alloc: Global, h: u32, rounds: u32) -> Option<(u32, bool)>
 fn the_products_stay_right(rt: HostRuntime) {
     let some = renewals::<Gf16>(rt.alloc(), 4, 50);
     let one = renewals::<Gf8>(rt.alloc(), 1, 3);
-    let most = renewals::<Gf16>(rt.alloc(), 32, 3);
+    let most = renewals::<Gf16>(rt.alloc(), HIGHEST_RATE, 3);
     assert!(rt; some == Some((40, true)), "{some:?}");
     assert!(rt; one == Some((3, true)), "{one:?}");
     assert!(rt; most == Some((3, true)), "{most:?}");

@@ -27,7 +27,7 @@ enum Table {
 // How many rows and columns a table has.
 fn size_of(table: Table) -> (u32, u32) {
     match table {
-        Table::Slopes => (256, 2),
+        Table::Slopes => (Gf8::SIZE, 2),
         Table::Many => (300, 7),
         Table::One => (1, 3),
         Table::Empty => (0, 3),

@@ -63,8 +63,8 @@ fn each_call_answers_through_the_bound(rt: HostRuntime) {
 
 #[test]
 fn all_products_of_bytes_are_those_of_the_definition(rt: HostRuntime) {
-    for a in 0..256u32 {
-        for b in 0..256u32 {
+    for a in 0..Gf8::SIZE {
+        for b in 0..Gf8::SIZE {
             let product = Gf8::of_number(a).mul(Gf8::of_number(b)).number();
             assert_eq!(rt; product, product_by_shifts(a, b), "{a} times {b}");
         }

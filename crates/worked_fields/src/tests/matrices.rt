@@ -4,6 +4,7 @@ use super::numbered::{element, put, square, two_by_two};
 use counted_steps::Steps;
 use field_vectors::{InvertRefusal, Matrix, dot, invert, is_identity_product};
 use gf_tables::{Field, Gf8, Gf16};
+use net_model::HIGHEST_RATE;
 use std::alloc::{AllocError, Global};
 use std::sync::ledger::Ledger;
 
@@ -215,7 +216,7 @@ fn both_come_out(alloc: Global, size: u32, rank: u32, right: &Outcome) -> bool {
 
 #[test]
 fn matrices_of_all_sizes_are_inverted(rt: HostRuntime) {
-    for size in 1..=32u32 {
+    for size in 1..=HIGHEST_RATE {
         assert!(rt;
             both_come_out(rt.alloc(), size, size, &Outcome::Inverse),
             "{size}"

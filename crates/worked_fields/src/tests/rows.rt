@@ -20,8 +20,8 @@ fn in_steps(first: u8, step: u8) -> [u8; 1100] {
 // The number of the sum of an element and a multiple of another, where they are elements of the field.
 fn sum(kind: FieldKind, before: u32, by: u32, from: u32) -> Option<u32> {
     let size = match kind {
-        FieldKind::Eight => 256,
-        FieldKind::Sixteen => 65536,
+        FieldKind::Eight => Gf8::SIZE,
+        FieldKind::Sixteen => Gf16::SIZE,
     };
     if by < size && from < size {
         Some(before ^ product(kind, by, from))
