@@ -25,7 +25,7 @@ use Rattle.relay_node.specs.Relay.{Relay}
 use Rattle.relay_runner.proofs.CameLaws.{relayed-told}
 use Rattle.relay_runner.proofs.DecodedBlockLaws.{CameOf, decoded-block}
 use Rattle.relay_runner.proofs.MeasureLaws.{flying-none}
-use Rattle.relay_runner.specs.Carried.{Sends}
+use Rattle.relay_runner.specs.Carried.{CarriesWindow}
 use Rattle.relay_runner.specs.Carrying.{Carries}
 use Rattle.relay_runner.specs.Runner.{IsSameWork}
 use Rattle.relay_runner.specs.Running.{IsRunning, Running}
@@ -120,7 +120,7 @@ module _ (code : Code) (pattern : ℕ) (window : Window) (run : List Delivery) (
 -- a runner that has carried the window of its first number and its count has sent it
 pub sends : {L : Type 0} (g : LinksGhosts L) (runner : Running) (window : Window) → runner.first ≡ window.first
     → runner.count ≡ length window.blocks → IsAccepted runner.code → (before now : L)
-    → Carries g runner.code runner.pattern window before now runner.relays runner.sinks → Sends g window before now runner
+    → Carries g runner.code runner.pattern window before now runner.relays runner.sinks → CarriesWindow g window before now runner
 sends g runner window same_first same_count accepted before now carries =
     let under = carries.carried in
     let code = runner.code in
@@ -162,7 +162,7 @@ sends g runner window same_first same_count accepted before now carries =
 -- and so has one that began it and did the same work
 pub has-sent : {L : Type 0} (g : LinksGhosts L) (start now : Running) → IsSameWork start now → (window : Window) → start.first ≡ window.first
     → start.count ≡ length window.blocks → IsAccepted start.code → (before after : L)
-    → Carries g start.code start.pattern window before after now.relays now.sinks → Sends g window before after now
+    → Carries g start.code start.pattern window before after now.relays now.sinks → CarriesWindow g window before after now
 has-sent g start now work window same_first same_count accepted before after carries =
     sends g now window (work.first ∙ same_first) (work.count ∙ same_count) (subst IsAccepted (sym work.code) accepted) before after
     (subst (λ (code : Code). Carries g code now.pattern window before after now.relays now.sinks) (sym work.code)

@@ -69,7 +69,7 @@ pub record HasCarriedBy (runner : Running) (moves : List Move) : Type 0 where
   pub gives : flights_given moves ≡ map (λ delivery. flight_of (packet_given delivery)) run
 
 -- A window was carried over links.
-pub record Sends {L : Type 0} (g : LinksGhosts L) (window : Window) (before after : L) (runner : Running) : Type 0 where
+pub record CarriesWindow {L : Type 0} (g : LinksGhosts L) (window : Window) (before after : L) (runner : Running) : Type 0 where
   pub moves : List Move
   pub calls : g.moves moves before after
   pub carried : IsCarried (g.faithful before) runner.code runner.pattern window moves

@@ -60,7 +60,7 @@ impl<'c, F> Model for Runner<'c, F> {
 }
 
 impl<'c, F: Field> Runner<'c, F> {
-    ghost use Rattle.relay_runner.specs.Carried.{HasCarriedBy, IsStopped, Sends, packets_given};
+    ghost use Rattle.relay_runner.specs.Carried.{CarriesWindow, HasCarriedBy, IsStopped, packets_given};
     ghost use Rattle.relay_runner.specs.Carrying.{Carries};
     ghost use Rattle.relay_runner.specs.Runner.{IsRefused, IsSameWork};
     ghost use Rattle.relay_runner.specs.Running.{AreBlocks, CanStart, HasCarried, IsRunning, StandAt, Starts, count_in, window_from};
@@ -184,7 +184,7 @@ impl<'c, F: Field> Runner<'c, F> {
         ensures carried { OnOk result (Carries K.Links self.old.code self.old.pattern
             (window_from self.old.code self.old.next blocks.now) links.old links.new
             self.new.relays self.new.sinks) }
-        ensures sent { OnOk result (Sends K.Links
+        ensures sent { OnOk result (CarriesWindow K.Links
             (window_from self.old.code self.old.next blocks.now) links.old links.new self.new) }
         ensures whole { OnOk result (HasCarried self.new) }
         ensures quiet { OnOk result (K.flying links.new ≡ []) }

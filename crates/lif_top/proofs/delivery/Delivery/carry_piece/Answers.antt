@@ -13,7 +13,7 @@ use Rattle.lif_outside.specs.Sequences.{Are}
 use Rattle.lif_outside.specs.declared.links.Links.{Ghosts as LinksGhosts}
 use Rattle.lif_outside.specs.declared.store.Store.{Ghosts as StoreGhosts}
 use Rattle.node_program.specs.declared.code.Code.{Code}
-use Rattle.relay_runner.specs.Carried.{HasCarriedBy, IsCarried, IsStopped, Sends, packets_given}
+use Rattle.relay_runner.specs.Carried.{CarriesWindow, HasCarriedBy, IsCarried, IsStopped, packets_given}
 use Rattle.relay_runner.specs.Running.{Running, window_from}
 use Rattle.lif_top.proofs.DeliveryLaws.{one-block, window-one}
 use Rattle.lif_top.proofs.GivenLaws.{subst-three}
@@ -40,7 +40,7 @@ module _ (code : Code) (piece hand : List ℕ) (fits : length piece ≤ capacity
 
 -- what was carried and then appended is the delivery of the piece
 delivers : {S L : Type 0} (g : StoreGhosts S) (k : LinksGhosts L) (old new : Running) (paths : List (List ℕ)) (piece : List ℕ) (window : Window) (Q : List Event → List Event → Type 0)
-    (a b : S) (at now : L) → (sent : Sends k window at now new) → new.code ≡ old.code → new.pattern ≡ old.pattern → new.first ≡ old.next → window ≡ window_at old.code old.next piece
+    (a b : S) (at now : L) → (sent : CarriesWindow k window at now new) → new.code ≡ old.code → new.pattern ≡ old.pattern → new.first ≡ old.next → window ≡ window_at old.code old.next piece
     → MakesCalls g a b (Q (appends_of (turn_at paths new.code new.pattern (packets_given sent.moves) new.first ∷ [])))
     → MakesBoth g k a b at now (DeliversPiece (k.faithful at) old.code old.pattern paths old.next piece Q)
 delivers g k old new paths piece window Q a b at now sent code pattern first is appended = record {

@@ -9,7 +9,7 @@ use Rattle.relay_runner.proofs.CarriedLaws.{has-sent}
 use Rattle.relay_runner.proofs.RunningLaws.{has-carried}
 use Rattle.relay_runner.proofs.StartingLaws.{made-start, seen-count, start-planned}
 use Rattle.relay_runner.proofs.UnderwayLaws.{still-open}
-use Rattle.relay_runner.specs.Carried.{IsStopped, Sends}
+use Rattle.relay_runner.specs.Carried.{CarriesWindow, IsStopped}
 use Rattle.relay_runner.specs.Carrying.{Carries}
 use Rattle.relay_runner.specs.Running.{Running, Starts, window_from}
 use Rattle.station_table.specs.Table.{relays_of, sinks_of}
@@ -92,7 +92,7 @@ returns-clause-sent g c =
     let window = window_from c.self.inside.code.now c.self.inside.next c.args.blocks.now in
     let accepted : IsAccepted c.self.inside.code.now = subst IsAccepted c.code.ensures.value c.code.ensures.accepted in
     on_ok-then c.run.result (λ carries.
-    subst (λ (runner : Running). Sends g.K.Links (window_from runner.code runner.next c.args.blocks.now) c.args.links.now c.run.new.links c.run.new.self)
+    subst (λ (runner : Running). CarriesWindow g.K.Links (window_from runner.code runner.next c.args.blocks.now) c.args.links.now c.run.new.links c.run.new.self)
     c.self.view_is
     (has-sent g.K.Links (runner_begun g at) c.run.new.self c.run.ensures.work window refl (counted g at) accepted c.args.links.now c.run.new.links
     (carries window (starts g at)))) c.run.ensures.carried
