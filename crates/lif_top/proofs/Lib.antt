@@ -1,4 +1,6 @@
 pub mod CarriedLaws
+pub mod CarriedPieceLaws
+pub mod CommandLaws
 pub mod DeliveryLaws
 pub mod GivenLaws
 pub mod PathLaws
