@@ -4,4 +4,3 @@ mod codes;
 mod counts;
 mod faults;
 mod orders;
-mod watched;

@@ -4,3 +4,4 @@ pub mod Butterfly
 pub mod CutButterfly
 pub mod Sevens
 pub mod Networks
+pub mod WatchLaws

@@ -5,8 +5,10 @@ pub mod accepting;
 pub mod blocks;
 pub mod files;
 pub mod links;
+pub mod orders;
 pub mod products;
 pub mod runs;
 #[cfg(test)]
 mod tests;
 pub mod texts;
+pub mod watched;

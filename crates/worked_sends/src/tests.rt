@@ -6,4 +6,3 @@ mod opening;
 mod orders;
 mod repeats;
 mod sending;
-mod watched;

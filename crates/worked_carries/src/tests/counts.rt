@@ -1,12 +1,12 @@
 //! How many frames are put for a block, and which bytes they have.
 use super::carrying::{Course, carries};
 use super::codes::checked_of;
-use super::watched::Watched;
 use lif_outside::SeedLinks;
 use std::alloc::Global;
 use std::test;
 use std::thread::Threads;
 use worked_rows::files::{BUTTERFLY, ONE_LINK, TWO_WAYS};
+use worked_rows::watched::watch;
 
 // How many frames a code puts for a block under a pattern, and the frame of one piece on one link.
 fn put_for<R: Threads + Sync>(
@@ -17,7 +17,7 @@ fn put_for<R: Threads + Sync>(
     block: &[u8],
     link: u32,
     piece: u8,
-) -> Option<(u32, Option<[u8; 140]>)> {
+) -> Option<(usize, Option<[u8; 140]>)> {
     let code = checked_of(rt, alloc, file)?;
     let course = Course {
         pattern,
@@ -25,18 +25,19 @@ fn put_for<R: Threads + Sync>(
         blocks: 1,
         windows: 1,
     };
-    let mut links = Watched {
-        links: SeedLinks::new(alloc),
-        link,
-        piece,
-        puts: 0,
-        frame: None,
-    };
-    carries(alloc, &code, course, &mut links, block).then_some((links.puts, links.frame))
+    let mut links = watch(alloc, SeedLinks::new(alloc));
+    if !carries(alloc, &code, course, &mut links, block) {
+        return None;
+    }
+    let puts = links.calls.puts.as_slice();
+    let put = puts
+        .iter()
+        .find(|put| put.link == link && put.frame[3] == piece);
+    Some((puts.len(), put.map(|put| put.frame)))
 }
 
 // Whether so many frames are put, among them one with these bytes and then one byte again and again.
-fn are_put(put: Option<(u32, Option<[u8; 140]>)>, puts: u32, front: &[u8], rest: u8) -> bool {
+fn are_put(put: Option<(usize, Option<[u8; 140]>)>, puts: usize, front: &[u8], rest: u8) -> bool {
     let Some((count, Some(frame))) = put else {
         return false;
     };

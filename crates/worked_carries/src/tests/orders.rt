@@ -1,37 +1,13 @@
 //! The order in which links deliver.
 use super::carrying::{Course, carries};
 use super::codes::checked_of;
-use lif_outside::{ListLinks, SeedLinks};
+use lif_outside::SeedLinks;
 use std::alloc::Global;
 use std::test;
 use std::thread::Threads;
 use worked_rows::files::{BUTTERFLY, DOUBLED_ONE_LINK, ONE_LINK, TWO_WAYS, WIDE_ONE_LINK};
-
-// Bytes of blocks that differ from place to place.
-fn source_of(alloc: Global, length: usize) -> Option<Vec<u8>> {
-    let mut source = Vec::with_capacity(alloc, length).ok()?;
-    for place in 0..length {
-        source
-            .push((place % 251) as u8 ^ (place / 251 % 241) as u8)
-            .ok()?;
-    }
-    Some(source)
-}
-
-// Picks of flying pairs: the first always, the last always, or as a rule says.
-fn picks_of(alloc: Global, rule: u32) -> Option<Vec<u32>> {
-    let mut picks = Vec::with_capacity(alloc, 400).ok()?;
-    for take in 0..400 {
-        picks
-            .push(match rule {
-                0 => 0,
-                1 => u32::MAX,
-                _ => take * 7 % 13,
-            })
-            .ok()?;
-    }
-    Some(picks)
-}
+use worked_rows::orders::listed;
+use worked_rows::runs::source_of;
 
 // Whether two blocks come through a code in an order that a number decides.
 fn by_seed<R: Threads + Sync>(rt: &R, alloc: Global, file: &[u8], course: Course) -> Option<bool> {
@@ -51,8 +27,7 @@ fn by_list<R: Threads + Sync>(
 ) -> Option<bool> {
     let code = checked_of(rt, alloc, file)?;
     let source = source_of(alloc, 16384)?;
-    let picks = picks_of(alloc, rule)?;
-    let mut links = ListLinks::new(alloc, picks, Vec::new(alloc), Vec::new(alloc));
+    let mut links = listed(alloc, rule)?;
     Some(carries(alloc, &code, course, &mut links, &source))
 }
 

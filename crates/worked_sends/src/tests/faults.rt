@@ -1,11 +1,11 @@
 //! Links of which a call fails.
 use super::sending::{SEND, ends, has, store_of};
-use super::watched::{Calls, watch};
 use lif_outside::{ListLinks, MemStore};
 use std::alloc::Global;
 use std::test;
 use std::thread::Threads;
 use worked_rows::files::BUTTERFLY;
+use worked_rows::watched::{Calls, watch};
 
 // How many bytes of the source a generation of the butterfly has room for.
 const CAPACITY: usize = 2044;

@@ -1,11 +1,12 @@
 //! The frames that are put, byte by byte.
-use super::sending::{ONE_SINK, SEND, Sending, TWO_SINKS, by_list, is_sent};
-use super::watched::{Watched, watch};
+use super::sending::{ONE_SINK, SEND, Sending, TWO_SINKS, is_sent};
 use lif_outside::{Flight, ListLinks};
 use std::alloc::Global;
 use std::test;
 use std::thread::Threads;
 use worked_rows::files::{BUTTERFLY, DOUBLED_ONE_LINK, ONE_LINK, TWO_WAYS};
+use worked_rows::orders::listed;
+use worked_rows::watched::{Watched, watch};
 
 const ONE_BYTE_LINE: &str = "sent 1 bytes in 1 generations to 1 sinks\n";
 
@@ -24,7 +25,7 @@ fn sent_over<R: Threads + Sync>(
     alloc: Global,
     sending: &Sending<'_>,
 ) -> Option<Watched<ListLinks>> {
-    let links = by_list(alloc, 1)?;
+    let links = listed(alloc, 1)?;
     let mut links = watch(alloc, links);
     is_sent(rt, alloc, sending, &mut links).then_some(links)
 }

@@ -1,12 +1,12 @@
 //! With which number the links are opened, and which commands leave them alone.
 use super::sending::{SEND, ends, store_of};
-use super::watched::{Calls, watch};
 use lif_outside::{MemStore, SeedLinks};
 use std::alloc::Global;
 use std::test;
 use std::thread::Threads;
 use worked_rows::files::{BUTTERFLY, ONE_LINK};
 use worked_rows::texts::BUTTERFLY_TEXT;
+use worked_rows::watched::{Calls, watch};
 
 // The calls that a run makes on links, where it ends so.
 fn calls_of<R: Threads + Sync>(

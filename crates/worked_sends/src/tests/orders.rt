@@ -1,11 +1,13 @@
 //! The order in which links give what flies.
-use super::sending::{SEND, Sending, TWO_SINKS, by_list, ends, is_sent};
-use super::watched::watch;
+use super::sending::{SEND, Sending, TWO_SINKS, ends, is_sent};
 use lif_outside::{Flight, MemStore, SeedLinks};
 use std::alloc::Global;
 use std::test;
 use std::thread::Threads;
 use worked_rows::files::BUTTERFLY;
+use worked_rows::orders::listed;
+use worked_rows::runs::source_of;
+use worked_rows::watched::watch;
 
 /// Four middle nodes, with a sink behind each two of them.
 const COMBINATION_TEXT: &[u8] = b"source s\n\
@@ -33,17 +35,6 @@ const COMBINATION_TEXT: &[u8] = b"source s\n\
     link b6-4 m4 t6\n";
 
 const SIX_SINKS: &[&str] = &["out.t1", "out.t2", "out.t3", "out.t4", "out.t5", "out.t6"];
-
-// Bytes that differ from place to place.
-fn source_of(alloc: Global, length: usize) -> Option<Vec<u8>> {
-    let mut source = Vec::with_capacity(alloc, length).ok()?;
-    for place in 0..length {
-        source
-            .push((place % 251) as u8 ^ (place / 251 % 241) as u8)
-            .ok()?;
-    }
-    Some(source)
-}
 
 // The code that `compile` makes of a text, where it says this line.
 fn compiled<R: Threads + Sync>(rt: &R, alloc: Global, text: &[u8], line: &str) -> Option<Vec<u8>> {
@@ -95,7 +86,7 @@ fn is_sent_by_list<R: Threads + Sync>(
     sending: &Sending<'_>,
     rule: u32,
 ) -> bool {
-    match by_list(alloc, rule) {
+    match listed(alloc, rule) {
         Some(links) => {
             let mut links = links;
             is_sent(rt, alloc, sending, &mut links)

@@ -1,8 +1,7 @@
 //! Runs of the program over links of any kind.
-ghost use Rattle.std.specs.Prelude.{◌≡◌, [], IfSome};
-ghost use Rattle.lif_outside.specs.Listed.{held_in};
+ghost use Rattle.std.specs.Prelude.{◌≡◌, []};
 
-use lif_outside::{Links, ListLinks, MemSink, MemStore, NoGate};
+use lif_outside::{Links, MemSink, MemStore, NoGate};
 use lif_top::lif;
 use std::alloc::Global;
 use std::thread::Threads;
@@ -75,22 +74,4 @@ pub(super) fn is_sent<R: Threads + Sync, K: Links>(
             .outputs
             .iter()
             .all(|path| has(&store, path, sending.source))
-}
-
-/// Links that give the pair at a listed place, for the first 400 takes: by rule 0 the oldest, by rule 1 the newest, by any
-/// other one in the middle.
-pub(super) fn by_list(alloc: Global, rule: u32) -> Option<ListLinks>
-    ensures { IfSome result (λ links. (held_in links).flying ≡ []) }
-{
-    let mut picks = Vec::with_capacity(alloc, 400).ok()?;
-    for take in 0..400u32 {
-        picks
-            .push(match rule {
-                0 => 0,
-                1 => u32::MAX,
-                _ => take * 7 % 13,
-            })
-            .ok()?;
-    }
-    Some(ListLinks::new(alloc, picks, Vec::new(alloc), Vec::new(alloc)))
 }

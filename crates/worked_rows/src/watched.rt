@@ -6,7 +6,7 @@ use std::alloc::{AllocError, Global};
 
 /// The calls made on links.
 #[derive(Drop)]
-pub(super) struct Calls {
+pub struct Calls {
     /// How often they were opened, and with which number and for how many pairs last.
     pub opens: u32,
     pub opened: Option<(u64, u32)>,
@@ -20,8 +20,8 @@ pub(super) struct Calls {
 }
 
 impl Calls {
-    /// None.
-    pub(super) fn new(alloc: Global) -> Calls {
+    // None.
+    fn new(alloc: Global) -> Calls {
         Calls {
             opens: 0,
             opened: None,
@@ -67,20 +67,20 @@ impl Calls {
     }
 
     /// Whether no call was made.
-    pub(super) fn are_none(&self) -> bool {
+    pub fn are_none(&self) -> bool {
         self.opens == 0 && self.puts.is_empty() && self.takes == 0
     }
 }
 
 /// Links that make each call on other links, and tell them.
 #[derive(Drop)]
-pub(super) struct Watched<K> {
+pub struct Watched<K> {
     pub links: K,
     pub calls: Calls,
 }
 
 /// Links with no calls made yet.
-pub(super) fn watch<K>(alloc: Global, links: K) -> Watched<K>
+pub fn watch<K>(alloc: Global, links: K) -> Watched<K>
     ensures { result.links ≡ links }
 {
     Watched {
@@ -92,7 +92,7 @@ pub(super) fn watch<K>(alloc: Global, links: K) -> Watched<K>
 impl<K: Links> Links for Watched<K> {
     ghost use Rattle.lif_outside.specs.LinksAccounts.{holding};
     ghost use Rattle.lif_outside.specs.Moves.{open_move, put_move, take_move};
-    ghost use Rattle.worked_sends.specs.WatchLaws.{accounts_inside};
+    ghost use Rattle.worked_rows.specs.WatchLaws.{accounts_inside};
 
     ghost flying = { λ watched. K.flying watched.links };
 
@@ -118,8 +118,8 @@ impl<K: Links> Links for Watched<K> {
         K.more_moves first later a.links b.links c.links one other };
 
     ghost accounts = { λ made old new calls. accounts_inside (λ watched. watched.links)
-        (holding K.flying K.room K.opened_with K.repeats) K.faithful K.faults K.sent K.given made old new
-        (K.accounts made old.links new.links calls) };
+        (holding K.flying K.room K.opened_with K.repeats) K.faithful K.faults K.sent K.given
+        made old new (K.accounts made old.links new.links calls) };
 
     fn open(&mut self, alloc: Global, seed: u64, most: u32) -> Result<(), AllocError>
         requires { K.flying self.old.links ≡ [] }
