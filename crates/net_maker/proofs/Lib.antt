@@ -1,3 +1,4 @@
 pub mod SubsetLaws
 pub mod NameLaws
 pub mod NetworkLaws
+pub mod CombinationLaws
