@@ -72,7 +72,7 @@ abbrev names_of : List Link → List (List ℕ)
 names_of links = map (λ link. link.name) links
 
 -- what holds of each number of a range
-each_of : (P : ℕ → Type 0) (first bound : ℕ) (set : List ℕ) → list_all (λ x. nat_le first x && nat_lt x bound) set ≡ true → ((m : ℕ) → first ≤ m → m < bound → P m) → AllByRecursion P set
+pub each_of : (P : ℕ → Type 0) (first bound : ℕ) (set : List ℕ) → list_all (λ x. nat_le first x && nat_lt x bound) set ≡ true → ((m : ℕ) → first ≤ m → m < bound → P m) → AllByRecursion P set
 each_of P first bound [] within holds = tt
 each_of P first bound (x ∷ set) within holds =
     let parts = and_parts _ _ within in
