@@ -2,6 +2,9 @@ pub mod CarriedLaws
 pub mod CarriedPieceLaws
 pub mod CommandLaws
 pub mod DeliveryLaws
+pub mod DemoPerforms
+pub mod DemoRuns
+pub mod FrameLaws
 pub mod GivenLaws
 pub mod PathLaws
 pub mod Pieces
@@ -9,5 +12,6 @@ pub mod Promising
 pub mod SendCalls
 pub mod SendLeaving
 pub mod SendPerforms
+pub mod TallyLaws
 pub mod Turning
 pub mod TurnLaws

@@ -18,7 +18,7 @@ use Rattle.top_base.specs.FileReading.{StopsReading}
 use Rattle.top_base.specs.FileReading as files
 use Rattle.top_base.specs.Inputs.{ReadsAny}
 use Rattle.top_base.specs.Lines.{sent_line, write_fault_line}
-use Rattle.top_base.specs.Words.{Send}
+use Rattle.top_base.specs.Words.{Send, source_limit}
 use Rattle.top_base.specs.declared.reading.FileRefusal.{FileRefusal}
 use Rattle.top_base.specs.declared.reading.FileRefusal.TheVariants as refused
 use Rattle.top_base.specs.declared.status.Status.TheVariants.{Done, WriteFault}
@@ -26,7 +26,7 @@ use Rattle.lif_top.proofs.SendLeaving.{all-brought}
 use Rattle.lif_top.proofs.TurnLaws.{turns-are}
 use Rattle.lif_top.specs.Send.Carried.{CarriesFirst, Delivers}
 use Rattle.lif_top.specs.Send.Delivering.{DeliversSome, Interrupts, outcome_of}
-use Rattle.lif_top.specs.Send.Given.{IsClear, outputs_of, pattern_in, source_limit}
+use Rattle.lif_top.specs.Send.Given.{IsClear, outputs_of, pattern_in}
 use Rattle.lif_top.specs.Send.Ready.{AreCounts}
 use Rattle.lif_top.specs.Send.Runs.{AtRest, Broken, Carries, RunsCode, behind_open, blocks_brought, deliveries, room_for}
 use Rattle.lif_top.specs.Send.Turns.{turns_before}

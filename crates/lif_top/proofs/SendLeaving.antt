@@ -34,7 +34,7 @@ use Rattle.top_base.specs.Inputs.{HoldsLong, HoldsShort, ReadsAny}
 use Rattle.top_base.proofs.LeavingLaws.{happen_later, happen_parts, keep_files, later_among, none_keep, told_at}
 use Rattle.top_base.proofs.PathLaws.{clear_apart, clear_distinct}
 use Rattle.top_base.specs.Performs.{LeavesAll}
-use Rattle.top_base.specs.Words.{Send}
+use Rattle.top_base.specs.Words.{Send, source_limit}
 use Rattle.top_base.specs.declared.status.Status.{Status}
 use Rattle.top_base.specs.declared.status.Status.TheVariants.{Done, LinkFault, OutOfMemory, ReadFault, SamePath, TooLong, UnknownPattern, WriteFault}
 use Rattle.name_texts.specs.Names.{node_name}
@@ -45,7 +45,7 @@ use Rattle.lif_top.proofs.TurnLaws.{turns-are, turns-of_pieces}
 use Rattle.lif_top.specs.Send.Carried.{AreCarried, Breaks, CarriesFirst, blocks_from}
 use Rattle.lif_top.specs.Paths.{output_path}
 use Rattle.lif_top.specs.Send.Changes.{ChangesTo, HasCode, LeavesPart, LeavesSource, LeavesUnwritten}
-use Rattle.lif_top.specs.Send.Given.{IsClear, outputs_of, pattern_in, pattern_of, source_limit}
+use Rattle.lif_top.specs.Send.Given.{IsClear, outputs_of, pattern_in, pattern_of}
 use Rattle.lif_top.specs.Send.Runs.{AfterCreates, AtRest, Broken, Carries, RunsCode, Sent, StopsAtCreate, blocks_brought, deliveries, room_for}
 
 -- the front of a front is a front

@@ -27,7 +27,7 @@ use Rattle.top_base.proofs.InputLaws.{any-unfailed, not_long}
 use Rattle.top_base.proofs.LeavingLaws.{told_at}
 use Rattle.top_base.specs.Outcome.{any_cycle, fault_line, is_fault, is_of_inputs}
 use Rattle.top_base.proofs.PerformingLaws.{HaveFailedBy, IsKnown, known, none_failed-by}
-use Rattle.top_base.specs.Words.{Send}
+use Rattle.top_base.specs.Words.{Send, source_limit}
 use Rattle.top_base.specs.declared.outcome.Outcome.{Outcome}
 use Rattle.top_base.specs.declared.status.Status.{Status}
 use Rattle.top_base.specs.declared.status.Status.TheVariants.{Done, LinkFault, OutOfMemory, ReadFault, SamePath, TooLong, UnknownPattern, Usage, WriteFault}
@@ -35,7 +35,7 @@ use Rattle.lif_top.specs.Send.Changes.{Changes, ChangesTo}
 use Rattle.lif_top.specs.Send.Command.{send_command}
 use Rattle.lif_top.specs.Send.Due.{DueOf, DueWith, NoFault}
 use Rattle.lif_top.specs.Send.Carried.{AreCarried}
-use Rattle.lif_top.specs.Send.Given.{outputs_of, pattern_in, source_limit}
+use Rattle.lif_top.specs.Send.Given.{outputs_of, pattern_in}
 use Rattle.lif_top.specs.Send.Runs.{AfterCreates, AtRest, Broken, Carries, RunsCode, Sends, deliveries, room_for}
 use Rattle.relay_runner.specs.Carried.{packets_given}
 use Rattle.lif_top.proofs.SendLeaving.{at_source, changes_with, deliveries_are, links_fault, part_keeps, source_held}

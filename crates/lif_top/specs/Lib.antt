@@ -1,6 +1,7 @@
 pub mod Paths
 pub mod Promises
 pub mod Send
+pub mod Demo
 pub use Rattle.top_base.specs.Accepting
 pub use Rattle.top_base.specs.Acting
 pub use Rattle.top_base.specs.Causes

@@ -6,7 +6,7 @@ ghost use Rattle.lif_outside.specs.Moves.{Move};
 ghost use Rattle.lif_outside.specs.Runs.{StopsWithin, appends_of, creates_of};
 ghost use Rattle.lif_outside.specs.Sequences.{Are};
 ghost use Rattle.lif_top.specs.Send.Delivering.{CanCarry, DeliversPiece, DeliversSome, HasMoved, Interrupts, InterruptsPiece};
-ghost use Rattle.lif_top.specs.Send.Given.{source_limit};
+ghost use Rattle.top_base.specs.Words.{source_limit};
 ghost use Rattle.lif_top.specs.Send.Ready.{AreCounts, paths_of};
 ghost use Rattle.lif_top.specs.Send.Turns.{parts_from, turn_at};
 ghost use Rattle.relay_runner.specs.Carried.{HasCarriedBy, packets_given};

@@ -1,8 +1,17 @@
 //! A code at work over links, and the files of its sinks.
-ghost use Rattle.std.specs.Prelude.{◌≡◌, ◌*◌, length, vec_len};
+ghost use Rattle.std.specs.Prelude.{◌≡◌, ◌*◌, ◌<◌, ◌∷◌, [], IfOk, OnErr, OnOk, false, length, vec_len};
 ghost use Rattle.generation_frame.specs.Blocks.{row_bytes};
+ghost use Rattle.gf_tables.specs.Kind.{IsOfKind};
+ghost use Rattle.lif_outside.specs.Moves.{opened};
+ghost use Rattle.relay_runner.specs.Runner.{IsRefused};
+ghost use Rattle.lif_top.specs.Send.Runs.{room_for};
 
+use code_checker::Checked;
+use generation_frame::ROW;
+use gf_tables::Field;
+use lif_outside::Links;
 use relay_runner::Runner;
+use std::alloc::{AllocError, Global};
 
 /// How much was sent.
 #[derive(Drop)]
@@ -41,4 +50,44 @@ pub struct Delivery<'c, F> {
     ghost sinks: { vec_len outputs ≡ length runner.code.net.sinks },
     ghost block_length: { vec_len block ≡ runner.code.rate * row_bytes },
     ghost decoded_length: { vec_len decoded ≡ runner.code.rate * row_bytes },
+}
+
+impl<'c, F: Field> Delivery<'c, F> {
+    /// A code at work under a pattern, on the files of these paths. The links are opened last, with the number given. `F` is
+    /// the code's field.
+    pub fn open<K: Links>(
+        alloc: Global,
+        code: &'c Checked,
+        pattern: u32,
+        seed: u64,
+        outputs: Vec<String>,
+        links: &mut K,
+    ) -> Result<Delivery<'c, F>, AllocError>
+        requires pattern { pattern < length code.now.net.patterns }
+        requires field { IsOfKind code.now.field F.SIZE F.BYTES F.MARK F.product }
+        requires nothing_flies { K.flying links.old ≡ [] }
+        requires outputs { vec_len outputs ≡ length code.now.net.sinks }
+        ensures at_work { IfOk result (λ delivery. delivery.runner.code ≡ code.now) }
+        ensures pattern { IfOk result (λ delivery. delivery.runner.pattern ≡ pattern) }
+        ensures from_start { IfOk result (λ delivery. delivery.runner.next ≡ 0) }
+        ensures works { IfOk result (λ delivery. delivery.runner.has_failed ≡ false) }
+        ensures outputs { IfOk result (λ delivery. delivery.outputs ≡ outputs) }
+        ensures opened { OnOk result
+            (K.moves (opened seed (room_for code.now) ∷ []) links.old links.new) }
+        ensures refused { OnErr result
+            (IsRefused K.moves seed (room_for code.now) links.old links.new) }
+    {
+        let rate = code.code().rate;
+        let block_bytes = rate as usize * ROW;
+        let block = vec![in alloc; 0u8; block_bytes]?;
+        let decoded = vec![in alloc; 0u8; block_bytes]?;
+        let runner = Runner::open(alloc, code, pattern, seed, links)?;
+        Ok(Delivery {
+            rate,
+            runner,
+            outputs,
+            block,
+            decoded,
+        })
+    }
 }

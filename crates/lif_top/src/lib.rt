@@ -3,10 +3,12 @@
 
 mod delivering;
 mod delivery;
+mod demo;
 mod paths;
 mod preparing;
 mod program;
 mod sending;
+mod tally;
 
 pub use code_file::CodeRefusal;
 pub use program::lif;

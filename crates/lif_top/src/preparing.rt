@@ -6,23 +6,18 @@ ghost use Rattle.lif_outside.specs.Moves.{opened};
 ghost use Rattle.relay_runner.specs.Runner.{IsRefused};
 ghost use Rattle.std.specs.Str.{bytes_eq};
 ghost use Rattle.top_base.specs.Given.{given_in};
-ghost use Rattle.lif_top.specs.Send.Given.{source_limit};
+ghost use Rattle.top_base.specs.Words.{source_limit};
 ghost use Rattle.lif_top.specs.Send.Ready.{IsReady};
 ghost use Rattle.lif_top.specs.Send.Runs.{RunsCode, link_calls, room_for};
 
 use crate::delivery::Delivery;
 use crate::paths::{output_paths, shared_path};
 use code_checker::Checked;
-use generation_frame::ROW;
 use gf_tables::Field;
 use lif_outside::Links;
 use net_model::Net;
-use relay_runner::Runner;
 use std::alloc::{AllocError, Global};
-use top_base::{Line, Outcome, SendWords, Status};
-
-/// The greatest length of a source, in bytes.
-pub const SOURCE_LIMIT: usize = 67_108_864;
+use top_base::{Line, Outcome, SOURCE_LIMIT, SendWords, Status};
 
 /// What a delivery takes.
 #[derive(Drop)]
@@ -70,19 +65,8 @@ fn take_memory<'c, F: Field, K: Links>(
     ensures refused { OnErr result
         (IsRefused K.moves seed (room_for code.now) links.old links.new) }
 {
-    let rate = code.code().rate;
-    let block_bytes = rate as usize * ROW;
-    let block = vec![in alloc; 0u8; block_bytes]?;
-    let decoded = vec![in alloc; 0u8; block_bytes]?;
     let room = Vec::with_capacity(alloc, SOURCE_LIMIT + 1)?;
-    let runner = Runner::open(alloc, code, pattern, seed, links)?;
-    let delivery = Delivery {
-        rate,
-        runner,
-        outputs,
-        block,
-        decoded,
-    };
+    let delivery = Delivery::open(alloc, code, pattern, seed, outputs, links)?;
     Ok(Prepared { delivery, room })
 }
 

@@ -5,6 +5,7 @@ ghost use Rattle.top_base.specs.Performs.{RunsOn};
 ghost use Rattle.top_base.specs.Words.{command_of};
 ghost use Rattle.lif_top.specs.Promises.{Promises, does_form};
 
+use crate::demo::demo;
 use crate::sending::send;
 use lif_outside::{Gate, Links, Sink, Store};
 use std::alloc::Global;
@@ -35,6 +36,7 @@ fn carry_out<'a, S: Store, L: Links, G: Gate + Sync, R: Threads + Sync>(
         Command::Compile(given) => compile(rt, alloc, &given, store, gate),
         Command::Check(path) => check(rt, alloc, path, store, gate),
         Command::Send(given) => send(rt, alloc, &given, store, links, gate),
+        Command::Demo(given) => demo(rt, alloc, &given, links, gate),
     }
 }
 
@@ -50,6 +52,8 @@ fn carry_out<'a, S: Store, L: Links, G: Gate + Sync, R: Threads + Sync>(
 /// - `send CODE PATTERN SEED SRC PREFIX` makes `PREFIX.<sink>` for each sink of an accepted code, carries the file at SRC
 ///   over the links, opened with SEED, as frames of the code where the links of the pattern fail, and writes to each what
 ///   the sink decodes.
+/// - `demo N K BYTES` compiles the network with a sink behind each K of N nodes, carries BYTES bytes over the links, opened
+///   with 1, to its sinks, and says how many frames that took and the sum of the bytes that came.
 ///
 /// The jobs of certificates, of a compilation and of a check enter the gate.
 pub fn lif<S: Store, C: Sink, L: Links, G: Gate + Sync, R: Threads + Sync>(

@@ -10,13 +10,13 @@ ghost use Rattle.lif_top.specs.Send.Ready.{IsReady};
 ghost use Rattle.lif_top.specs.Send.Runs.{RunsCode, Sends, behind_open};
 
 use crate::delivery::DeliveryFault;
-use crate::preparing::{Prepared, SOURCE_LIMIT, prepare};
+use crate::preparing::{Prepared, prepare};
 use code_checker::Checked;
 use gf_tables::{Field, FieldKind, Gf8, Gf16};
 use lif_outside::{Gate, Links, Store};
 use std::alloc::Global;
 use std::thread::Threads;
-use top_base::{Line, Outcome, SendWords, Status, read_accepted, read_whole};
+use top_base::{Line, Outcome, SOURCE_LIMIT, SendWords, Status, read_accepted, read_whole};
 
 // What a delivery that ended early makes of the command.
 fn interrupted<'a>(fault: DeliveryFault) -> Outcome<'a>

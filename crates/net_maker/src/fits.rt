@@ -1,7 +1,7 @@
 //! Which combination networks are made.
 ghost use Rattle.std.specs.Prelude.{◌≡◌, ◌↔◌, ◌+◌, ◌^◌, ◌<◌, ◌≤◌, ℕ, IsTrue, slice_index, length};
 ghost use Rattle.net_model.specs.Limits.{highest_rate};
-ghost use Rattle.net_maker.specs.Fits.{Fits, most_middle};
+ghost use Rattle.net_maker.specs.Fits.{Fits, fits, most_middle};
 ghost use Rattle.net_maker.specs.Subsets.{binomial};
 
 use net_model::{MOST_LINKS, MOST_NODES};
@@ -14,7 +14,8 @@ const HIGHEST_RATE: u32 = 32;
 
 /// Whether the network with a sink behind each `k` of `n` nodes is made. It takes no memory.
 pub fn demo_fits(n: u32, k: u32) -> bool
-    ensures { IsTrue result ↔ Fits n k }
+    ensures value { result ≡ fits n k }
+    ensures fits { IsTrue result ↔ Fits n k }
 {
     if k < 1 || k > n || n > MOST_MIDDLE || k > HIGHEST_RATE {
         return false;

@@ -1,6 +1,7 @@
 -- The commands that words were read as.
-use Rattle.top_base.specs.Words.{Compile, Send, Command as Form, check, compile, cuts, order, send}
+use Rattle.top_base.specs.Words.{Compile, Demo, Send, Command as Form, check, compile, cuts, demo, order, send}
 use Rattle.top_base.specs.declared.words.CompileWords.{CompileWords}
+use Rattle.top_base.specs.declared.demo_words.DemoWords.{DemoWords}
 use Rattle.top_base.specs.declared.words.SendWords.{SendWords}
 use Rattle.top_base.specs.declared.words.Command.{Command}
 use Rattle.top_base.specs.declared.words.Command.TheVariants as read
@@ -13,9 +14,14 @@ compile_given_in words = record { net = words.net.now; code = words.code.now; re
 abbrev pub given_in : SendWords → Send
 given_in words = record { code = words.code.now; pattern = words.pattern.now; seed = words.seed; source = words.source.now; prefix = words.prefix.now }
 
+-- what a command `demo` is given, by its words
+abbrev pub demo_given_in : DemoWords → Demo
+demo_given_in words = record { n = words.n; k = words.k; bytes = words.bytes }
+
 abbrev pub command_in : Command → Form
 command_in (read.Order path) = order path.now
 command_in (read.Cuts path) = cuts path.now
 command_in (read.Compile words) = compile (compile_given_in words)
 command_in (read.Check path) = check path.now
 command_in (read.Send words) = send (given_in words)
+command_in (read.Demo words) = demo (demo_given_in words)

@@ -1,5 +1,5 @@
 -- The lines said.
-use Rattle.std.specs.Prelude.{ℕ, Bool, List, [], ◌∷◌, ◌++◌, codes, decimal, map, unwrap_or, slice_get}
+use Rattle.std.specs.Prelude.{ℕ, Bool, List, [], ◌∷◌, ◌++◌, codes, decimal, length, map, unwrap_or, slice_get}
 use Rattle.std.specs.Option.{option_map_or}
 use Rattle.code_file.specs.declared.refusal.CodeRefusal.{CodeRefusal}
 use Rattle.code_file.specs.RefusalNames as code
@@ -15,6 +15,7 @@ use Rattle.net_reader.specs.RefusalNames as net
 use Rattle.net_reader.specs.RefusalNames.{what_name}
 use Rattle.net_reader.specs.declared.refusal.ReadRefusal.TheVariants.{SinkIsSource, TooMany}
 use Rattle.node_program.specs.declared.code.Code.{Code}
+use Rattle.top_base.specs.Words.{Demo}
 
 abbrev pub usage_line : List ℕ
 usage_line = codes "usage: lif order NET | cuts NET | compile NET CODE REPORT | check CODE | send CODE PATTERN SEED SRC PREFIX | demo N K BYTES\n"
@@ -111,3 +112,19 @@ compiled_line rate field demands = codes "compiled " ++ rate_text rate field dem
 abbrev pub sent_line : ℕ → ℕ → ℕ → List ℕ
 sent_line bytes generations sinks =
     codes "sent " ++ decimal bytes ++ codes " bytes in " ++ decimal generations ++ codes " generations to " ++ decimal sinks ++ codes " sinks\n"
+
+-- the lines of a combination network through whose code a source went: in so many generations, by so many frames, and this is the
+-- sum of the bytes that came to the sinks
+abbrev pub demo_lines : Demo → Code → ℕ → ℕ → ℕ → List ℕ
+demo_lines demo code generations frames sum =
+    codes "demo " ++ decimal demo.n ++ codes " " ++ decimal demo.k
+    ++ codes "\nnodes " ++ decimal (length code.net.nodes)
+    ++ codes "\nlinks " ++ decimal (length code.net.links)
+    ++ codes "\ndemands " ++ decimal (demand_count code.net)
+    ++ codes "\nfield " ++ decimal (mark_of code.field)
+    ++ codes "\nrate " ++ decimal code.rate
+    ++ codes "\ngenerations " ++ decimal generations
+    ++ codes "\nframes " ++ decimal frames
+    ++ codes "\nbytes " ++ decimal demo.bytes
+    ++ codes "\nsinks " ++ decimal (length code.net.sinks)
+    ++ codes "\nsum " ++ decimal sum ++ codes "\n"

@@ -1,9 +1,10 @@
 -- The words that the program is called with.
-use Rattle.std.specs.Prelude.{ℕ, ◌+◌, ◌-◌, ◌*◌, ◌^◌, ◌&&◌, nat_lt, if◌then◌else◌, fold, List, [], ◌∷◌, length, Option, Some, None, codes}
+use Rattle.std.specs.Prelude.{ℕ, ◌+◌, ◌-◌, ◌*◌, ◌^◌, ◌&&◌, nat_le, nat_lt, if◌then◌else◌, fold, List, [], ◌∷◌, length, Option, Some, None, codes}
 use Rattle.std.specs.Char.{is_ascii_digit}
 use Rattle.std.specs.List.{list_all}
 use Rattle.std.specs.Option.{option_map}
 use Rattle.std.specs.Str.{bytes_eq}
+use Rattle.net_maker.specs.Fits.{fits}
 
 -- the value of decimal digits
 abbrev pub value_of_digits : List ℕ → ℕ
@@ -29,6 +30,16 @@ pub record Send : Type 0 where
   pub source : List ℕ
   pub prefix : List ℕ
 
+-- the greatest length of a source
+abbrev pub source_limit : ℕ
+source_limit = 67108864
+
+-- what a command `demo` is given: the network that is made, and the length of its source
+pub record Demo : Type 0 where
+  pub n : ℕ
+  pub k : ℕ
+  pub bytes : ℕ
+
 -- A command with what it is given.
 pub data Command : Type 0 where
   order : (net : List ℕ) → Command
@@ -36,6 +47,7 @@ pub data Command : Type 0 where
   compile : (given : Compile) → Command
   check : (code : List ℕ) → Command
   send : (given : Send) → Command
+  demo : (given : Demo) → Command
 
 -- `order NET`
 abbrev pub order_of : List (List ℕ) → Option Command
@@ -63,6 +75,16 @@ send_of (code ∷ pattern ∷ seed ∷ source ∷ prefix ∷ []) =
     option_map (λ number. send (record { code = code; pattern = pattern; seed = number; source = source; prefix = prefix })) (number_of seed)
 send_of _ = None
 
+-- `demo N K BYTES`, where the network is one that is made, and the source within its limit
+abbrev pub demo_with : Option ℕ → Option ℕ → Option ℕ → Option Command
+demo_with (Some n) (Some k) (Some bytes) =
+    if fits n k && nat_le bytes source_limit then Some (demo (record { n = n; k = k; bytes = bytes })) else None
+demo_with _ _ _ = None
+
+abbrev pub demo_of : List (List ℕ) → Option Command
+demo_of (n ∷ k ∷ bytes ∷ []) = demo_with (number_of n) (number_of k) (number_of bytes)
+demo_of _ = None
+
 -- the command that words are
 abbrev pub command_of : List (List ℕ) → Option Command
 command_of [] = None
@@ -72,4 +94,5 @@ command_of (name ∷ given) =
     else if bytes_eq name (codes "compile") then compile_of given
     else if bytes_eq name (codes "check") then check_of given
     else if bytes_eq name (codes "send") then send_of given
+    else if bytes_eq name (codes "demo") then demo_of given
     else None

@@ -3,6 +3,7 @@
 #![tactic(auto)]
 
 mod accepting;
+mod demo_words;
 mod lines;
 mod long_texts;
 mod networks;
@@ -13,6 +14,7 @@ mod text;
 mod words;
 
 pub use accepting::read_accepted;
+pub use demo_words::{DemoWords, SOURCE_LIMIT};
 pub use lines::Line;
 pub use long_texts::{order_text, zero_rate_line};
 pub use networks::{Ordered, read_ordered};

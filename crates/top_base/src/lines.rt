@@ -6,8 +6,10 @@ ghost use Rattle.failure_patterns.specs.Demands.{demand_of};
 ghost use Rattle.name_texts.specs.Names.{demand_text};
 ghost use Rattle.net_model.specs.Demands.{demand_count};
 ghost use Rattle.net_model.specs.Limits.{longest_name};
-ghost use Rattle.top_base.specs.Lines.{accepted_line, check_failed_line, code_refused_line, code_text, compiled_line, detail_text, link_fault_line, net_refused_line, out_of_memory_line, rate_over_line, read_fault_line, same_path_line, sent_line, too_long_line, too_many_demands_line, unknown_pattern_line, usage_line, write_fault_line};
+ghost use Rattle.top_base.specs.Given.{demo_given_in};
+ghost use Rattle.top_base.specs.Lines.{accepted_line, check_failed_line, code_refused_line, code_text, compiled_line, demo_lines, detail_text, link_fault_line, net_refused_line, out_of_memory_line, rate_over_line, read_fault_line, same_path_line, sent_line, too_long_line, too_many_demands_line, unknown_pattern_line, usage_line, write_fault_line};
 
+use crate::demo_words::DemoWords;
 use crate::text::{ROOM, ShortText, Text};
 use arrayvec::ArrayVec;
 use code_file::CodeRefusal;
@@ -55,6 +57,17 @@ fn push_number(text: &mut ShortText, number: u64)
 {
     let mut digits = Buffer::new();
     push(text, digits.format(number).as_bytes());
+}
+
+// Adds a word and a number to a text that has room for them.
+fn push_field(text: &mut ShortText, word: &[u8], number: u64)
+    requires word { length word.now ≤ 16 }
+    requires room { length text.old.items + 36 ≤ ROOM }
+    ensures text { text.new.items ≡ text.old.items ++ word.now ++ decimal number }
+    ensures grown { length text.new.items ≤ length text.old.items + length word.now + 20 }
+{
+    push(text, word);
+    push_number(text, number);
 }
 
 // A line that begins with these words.
@@ -324,6 +337,29 @@ impl<'a> Line<'a> {
         push(&mut text, b" generations to ");
         push_number(&mut text, sinks);
         push(&mut text, b" sinks\n");
+        Line::of(text)
+    }
+
+    /// A source went through the code of a combination network: in so many generations, by so many frames, and this is the
+    /// sum of the bytes that came to the sinks.
+    pub fn demo(words: &DemoWords, code: &Code, generations: u64, frames: u64, sum: u64) -> Line<'a>
+        ensures { result ≡ demo_lines (demo_given_in words.now) code.now generations frames sum }
+    {
+        let mut text = begin(b"demo ");
+        push_number(&mut text, u64::from(words.n));
+        push(&mut text, b" ");
+        push_number(&mut text, u64::from(words.k));
+        push_field(&mut text, b"\nnodes ", code.net.nodes.len() as u64);
+        push_field(&mut text, b"\nlinks ", code.net.links.len() as u64);
+        push_field(&mut text, b"\ndemands ", demands(&code.net));
+        push_field(&mut text, b"\nfield ", mark_of(code.field));
+        push_field(&mut text, b"\nrate ", u64::from(code.rate));
+        push_field(&mut text, b"\ngenerations ", generations);
+        push_field(&mut text, b"\nframes ", frames);
+        push_field(&mut text, b"\nbytes ", words.bytes);
+        push_field(&mut text, b"\nsinks ", code.net.sinks.len() as u64);
+        push_field(&mut text, b"\nsum ", sum);
+        push(&mut text, b"\n");
         Line::of(text)
     }
 }

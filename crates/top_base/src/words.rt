@@ -1,10 +1,13 @@
 //! The words that the program is called with.
-ghost use Rattle.std.specs.Prelude.{◌≡◌, ◌<◌, ◌^◌, map, string_bytes};
+ghost use Rattle.std.specs.Prelude.{◌≡◌, ◌<◌, ◌^◌, Some, map, string_bytes};
 ghost use Rattle.std.specs.Char.{is_ascii_digit};
 ghost use Rattle.std.specs.List.{list_all};
 ghost use Rattle.std.specs.Option.{SomeIff, option_map};
-ghost use Rattle.top_base.specs.Words.{check_of, command_of, compile_of, cuts_of, number_of, order_of, send_of, value_of_digits};
+ghost use Rattle.top_base.specs.Words.{check_of, command_of, compile_of, cuts_of, demo_of, demo_with, number_of, order_of, send_of, value_of_digits};
 ghost use Rattle.top_base.specs.Given.{command_in};
+
+use crate::demo_words::{DemoWords, SOURCE_LIMIT};
+use net_maker::demo_fits;
 
 /// What a command `compile` is given.
 #[derive(Clone, Copy)]
@@ -45,6 +48,8 @@ pub enum Command<'a> {
     Check(&'a str),
     /// `send CODE PATTERN SEED SRC PREFIX`.
     Send(SendWords<'a>),
+    /// `demo N K BYTES`.
+    Demo(DemoWords),
 }
 
 /// The command that the words are, if they are one.
@@ -60,6 +65,7 @@ pub fn command_of(words: &[String]) -> Option<Command<'_>>
         "compile" => compile_of(given),
         "check" => check_of(given),
         "send" => send_of(given),
+        "demo" => demo_of(given),
         _ => None,
     }
 }
@@ -125,6 +131,31 @@ fn send_of(given: &[String]) -> Option<Command<'_>>
         source: source.as_str(),
         prefix: prefix.as_str(),
     }))
+}
+
+// `demo N K BYTES`.
+fn demo_of(given: &[String]) -> Option<Command<'_>>
+    ensures { option_map command_in result ≡ demo_of (map string_bytes given.now) }
+{
+    let [n, k, bytes] = given else {
+        return None;
+    };
+    let n = number_of(n.as_str())?;
+    let k = number_of(k.as_str())?;
+    let bytes = number_of(bytes.as_str())?;
+    demo_with(n, k, bytes)
+}
+
+// The command of these numbers, where the network is one that is made, and the source within its limit.
+fn demo_with<'a>(n: u64, k: u64, bytes: u64) -> Option<Command<'a>>
+    ensures { option_map command_in result ≡ demo_with (Some n) (Some k) (Some bytes) }
+{
+    let n = u32::try_from(n).ok()?;
+    let k = u32::try_from(k).ok()?;
+    if !demo_fits(n, k) || bytes > SOURCE_LIMIT as u64 {
+        return None;
+    }
+    Some(Command::Demo(DemoWords { n, k, bytes }))
 }
 
 // The number that a word is: one or more digits of ASCII, with a value below 2^64.

@@ -1,4 +1,5 @@
 pub mod Check
+pub mod Combining
 pub mod Compile
 pub mod Cuts
 pub mod Order

@@ -96,6 +96,21 @@ fn code_in<F: Field, G: Gate + Sync, L: Ledger, R: Threads + Sync>(
     lif_compiler::compile::<F, G, L, R>(rt, alloc, net, gate, &mut Steps::<L>::start(blank))
 }
 
+/// The code of a network over the field `F`, and certificates of its rate.
+pub fn compile_over<F: Field, G: Gate + Sync, R: Threads + Sync>(
+    rt: &R,
+    alloc: Global,
+    net: &Net,
+    gate: &G,
+) -> Result<(Code, Vec<Cert>), CompileRefusal>
+    requires field { IsOfKind (marked_kind F.MARK) F.SIZE F.BYTES F.MARK F.product }
+    ensures compiled { IfOk result
+        (λ made. IsCompiled net.now (marked_kind F.MARK) made.0 made.1.items) }
+    ensures refused { IfErr result (IsRefusal net.now F.SIZE) }
+{
+    code_in::<F, G, Brand, R>(rt, alloc, net, gate, Blank::new(1))
+}
+
 // What is written and said of a network whose demands the field `F` serves.
 fn make_over<'a, F: Field, G: Gate + Sync, R: Threads + Sync>(
     rt: &R,
@@ -109,7 +124,7 @@ fn make_over<'a, F: Field, G: Gate + Sync, R: Threads + Sync>(
     ensures ready { IfOk result (IsReady net.now) }
     ensures refused { IfErr result (RefusesOrLosesIt net.now) }
 {
-    match code_in::<F, G, Brand, R>(rt, alloc, net, gate, Blank::new(1)) {
+    match compile_over::<F, G, R>(rt, alloc, net, gate) {
         Ok((code, certs)) => Ok(of_code(alloc, net, &code, &certs)?),
         Err(why) => Err(unmade(alloc, net, why)),
     }

@@ -10,11 +10,11 @@ use Rattle.top_base.specs.Accepting.{HoldsCode}
 use Rattle.top_base.specs.Acting.{LeavesUnread}
 use Rattle.top_base.specs.Inputs.{HoldsLong, HoldsShort}
 use Rattle.top_base.specs.Performs.{LeavesAll}
-use Rattle.top_base.specs.Words.{Send}
+use Rattle.top_base.specs.Words.{Send, source_limit}
 use Rattle.top_base.specs.declared.outcome.Outcome.{Outcome}
 use Rattle.top_base.specs.declared.status.Status.{Status}
 use Rattle.top_base.specs.declared.status.Status.TheVariants.{Done, LinkFault, ReadFault, TooLong, WriteFault}
-use Rattle.lif_top.specs.Send.Given.{IsClear, line_of_sent, outputs_of, source_limit}
+use Rattle.lif_top.specs.Send.Given.{IsClear, line_of_sent, outputs_of}
 
 -- No file but those of the sinks is changed, and of what stood at the path of each and stands there this holds.
 abbrev pub LeavesOutputs : Send → Code → (Option (List ℕ) → Option (List ℕ) → Type 0) → Outside → Outside → Type 0

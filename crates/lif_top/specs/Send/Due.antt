@@ -7,11 +7,11 @@ use Rattle.node_program.specs.declared.code.Code.{Code}
 use Rattle.top_base.specs.Accepting.{HoldsFileOf}
 use Rattle.top_base.specs.Inputs.{HoldsLong, HoldsShort}
 use Rattle.top_base.specs.Lines.{same_path_line, too_long_line, unknown_pattern_line}
-use Rattle.top_base.specs.Words.{Send}
+use Rattle.top_base.specs.Words.{Send, source_limit}
 use Rattle.top_base.specs.declared.outcome.Outcome.{Outcome}
 use Rattle.top_base.specs.declared.status.Status.{Status}
 use Rattle.top_base.specs.declared.status.Status.TheVariants.{Done, SamePath, TooLong, UnknownPattern}
-use Rattle.lif_top.specs.Send.Given.{IsClear, line_of_sent, outputs_of, pattern_of, shared_of, source_limit}
+use Rattle.lif_top.specs.Send.Given.{IsClear, line_of_sent, outputs_of, pattern_of, shared_of}
 
 -- by what the path of the source holds, by the status and the line
 abbrev pub DueWith : Send → Code → Option (List ℕ) → Status → List ℕ → Type 0

@@ -8,10 +8,6 @@ use Rattle.top_base.specs.Paths.{shared_path}
 use Rattle.lif_top.specs.Paths.{output_paths}
 use Rattle.top_base.specs.Words.{Send}
 
--- the greatest length of a source
-abbrev pub source_limit : ℕ
-source_limit = 67108864
-
 -- the number of the pattern that is named
 abbrev pub pattern_of : Send → Code → Option ℕ
 pattern_of send code = position (λ pattern. bytes_eq pattern.name send.pattern) code.net.patterns

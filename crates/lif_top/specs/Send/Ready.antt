@@ -3,8 +3,8 @@ use Rattle.std.specs.Prelude.{◌≡◌, ◌≤◌, ◌+◌, ℕ, false, List, [
 use Rattle.generation_frame.specs.Blocks.{block_count}
 use Rattle.lif_outside.specs.Files.{AreDistinct}
 use Rattle.node_program.specs.declared.code.Code.{Code}
-use Rattle.lif_top.specs.Send.Given.{IsClear, outputs_of, pattern_of, source_limit}
-use Rattle.top_base.specs.Words.{Send}
+use Rattle.lif_top.specs.Send.Given.{IsClear, outputs_of, pattern_of}
+use Rattle.top_base.specs.Words.{Send, source_limit}
 use Rattle.lif_top.specs.declared.delivery.Delivery.{Delivery}
 use Rattle.lif_top.specs.declared.delivery.SentCounts.{SentCounts}
 use Rattle.lif_top.specs.declared.preparing.Prepared.{Prepared}

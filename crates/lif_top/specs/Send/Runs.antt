@@ -12,12 +12,12 @@ use Rattle.node_program.specs.declared.code.Code.{Code}
 use Rattle.relay_runner.specs.Carried.{packets_given}
 use Rattle.top_base.specs.Inputs.{ReadsAny}
 use Rattle.top_base.specs.Lines.{link_fault_line, out_of_memory_line, read_fault_line, same_path_line, too_long_line, unknown_pattern_line, write_fault_line}
-use Rattle.top_base.specs.Words.{Send}
+use Rattle.top_base.specs.Words.{Send, source_limit}
 use Rattle.top_base.specs.declared.outcome.Outcome.{Outcome}
 use Rattle.top_base.specs.declared.status.Status.{Status}
 use Rattle.top_base.specs.declared.status.Status.TheVariants.{Done, LinkFault, OutOfMemory, ReadFault, SamePath, TooLong, UnknownPattern, WriteFault}
 use Rattle.lif_top.specs.Send.Carried.{Breaks, CarriesFirst, IsOver}
-use Rattle.lif_top.specs.Send.Given.{IsClear, line_of_sent, outputs_of, pattern_in, pattern_of, shared_of, source_limit}
+use Rattle.lif_top.specs.Send.Given.{IsClear, line_of_sent, outputs_of, pattern_in, pattern_of, shared_of}
 use Rattle.lif_top.specs.Send.Turns.{turns_before}
 
 -- how many blocks reads of a source bring: one comes when it is whole, or when the source ended

@@ -8,10 +8,13 @@ use Rattle.node_program.specs.declared.code.Code.{Code}
 use Rattle.node_states.specs.Decoded.{decoded_of}
 use Rattle.node_stations.specs.Opening.{demand_of}
 
--- what the file of a sink gets of a generation: the bytes that the block counts which the sink decodes of the packets that came
+-- what a sink gets of a generation: the bytes that the block counts which the sink decodes of the packets that came
+abbrev pub received_at : Code → ℕ → List Packet → ℕ → ℕ → List ℕ
+received_at code pattern came generation place = counted_bytes (decoded_of code (demand_of code pattern place) came generation)
+
+-- and its file
 abbrev pub part_at : List (List ℕ) → Code → ℕ → List Packet → ℕ → ℕ → Written
-part_at paths code pattern came generation place =
-    (slice_index_or paths place [], counted_bytes (decoded_of code (demand_of code pattern place) came generation))
+part_at paths code pattern came generation place = (slice_index_or paths place [], received_at code pattern came generation place)
 
 abbrev pub has_bytes : Written → Bool
 has_bytes part = nat_lt 0 (length part.1)

@@ -1,12 +1,16 @@
-use Rattle.std.specs.Prelude.{◌≡◌, [], None, map, string_bytes}
+use Rattle.std.specs.Prelude.{◌≡◌, [], None, Option, Some, map, string_bytes}
 use Rattle.std.specs.Option.{option_map}
 use Rattle.std.proofs.Common.{refl, sym, ap, subst, ◌∙◌}
+use Rattle.lif_outside.proofs.CallLaws.{both_on_links}
 use Rattle.lif_outside.specs.Calls.{store_calls}
-use Rattle.top_base.specs.Given.{command_in, compile_given_in}
+use Rattle.top_base.specs.Given.{command_in, compile_given_in, demo_given_in}
 use Rattle.top_base.specs.Lines.{usage_line}
-use Rattle.top_base.specs.Words.{check, command_of, compile, cuts, order}
+use Rattle.top_base.specs.Performs.{RunsOn}
+use Rattle.top_base.specs.Words.{Command, check, command_of, compile, cuts, demo, order}
 use Rattle.top_base.specs.declared.status.Status.TheVariants.{Usage}
+use Rattle.lif_top.specs.Demo.Runs.{RunsDemo}
 use Rattle.lif_top.specs.Promises.{does_form}
+use Rattle.lif_top.specs.Send.Runs.{link_calls}
 use Rattle.lif_top.proofs.CommandLaws.{runs_form}
 use Rattle.lif_top.proofs.program.carry_out.Goals as goal
 
@@ -43,3 +47,15 @@ pub returns-in-Check : goal.returns-in-Check
 returns-in-Check g c =
     runs_form g.S.Store g.L.Links g.met.L.Links.no_moves (map string_bytes c.args.words.now) c.command_of.result c.in-Some.command (check c.in-Check.path.now)
     c.command_of.ensures c.in-Some.is (ap command_in c.in-Check.is) c.args.store.now c.check.new.store c.args.links.now c.check.result c.check.ensures
+
+pub returns-in-Demo : goal.returns-in-Demo
+returns-in-Demo g c =
+    let given = demo_given_in c.in-Demo.given in
+    let faithful = g.L.Links.faithful c.args.links.now in
+    let outcome = c.demo.result in
+    let is : command_of (map string_bytes c.args.words.now) ≡ Some (demo given) =
+    sym c.command_of.ensures ∙ ap (option_map command_in) c.in-Some.is ∙ ap (λ (form : Command). Some form) (ap command_in c.in-Demo.is) in
+    let does : Option Command → Type 0 = λ form. RunsOn g.S.Store g.L.Links (does_form faithful form) c.args.store.now c.args.store.now c.args.links.now c.demo.new.links outcome in
+    subst does (sym is)
+    (both_on_links c.args.store.now (g.met.S.Store.no_calls c.args.store.now) (λ moves. RunsDemo faithful given outcome.status outcome.line (link_calls moves))
+    (RunsDemo faithful given outcome.status outcome.line) c.demo.ensures (λ moves runs. runs))

@@ -18,7 +18,8 @@ use Rattle.lif_top.proofs.GivenLaws.{pattern-at_work, subst-three}
 use Rattle.lif_top.proofs.SendCalls.{no_source, sent, unmade, unsent}
 use Rattle.lif_top.proofs.Turning.{created_there}
 use Rattle.lif_top.specs.Send.Delivering.{DeliversSome, Interrupts}
-use Rattle.lif_top.specs.Send.Given.{outputs_of, pattern_in, source_limit}
+use Rattle.top_base.specs.Words.{source_limit}
+use Rattle.lif_top.specs.Send.Given.{outputs_of, pattern_in}
 use Rattle.lif_top.specs.Send.Ready.{AreCounts, paths_of}
 use Rattle.lif_top.specs.Send.Runs.{RunsCode, behind_open}
 use Rattle.lif_top.proofs.sending.deliver.Goals as goal

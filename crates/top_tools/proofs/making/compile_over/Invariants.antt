@@ -1,4 +1,4 @@
-use Rattle.top_tools.proofs.making.make_over.Given as goal
+use Rattle.top_tools.proofs.making.compile_over.Given as goal
 
 -- the ledger of the blank that is passed
 abbrev pub ghosts-code_in : goal.ghosts-code_in

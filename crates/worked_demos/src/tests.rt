@@ -1,0 +1,5 @@
+//! The lines of `demo`, which networks it takes, and what comes of links that fail.
+mod faults;
+mod networks;
+mod running;
+mod words;
