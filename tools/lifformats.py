@@ -1,0 +1,600 @@
+"""Networks and codes of lif: network texts, code files, the fields, and what the links of a code carry.
+
+The formats are those of docs/FORMATS.md, with the same refusals. Nothing but the standard library is needed.
+"""
+from __future__ import annotations
+
+import dataclasses
+import functools
+import heapq
+import re
+import sys
+from array import array
+from dataclasses import dataclass
+from typing import Callable, Iterable, Iterator, Sequence
+
+MOST_NODES = 4096
+MOST_LINKS = 8192
+MOST_PATTERNS = 4095
+MOST_RATE = 32
+MOST_TEXT_BYTES = 4_194_304
+MOST_CODE_BYTES = 268_435_456
+MOST_SOURCE_BYTES = 67_108_864
+
+# How many demands the field of so many bits serves.
+DEMANDS_SERVED = {8: 256, 16: 65_536}
+
+ROW_BYTES = 1024
+COUNT_BYTES = 4
+PIECES = 8
+FRAME_BYTES = 140
+
+NAME = re.compile(rb"[A-Za-z0-9_.-]{1,32}")
+NONE = "none"
+
+
+@dataclass(frozen=True)
+class Link:
+    """A link, by its name and the numbers of the nodes that it leaves and enters."""
+
+    name: str
+    tail: int
+    head: int
+
+
+@dataclass(frozen=True)
+class Pattern:
+    """Links that fail together, by their numbers, which rise."""
+
+    name: str
+    links: tuple[int, ...]
+
+
+@dataclass(frozen=True)
+class Network:
+    """A network. Pattern 0 is `none`; the field is the one that the text asks for, if it does."""
+
+    nodes: tuple[str, ...]
+    links: tuple[Link, ...]
+    source: int
+    sinks: tuple[int, ...]
+    patterns: tuple[Pattern, ...]
+    field: int | None = None
+
+    def demands(self) -> int:
+        """The number of sinks times that of patterns, with `none`."""
+        return len(self.sinks) * len(self.patterns)
+
+    def demand(self, sink: int, pattern: int) -> int:
+        """The number of a demand, by those of its sink and its pattern."""
+        return sink * len(self.patterns) + pattern
+
+    def links_by(self, end: Callable[[Link], int]) -> list[list[int]]:
+        """For each node the links of which it is the end that is asked for, in rising order."""
+        found: list[list[int]] = [[] for _ in self.nodes]
+        for number, link in enumerate(self.links):
+            found[end(link)].append(number)
+        return found
+
+
+@dataclass(frozen=True)
+class Operand:
+    """What a link adds up: a row of the source or a link into its tail, and the coefficient."""
+
+    origin: int
+    times: int
+
+
+@dataclass(frozen=True)
+class Decoder:
+    """Links into a sink, and the square matrix that gives the source's rows of what they carry, row by row."""
+
+    links: tuple[int, ...]
+    entries: Sequence[int]
+
+
+@dataclass(frozen=True)
+class Code:
+    """A code, as its file says it. Decoders are numbered as demands are: sinks outside, patterns inside."""
+
+    network: Network
+    field: int
+    rate: int
+    operands: tuple[tuple[Operand, ...], ...]
+    decoders: tuple[Decoder, ...]
+
+
+class Refused(Exception):
+    """Why bytes aren't a network text or a code file: the refusal's name, and its line or its place."""
+
+    def __init__(self, name: str, text: str):
+        super().__init__(text)
+        self.name = name
+
+
+# Network texts
+
+
+@dataclass
+class _Draft:
+    """The part of a network that the lines so far say."""
+
+    nodes: dict[bytes, int] = dataclasses.field(default_factory=dict)
+    links: list[Link] = dataclasses.field(default_factory=list)
+    numbers: dict[bytes, int] = dataclasses.field(default_factory=dict)
+    patterns: dict[bytes, Pattern] = dataclasses.field(default_factory=lambda: {NONE.encode(): Pattern(NONE, ())})
+    sinks: dict[int, None] = dataclasses.field(default_factory=dict)
+    source: int | None = None
+    field: int | None = None
+
+
+# Refusals, each with whether it holds.
+_Faults = Iterator[tuple[bool, str]]
+
+
+def read_network(text: bytes) -> Network:
+    """The network of a text, or the refusal of the first line that isn't good."""
+    draft = _Draft()
+    lines = text.split(b"\n")
+    for number, line in enumerate(lines[:-1] if lines[-1] == b"" else lines, start=1):
+        _read_line(draft, number, line)
+    return _whole(draft)
+
+
+def _read_line(draft: _Draft, number: int, line: bytes) -> None:
+    rest = line.removesuffix(b"\r").split(b"#", 1)[0]
+    words = [word for word in re.split(rb"[ \t]+", rest) if word]
+    for holds, name in _line_faults(draft, rest, words):
+        if holds:
+            shown = rest.decode("ascii", "backslashreplace").strip()
+            raise Refused(name, f"line {number}: {name}: {shown}")
+    if words:
+        _add(draft, words)
+
+
+def _line_faults(draft: _Draft, rest: bytes, words: list[bytes]) -> _Faults:
+    """The refusals of a line in their order; one is asked for only where none before it holds."""
+    yield re.fullmatch(rb"[\t -~]*", rest) is None, "BadByte"
+    if not words:
+        return
+    yield not _has_form(words), "BadLine"
+    kind, names = words[0], words[1:]
+    if kind == b"field":
+        yield draft.field is not None, "SecondField"
+        return
+    yield not all(NAME.fullmatch(name) for name in names), "BadName"
+    yield from {b"source": _source_faults, b"sink": _sink_faults, b"link": _link_faults, b"pattern": _pattern_faults}[
+        kind
+    ](draft, names)
+
+
+def _has_form(words: list[bytes]) -> bool:
+    counts = {b"field": 2, b"source": 2, b"sink": 2, b"link": 4}
+    if words[0] == b"pattern":
+        return len(words) >= 3
+    return counts.get(words[0]) == len(words) and (words[0] != b"field" or words[1] in (b"8", b"16"))
+
+
+def _too_many_nodes(draft: _Draft, names: Iterable[bytes]) -> bool:
+    return len(draft.nodes.keys() | set(names)) > MOST_NODES
+
+
+def _source_faults(draft: _Draft, names: list[bytes]) -> _Faults:
+    yield draft.source is not None, "SecondSource"
+    yield _too_many_nodes(draft, names), "TooMany Nodes"
+
+
+def _sink_faults(draft: _Draft, names: list[bytes]) -> _Faults:
+    yield draft.nodes.get(names[0]) in draft.sinks, "DuplicateSink"
+    yield _too_many_nodes(draft, names), "TooMany Nodes"
+
+
+def _link_faults(draft: _Draft, names: list[bytes]) -> _Faults:
+    name, tail, head = names
+    yield name in draft.numbers, "DuplicateLink"
+    yield tail == head, "SelfLoop"
+    yield _too_many_nodes(draft, (tail, head)), "TooMany Nodes"
+    yield len(draft.links) >= MOST_LINKS, "TooMany Links"
+
+
+def _pattern_faults(draft: _Draft, names: list[bytes]) -> _Faults:
+    name, links = names[0], names[1:]
+    yield name in draft.patterns, "DuplicatePattern"
+    yield not all(link in draft.numbers for link in links), "UnknownLink"
+    yield len(set(links)) < len(links), "RepeatedLink"
+    yield len(draft.patterns) > MOST_PATTERNS, "TooMany Patterns"
+
+
+def _add(draft: _Draft, words: list[bytes]) -> None:
+    """Adds what a good line says."""
+    kind, names = words[0], words[1:]
+
+    def node(name: bytes) -> int:
+        return draft.nodes.setdefault(name, len(draft.nodes))
+
+    if kind == b"field":
+        draft.field = int(names[0])
+    elif kind == b"source":
+        draft.source = node(names[0])
+    elif kind == b"sink":
+        draft.sinks[node(names[0])] = None
+    elif kind == b"link":
+        tail = node(names[1])
+        draft.numbers[names[0]] = len(draft.links)
+        draft.links.append(Link(names[0].decode(), tail, node(names[2])))
+    else:
+        draft.patterns[names[0]] = Pattern(names[0].decode(), tuple(sorted(draft.numbers[link] for link in names[1:])))
+
+
+def _whole(draft: _Draft) -> Network:
+    nodes = tuple(name.decode() for name in draft.nodes)
+    if draft.source is None:
+        raise Refused("NoSource", "NoSource")
+    if not draft.sinks:
+        raise Refused("NoSink", "NoSink")
+    if draft.source in draft.sinks:
+        raise Refused("SinkIsSource", f"SinkIsSource {nodes[draft.source]}")
+    return Network(
+        nodes, tuple(draft.links), draft.source, tuple(draft.sinks), tuple(draft.patterns.values()), draft.field
+    )
+
+
+def order_of(network: Network) -> list[int]:
+    """The links in order, each after all links into its tail, always the least one next.
+
+    There are fewer than all where there is a cycle.
+    """
+    out, into = network.links_by(lambda link: link.tail), network.links_by(lambda link: link.head)
+    missing = [len(links) for links in into]
+    ready = [link for node, links in enumerate(out) if missing[node] == 0 for link in links]
+    heapq.heapify(ready)
+    order = []
+    while ready:
+        order.append(heapq.heappop(ready))
+        head = network.links[order[-1]].head
+        missing[head] -= 1
+        if missing[head] == 0:
+            for link in out[head]:
+                heapq.heappush(ready, link)
+    return order
+
+
+def cycle_of(network: Network) -> list[int] | None:
+    """The links of a cycle, from its least one on, where there is a cycle."""
+    left = sorted(set(range(len(network.links))) - set(order_of(network)))
+    if not left:
+        return None
+    # Each link that is left has one that is left before it: whoever goes back long enough goes round.
+    before: dict[int, int] = {}
+    for link in left:
+        before.setdefault(network.links[link].head, link)
+    way, link = [], left[0]
+    while link not in way:
+        way.append(link)
+        link = before[network.links[link].tail]
+    cycle = way[way.index(link) :][::-1]
+    least = cycle.index(min(cycle))
+    return cycle[least:] + cycle[:least]
+
+
+# Code files
+
+
+class _Items:
+    """The items of a code file, one after another."""
+
+    def __init__(self, content: bytes):
+        self.content = content
+        self.at = 0
+        # The place of the item that was read last.
+        self.begin = 0
+
+    def take(self, size: int) -> bytes:
+        """The bytes of the next item."""
+        self.begin = self.at
+        self.at += size
+        if self.at > len(self.content):
+            raise self.refused("Truncated")
+        return self.content[self.begin : self.at]
+
+    def number(self, size: int = 2) -> int:
+        return int.from_bytes(self.take(size), "big")
+
+    def name(self, earlier: Iterable[str]) -> str:
+        """A name that none of the earlier ones is."""
+        length = self.number(1)
+        self.at = self.begin
+        name = self.take(1 + length)[1:]
+        self.require(NAME.fullmatch(name) is not None and name.decode() not in earlier, "BadName")
+        return name.decode()
+
+    def refused(self, name: str, place: int | None = None) -> Refused:
+        bare = name in ("BadMagic", "BadVersion", "BadField", "BadRate")
+        return Refused(name, name if bare else f"{name} {self.begin if place is None else place}")
+
+    def require(self, holds: bool, name: str, place: int | None = None) -> None:
+        if not holds:
+            raise self.refused(name, place)
+
+
+def read_code(content: bytes) -> Code:
+    """The code of a file, or the refusal of the first item that isn't good."""
+    items = _Items(content)
+    field, rate = _read_front(items)
+    nodes = _read_nodes(items)
+    links = _read_links(items, len(nodes))
+    source = _read_source(items, len(nodes))
+    sinks = _read_sinks(items, len(nodes), source)
+    patterns = _read_patterns(items, len(links), len(sinks))
+    network = Network(nodes, links, source, sinks, patterns, field)
+    code = Code(
+        network, field, rate, _read_operands(items, network, field, rate), _read_decoders(items, network, field, rate)
+    )
+    items.begin = items.at
+    items.require(items.at == len(content), "TrailingBytes")
+    return code
+
+
+def _read_front(items: _Items) -> tuple[int, int]:
+    items.require(items.take(4) == b"LIFC", "BadMagic")
+    items.require(items.number(1) == 1, "BadVersion")
+    field = items.number(1)
+    items.require(field in DEMANDS_SERVED, "BadField")
+    rate = items.number(1)
+    items.require(1 <= rate <= MOST_RATE, "BadRate")
+    return field, rate
+
+
+def _read_nodes(items: _Items) -> tuple[str, ...]:
+    count = items.number()
+    items.require(count <= MOST_NODES, "TooMany")
+    nodes: dict[str, None] = {}
+    for _ in range(count):
+        nodes[items.name(nodes)] = None
+    return tuple(nodes)
+
+
+def _read_links(items: _Items, nodes: int) -> tuple[Link, ...]:
+    count = items.number()
+    items.require(count <= MOST_LINKS, "TooMany")
+    links: dict[str, Link] = {}
+    tails = set()
+    for number in range(count):
+        name = items.name(links)
+        tail = items.number()
+        items.require(tail < nodes, "BadIndex")
+        tails.add(tail)
+        head = items.number()
+        items.require(head < nodes, "BadIndex")
+        items.require(head not in tails, "OutOfOrder", number)
+        links[name] = Link(name, tail, head)
+    return tuple(links.values())
+
+
+def _read_source(items: _Items, nodes: int) -> int:
+    source = items.number()
+    items.require(source < nodes, "BadIndex")
+    return source
+
+
+def _read_sinks(items: _Items, nodes: int, source: int) -> tuple[int, ...]:
+    count = items.number()
+    items.require(count > 0, "BadIndex")
+    items.require(count <= MOST_NODES, "TooMany")
+    sinks: dict[int, None] = {}
+    for _ in range(count):
+        node = items.number()
+        items.require(node < nodes and node != source and node not in sinks, "BadIndex")
+        sinks[node] = None
+    return tuple(sinks)
+
+
+def _read_patterns(items: _Items, links: int, sinks: int) -> tuple[Pattern, ...]:
+    count = items.number()
+    items.require(count <= MOST_PATTERNS and sinks * (count + 1) <= DEMANDS_SERVED[16], "TooMany")
+    patterns = {NONE: Pattern(NONE, ())}
+    for _ in range(count):
+        name = items.name(patterns)
+        size = items.number()
+        items.require(size > 0, "BadIndex")
+        items.require(size <= links, "TooMany")
+        failed: list[int] = []
+        for _ in range(size):
+            link = items.number()
+            items.require(link < links, "BadIndex")
+            items.require(not failed or link > failed[-1], "NotRising")
+            failed.append(link)
+        patterns[name] = Pattern(name, tuple(failed))
+    return tuple(patterns.values())
+
+
+def _read_operands(items: _Items, network: Network, field: int, rate: int) -> tuple[tuple[Operand, ...], ...]:
+    return tuple(_operands_of_link(items, network, field, rate, link) for link in network.links)
+
+
+def _operands_of_link(items: _Items, network: Network, field: int, rate: int, link: Link) -> tuple[Operand, ...]:
+    count = items.number()
+    items.require(count <= MOST_LINKS, "TooMany")
+    operands: list[Operand] = []
+    for _ in range(count):
+        origin = items.number()
+        items.require(not operands or origin > operands[-1].origin, "NotRising")
+        if link.tail == network.source:
+            items.require(origin < rate, "BadOperand")
+        else:
+            items.require(origin < len(network.links) and network.links[origin].head == link.tail, "BadOperand")
+        times = items.number(field // 8)
+        items.require(times != 0, "ZeroCoefficient")
+        operands.append(Operand(origin, times))
+    return tuple(operands)
+
+
+def _read_decoders(items: _Items, network: Network, field: int, rate: int) -> tuple[Decoder, ...]:
+    return tuple(
+        _decoder_of_sink(items, network, field, rate, sink) for sink in network.sinks for _ in network.patterns
+    )
+
+
+def _decoder_of_sink(items: _Items, network: Network, field: int, rate: int, sink: int) -> Decoder:
+    links: list[int] = []
+    for _ in range(rate):
+        link = items.number()
+        items.require(not links or link > links[-1], "NotRising")
+        items.require(link < len(network.links) and network.links[link].head == sink, "BadOperand")
+        links.append(link)
+    return Decoder(tuple(links), _read_entries(items, field // 8, rate * rate))
+
+
+def _read_entries(items: _Items, size: int, count: int) -> Sequence[int]:
+    """So many elements. Where they aren't all there, the place is that of the first one that isn't."""
+    there = (len(items.content) - items.at) // size
+    if there < count:
+        items.take(there * size)
+        items.take(size)
+    content = items.take(count * size)
+    if size == 1:
+        return content
+    entries = array("H", content)
+    if sys.byteorder == "little":
+        entries.byteswap()
+    return entries
+
+
+# Fields
+
+
+@functools.cache
+def _octet_tables() -> tuple[list[int], list[int]]:
+    """The powers of 2 in the field of 256 elements, twice round, and the logarithm of each element but 0."""
+    powers, logarithms = [1], [0] * 256
+    for power in range(1, 510):
+        double = powers[-1] << 1
+        powers.append(double ^ 0x11D if double > 255 else double)
+    for power in range(255):
+        logarithms[powers[power]] = power
+    return powers, logarithms
+
+
+def octet_product(one: int, other: int) -> int:
+    """The product in the field of 256 elements: that of polynomials, reduced by x^8 + x^4 + x^3 + x^2 + 1."""
+    if one == 0 or other == 0:
+        return 0
+    powers, logarithms = _octet_tables()
+    return powers[logarithms[one] + logarithms[other]]
+
+
+def pair_product(one: int, other: int) -> int:
+    """The product in the field of 65,536 elements, of pairs `low + high*y` with `y*y = y + 0x20`."""
+    a, b, c, d = one & 255, one >> 8, other & 255, other >> 8
+    highs = octet_product(b, d)
+    low = octet_product(a, c) ^ octet_product(0x20, highs)
+    high = octet_product(a, d) ^ octet_product(b, c) ^ highs
+    return high << 8 | low
+
+
+def product_of(field: int) -> Callable[[int, int], int]:
+    """The product of the field of so many bits."""
+    return octet_product if field == 8 else pair_product
+
+
+# What links carry
+
+
+Vector = tuple[int, ...]
+
+
+def unit_vector(rate: int, row: int) -> Vector:
+    """What carries a row of the source as it is."""
+    return tuple(int(column == row) for column in range(rate))
+
+
+def combination(field: int, rate: int, terms: Iterable[tuple[int, Vector]]) -> Vector:
+    """The sum of vectors, each times its coefficient."""
+    product = product_of(field)
+    total = [0] * rate
+    for times, vector in terms:
+        for place, element in enumerate(vector):
+            total[place] ^= product(times, element)
+    return tuple(total)
+
+
+def live_links(code: Code, pattern: int) -> list[bool]:
+    """For each link whether it is live where the pattern's links fail.
+
+    It is where it doesn't fail itself, and some operand is a row of the source or a live link.
+    """
+    network = code.network
+    live: list[bool] = []
+    failed = set(network.patterns[pattern].links)
+    for number, link in enumerate(network.links):
+        live.append(
+            number not in failed
+            and any(link.tail == network.source or live[operand.origin] for operand in code.operands[number])
+        )
+    return live
+
+
+def vectors_of(code: Code, pattern: int) -> list[Vector]:
+    """For each link the coefficients of the source's rows in what it carries where the pattern's links fail."""
+    network = code.network
+    vectors: list[Vector] = []
+    failed = set(network.patterns[pattern].links)
+    for number, link in enumerate(network.links):
+        operands = () if number in failed else code.operands[number]
+        vectors.append(
+            combination(
+                code.field,
+                code.rate,
+                (
+                    (
+                        operand.times,
+                        unit_vector(code.rate, operand.origin)
+                        if link.tail == network.source
+                        else vectors[operand.origin],
+                    )
+                    for operand in operands
+                ),
+            )
+        )
+    return vectors
+
+
+def first_wrong_entry(code: Code, decoder: Decoder, vectors: Sequence[Vector]) -> tuple[int, int, int] | None:
+    """Where a decoder's matrix times its links' vectors first differs from the identity: the row, the column, the element.
+
+    There is none where the decoder gives back every block.
+    """
+    rate = code.rate
+    for row in range(rate):
+        entries = decoder.entries[row * rate : (row + 1) * rate]
+        found = combination(code.field, rate, zip(entries, (vectors[link] for link in decoder.links)))
+        for column, element in enumerate(found):
+            if element != int(row == column):
+                return row, column, element
+    return None
+
+
+def check_failure(code: Code) -> str | None:
+    """The first demand that fails and its first wrong entry, as `lif check` says them; none for an accepted code."""
+    network = code.network
+    vectors = [vectors_of(code, pattern) for pattern in range(len(network.patterns))]
+    for sink, node in enumerate(network.sinks):
+        for number, pattern in enumerate(network.patterns):
+            wrong = first_wrong_entry(code, code.decoders[network.demand(sink, number)], vectors[number])
+            if wrong is not None:
+                row, column, found = wrong
+                return f"demand {network.nodes[node]} {pattern.name} row {row} column {column} found {found}"
+    return None
+
+
+# Blocks
+
+
+def capacity(rate: int) -> int:
+    """How many bytes of a file a block has room for."""
+    return rate * ROW_BYTES - COUNT_BYTES
+
+
+def generations(rate: int, length: int) -> int:
+    """How many blocks a file of so many bytes has."""
+    return length // capacity(rate) + 1

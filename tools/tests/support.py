@@ -1,0 +1,130 @@
+"""What the tests share: the tools as commands and as modules, the program, and code files that are written here."""
+from __future__ import annotations
+
+import importlib.machinery
+import importlib.util
+import itertools
+import os
+import subprocess
+import sys
+from pathlib import Path
+from types import ModuleType
+
+TOOLS = Path(__file__).resolve().parent.parent
+TOP = TOOLS.parent
+EXAMPLES = TOP / "examples"
+
+sys.path.insert(0, str(TOOLS))
+
+from lifformats import Code, Network, Pattern  # noqa: E402
+
+
+def run_tool(name: str, *words: object, **options: object) -> subprocess.CompletedProcess[str]:
+    """A tool that has ended, with what it said."""
+    return subprocess.run([str(TOOLS / name), *map(str, words)], capture_output=True, text=True, check=False, **options)
+
+
+def without_packages(name: str, *words: object) -> subprocess.CompletedProcess[str]:
+    """The same where Python has its standard library alone, and no folder has programs."""
+    return subprocess.run(
+        [find_python(name), "-S", str(TOOLS / name), *map(str, words)],
+        capture_output=True,
+        text=True,
+        check=False,
+        env={"PATH": ""},
+    )
+
+
+def find_python(name: str) -> str:
+    """The interpreter that a tool names."""
+    return (TOOLS / name).read_text().splitlines()[0].removeprefix("#!")
+
+
+def tool_module(name: str) -> ModuleType:
+    """A tool as a module."""
+    loader = importlib.machinery.SourceFileLoader(name.replace("-", "_"), str(TOOLS / name))
+    spec = importlib.util.spec_from_loader(loader.name, loader)
+    assert spec is not None
+    made = importlib.util.module_from_spec(spec)
+    sys.modules[loader.name] = made
+    loader.exec_module(made)
+    return made
+
+
+def find_program() -> list[str] | None:
+    """The program: what LIF_PROGRAM names, or the script `lif` where it has built one of the source as it is."""
+    named = os.environ.get("LIF_PROGRAM")
+    if named:
+        return [named]
+    built = [path.stat().st_mtime for path in (TOP / "crates/lif_cli/out").glob("lif-x86-64-*")]
+    sources = [path.stat().st_mtime for path in TOP.glob("crates/*/src/*")]
+    return [str(TOP / "lif")] if built and max(built) > max(sources) else None
+
+
+def network_of(
+    source: int, sinks: tuple[int, ...], ends: list[tuple[int, int]], patterns: list[tuple[int, ...]] = []
+) -> Network:
+    """A network of links with these tails and heads."""
+    from lifformats import Link
+
+    count = max(max(pair) for pair in ends) + 1
+    links = tuple(Link(f"l{place}", tail, head) for place, (tail, head) in enumerate(ends))
+    listed = tuple(Pattern(f"p{place}", failed) for place, failed in enumerate(patterns, start=1))
+    return Network(tuple(f"n{node}" for node in range(count)), links, source, sinks, (Pattern("none", ()), *listed))
+
+
+def text_of(network: Network) -> str:
+    """The text of a network."""
+    names = network.nodes
+    lines = [f"source {names[network.source]}"] + [f"sink {names[sink]}" for sink in network.sinks]
+    lines += [f"link {link.name} {names[link.tail]} {names[link.head]}" for link in network.links]
+    lines += [
+        f"pattern {pattern.name} " + " ".join(network.links[link].name for link in pattern.links)
+        for pattern in network.patterns[1:]
+    ]
+    return "\n".join(lines) + "\n"
+
+
+def combination_text(middles: int, size: int) -> str:
+    """The text of the network with a sink behind each so many of the middle nodes, as `lif demo` makes it."""
+    chosen = list(itertools.combinations(range(1, middles + 1), size))
+    lines = ["source s"] + [f"sink t{sink}" for sink in range(1, len(chosen) + 1)]
+    lines += [f"link a{node} s m{node}" for node in range(1, middles + 1)]
+    lines += [f"link b{sink}-{node} m{node} t{sink}" for sink, nodes in enumerate(chosen, start=1) for node in nodes]
+    return "\n".join(lines) + "\n"
+
+
+def layers_text(count: int, width: int) -> str:
+    """The text of a network of layers, with all links between one and the next; the last is that of the sinks."""
+    lines = ["source s"] + [f"sink n{count - 1}-{sink}" for sink in range(width)]
+    lines += [f"link s-{head} s n0-{head}" for head in range(width)]
+    lines += [
+        f"link l{layer}-{tail}-{head} n{layer}-{tail} n{layer + 1}-{head}"
+        for layer in range(count - 1)
+        for tail in range(width)
+        for head in range(width)
+    ]
+    return "\n".join(lines) + "\n"
+
+
+def bytes_of(code: Code) -> bytes:
+    """The file of a code, as docs/FORMATS.md spells it."""
+    network, size = code.network, code.field // 8
+
+    def name(text: str) -> bytes:
+        return bytes([len(text)]) + text.encode()
+
+    def two(*numbers: int) -> bytes:
+        return b"".join(number.to_bytes(2, "big") for number in numbers)
+
+    parts = [b"LIFC", bytes([1, code.field, code.rate]), two(len(network.nodes)), *map(name, network.nodes)]
+    parts += [two(len(network.links))] + [name(link.name) + two(link.tail, link.head) for link in network.links]
+    parts += [two(network.source, len(network.sinks), *network.sinks), two(len(network.patterns) - 1)]
+    parts += [name(pattern.name) + two(len(pattern.links), *pattern.links) for pattern in network.patterns[1:]]
+    for operands in code.operands:
+        parts += [two(len(operands))] + [
+            two(operand.origin) + operand.times.to_bytes(size, "big") for operand in operands
+        ]
+    for decoder in code.decoders:
+        parts += [two(*decoder.links)] + [entry.to_bytes(size, "big") for entry in decoder.entries]
+    return b"".join(parts)

@@ -1,0 +1,265 @@
+"""lif-draw: what a drawing says, by its texts and strokes, and what is refused."""
+from __future__ import annotations
+
+import re
+from pathlib import Path
+from xml.etree import ElementTree
+
+import pytest
+
+from support import EXAMPLES, bytes_of, run_tool, without_packages
+from lifformats import Code, Decoder, Operand, read_code, read_network
+
+NET, CODE = EXAMPLES / "butterfly/butterfly.net", EXAMPLES / "butterfly/butterfly.lif"
+REGIONAL = EXAMPLES / "regional/regional.net"
+SVG = "{http://www.w3.org/2000/svg}"
+
+# A network in which a link fails under a pattern, and one behind it carries nothing then, and the code of it.
+FAILING = b"source s\nsink t\nlink u s a\nlink w s c\nlink v a c\nlink z c t\npattern f u\n"
+
+
+def failing_code() -> bytes:
+    operands = ((Operand(0, 1),), (Operand(0, 1),), (Operand(0, 1),), (Operand(1, 1), Operand(2, 2)))
+    return bytes_of(Code(read_network(FAILING), 8, 1, operands, (Decoder((3,), (0xF4,)), Decoder((3,), (1,)))))
+
+
+def drawn(*words: object) -> str:
+    done = run_tool("lif-draw", *words, "-o", "-")
+    assert (done.returncode, done.stderr) == (0, "")
+    return done.stdout
+
+
+def texts(svg: str) -> list[str]:
+    """The texts of a drawing, as often as they stand there."""
+    return sorted(text.text or "" for text in ElementTree.fromstring(svg).iter(f"{SVG}text"))
+
+
+def strokes(svg: str) -> dict[str, dict[str, str]]:
+    """For each link, by its label, how its line is drawn."""
+    found = {}
+    for group in ElementTree.fromstring(svg).iter(f"{SVG}g"):
+        if group.get("class") == "edge":
+            label = group.find(f"{SVG}text").text
+            found[label.split(":")[0]] = dict(group.find(f"{SVG}path").attrib, label=label)
+    return found
+
+
+def filled(svg: str) -> set[str]:
+    """The nodes of the side."""
+    found = set()
+    for group in ElementTree.fromstring(svg).iter(f"{SVG}g"):
+        if group.get("class") == "node" and any(part.get("fill") == "#fde9c9" for part in group):
+            found.add(group.find(f"{SVG}title").text)
+    return found
+
+
+def test_the_butterfly_with_its_code() -> None:
+    svg = drawn(NET, "--code", CODE)
+    assert texts(svg) == sorted(
+        [
+            "s",
+            "a",
+            "b",
+            "c",
+            "d",
+            "t1",
+            "x0 = a-t1",
+            "x1 = a-t1 + d-t1",
+            "t2",
+            "x0 = b-t2 + d-t2",
+            "x1 = b-t2",
+            "s-a: x0",
+            "s-b: x1",
+            "a-t1: x0",
+            "b-t2: x1",
+            "a-c: x0",
+            "b-c: x1",
+            "c-d: x0 + x1",
+            "d-t1: x0 + x1",
+            "d-t2: x0 + x1",
+            "demand t1 none cut 2",
+        ]
+    )
+    lines = strokes(svg)
+    assert filled(svg) == {"s"}
+    assert {name for name, line in lines.items() if line.get("stroke-width") == "4"} == {"s-a", "s-b"}
+    assert {name for name, line in lines.items() if line["stroke"] == "#1f6fb4"} == {"s-a", "a-t1"}
+    assert {name for name, line in lines.items() if line["stroke"] == "#c2610c"} == {"s-b", "b-c", "c-d", "d-t1"}
+    assert "<!--" not in svg and "DOCTYPE" not in svg
+
+
+def test_another_sink_and_another_pattern() -> None:
+    svg = drawn(REGIONAL, "--sink", "edge-west", "--pattern", "duct-2")
+    lines = strokes(svg)
+    assert "demand edge-west duct-2 cut 2" in texts(svg)
+    assert {line["label"] for line in lines.values() if "stroke-dasharray" in line} == {
+        "coreA-agg2: fails",
+        "coreB-agg2: fails",
+    }
+    assert {name for name, line in lines.items() if line["stroke"] == "#c2610c"} == {
+        "head-coreB",
+        "coreB-agg3",
+        "agg3-west",
+    }
+
+
+def test_failed_and_dead_links_are_dashed(tmp_path: Path) -> None:
+    net, code = tmp_path / "one.net", tmp_path / "one.lif"
+    net.write_bytes(FAILING)
+    code.write_bytes(failing_code())
+    lines = strokes(drawn(net, "--code", code, "--pattern", "f"))
+    assert {line["label"]: "stroke-dasharray" in line for line in lines.values()} == {
+        "u: fails": True,
+        "v: nothing": True,
+        "w: x0": False,
+        "z: x0": False,
+    }
+    assert {line["label"] for line in strokes(drawn(net, "--code", code)).values()} == {
+        "u: x0",
+        "v: x0",
+        "w: x0",
+        "z: 3 x0",
+    }
+
+
+def test_flow_and_cut_are_those_of_the_report(tmp_path: Path) -> None:
+    report = tmp_path / "one.txt"
+    report.write_text(
+        "rate 2\ndemand t1 none cut 2\nside s t2 a b c d\ncross a-t1 d-t1\npath s-a a-t1\npath s-b b-c c-d d-t1\n"
+        "demand t2 none cut 2\nside s\ncross s-a s-b\npath s-a a-c c-d d-t2\npath s-b b-t2\n"
+    )
+    svg = drawn(NET, "--report", report)
+    assert filled(svg) == {"s", "t2", "a", "b", "c", "d"}
+    assert {name for name, line in strokes(svg).items() if line.get("stroke-width") == "4"} == {"a-t1", "d-t1"}
+    lines = strokes(drawn(NET, "--report", report, "--sink", "t2"))
+    assert lines["a-c"]["stroke"] == "#1f6fb4"
+
+
+FLOW = "path s-a a-t1\npath s-b b-c c-d d-t1\n"
+
+REFUSED_REPORTS = [
+    ("rate 1\n", "no line `demand t1 none cut ..`; the report is that of another network"),
+    ("rate 1\ndemand t1 none cut 1\nside s\ncross q\n", "line 4: q isn't in the network"),
+    ("demand t1 none cut 1\nside s\n", "line 1: a demand has one line `side` and one line `cross`"),
+    ("demand t1 none cut 2\nside s\ncross s-a\n" + FLOW, "line 1: the cut isn't the links that leave the side"),
+    (
+        "demand t1 none cut 2\nside s t1\ncross s-a s-b\n" + FLOW,
+        "line 1: the side doesn't part the sink from the source",
+    ),
+    (
+        "demand t1 none cut 2\nside s\ncross s-a s-b\npath s-a a-t1\n",
+        "line 1: there aren't as many paths as links in the cut",
+    ),
+    (
+        "demand t1 none cut 2\nside s\ncross s-a s-b\n" + FLOW.replace("c-d ", ""),
+        "line 1: a path doesn't lead from the source to the sink",
+    ),
+    (
+        "demand t1 none cut 2\nside s\ncross s-a s-b\n" + 2 * "path s-a a-t1\n",
+        "line 1: a link stands on two paths, or fails",
+    ),
+]
+
+
+@pytest.mark.parametrize("text, said", REFUSED_REPORTS)
+def test_a_report_that_shows_no_least_cut_is_refused(tmp_path: Path, text: str, said: str) -> None:
+    report = tmp_path / "one.txt"
+    report.write_text(text)
+    done = run_tool("lif-draw", NET, "--report", report, "-o", "-")
+    assert (done.returncode, done.stderr) == (1, f"lif-draw: {report}: {said}\n")
+
+
+def test_a_code_of_another_network_is_refused(tmp_path: Path) -> None:
+    done = run_tool("lif-draw", REGIONAL, "--code", CODE, "-o", "-")
+    assert done.stderr == f"lif-draw: {CODE}: the code is one of another network: it has no source headend\n"
+    net = tmp_path / "one.net"
+    for more, said in (
+        ("link k c d\n", "it has no link k from c to d"),
+        ("pattern f c-d\n", "it has no pattern f c-d"),
+    ):
+        net.write_text(NET.read_text() + more)
+        assert run_tool("lif-draw", net, "--code", CODE, "-o", "-").stderr.endswith(f"another network: {said}\n")
+    net.write_text(NET.read_text().replace("link d-t2 d t2\n", ""))
+    assert run_tool("lif-draw", net, "--code", CODE, "-o", "-").stderr.endswith(
+        "the text has no link d-t2 from d to t2\n"
+    )
+
+
+def test_a_code_that_does_not_decode_is_refused(tmp_path: Path) -> None:
+    path = tmp_path / "wrong.lif"
+    path.write_bytes(CODE.read_bytes()[:-1] + b"\1")
+    done = run_tool("lif-draw", NET, "--code", path, "-o", "-")
+    assert done.stderr == f"lif-draw: {path}: check failed: demand t2 none row 1 column 0 found 1\n"
+
+
+def test_long_sums_are_told_by_their_size(tmp_path: Path) -> None:
+    net, code = tmp_path / "wide.net", tmp_path / "wide.lif"
+    net.write_text("source s\nsink t\n" + "".join(f"link l{link} s t\n" for link in range(8)))
+    operands = tuple((Operand(link, 1),) for link in range(7)) + (tuple(Operand(row, 2) for row in range(7)),)
+    entries = [int(row == column) for row in range(7) for column in range(7)]
+    code.write_bytes(
+        bytes_of(Code(read_network(net.read_bytes()), 8, 7, operands, (Decoder(tuple(range(7)), entries),)))
+    )
+    found = texts(drawn(net, "--code", code))
+    assert "l7: a sum of 7" in found and "x0 .. x6 of 7 links" in found
+
+
+def test_the_examples_are_drawn(program, tmp_path: Path) -> None:
+    """The drawings of examples/ are those that the tool makes, but for where graphviz puts things."""
+    for folder, name, words in (
+        ("regional", "flow", ("--sink", "edge-west", "--pattern", "duct-2")),
+        (
+            "polska",
+            "polska",
+            (
+                "--sink",
+                "Katowice",
+            ),
+        ),
+    ):
+        net = EXAMPLES / folder / f"{folder}.net"
+        code, report = tmp_path / f"{folder}.lif", tmp_path / f"{folder}.txt"
+        assert program("compile", net, code, report).returncode == 0
+        svg = drawn(net, "--code", code, "--report", report, *words)
+        kept = (EXAMPLES / folder / f"{name}.svg").read_text()
+        assert (texts(svg), filled(svg)) == (texts(kept), filled(kept))
+
+
+def test_the_butterfly_is_drawn() -> None:
+    kept = (EXAMPLES / "butterfly/butterfly.svg").read_text()
+    svg = drawn(NET, "--code", CODE)
+    assert (texts(svg), filled(svg)) == (texts(kept), filled(kept))
+
+
+def test_the_program_s_code_carries_what_is_drawn(program, tmp_path: Path) -> None:
+    code, report = tmp_path / "made.lif", tmp_path / "made.txt"
+    assert program("compile", REGIONAL, code, report).returncode == 0
+    made = read_code(code.read_bytes())
+    for pattern in made.network.patterns:
+        svg = drawn(REGIONAL, "--code", code, "--report", report, "--pattern", pattern.name)
+        assert sum(text.endswith(": fails") for text in texts(svg)) == len(pattern.links)
+        assert sum(re.match(r"x[01] = ", text) is not None for text in texts(svg)) == 8
+
+
+def test_nothing_that_is_read_is_written_over(tmp_path: Path) -> None:
+    net = tmp_path / "one.net"
+    net.write_bytes(NET.read_bytes())
+    assert run_tool("lif-draw", net, "-o", net).stderr == f"lif-draw: {net}: it is read, and isn't written over\n"
+    assert net.read_bytes() == NET.read_bytes()
+
+
+def test_misuse_and_unknown_names() -> None:
+    assert run_tool("lif-draw", NET).returncode == 2
+    assert (
+        run_tool("lif-draw", NET, "-o", "-", "--pattern", "f").stderr
+        == "lif-draw: unknown pattern: f; there are none\n"
+    )
+    assert run_tool("lif-draw", NET, "-o", "-", "--sink", "s").stderr == "lif-draw: unknown sink: s; there are t1, t2\n"
+
+
+def test_graphviz_is_named_where_it_is_missing() -> None:
+    done = without_packages("lif-draw", NET, "-o", "-")
+    assert (done.returncode, done.stdout) == (1, "")
+    assert (
+        done.stderr == "lif-draw: there is no program dot in the folders of PATH; on Debian: apt-get install graphviz\n"
+    )

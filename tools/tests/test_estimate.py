@@ -1,0 +1,136 @@
+"""lif-estimate: the numbers of codes that are counted by hand, and of what the program sends."""
+from __future__ import annotations
+
+import re
+import shutil
+import subprocess
+from pathlib import Path
+
+import pytest
+
+from support import EXAMPLES, bytes_of, find_program, layers_text, run_tool, without_packages
+from lifformats import Code, Decoder, Link, Network, Operand, Pattern, octet_product, read_network
+
+CODE = EXAMPLES / "butterfly/butterfly.lif"
+
+FAILING = b"source s\nsink t\nlink u s a\nlink w s c\nlink v a c\nlink z c t\npattern f u\n"
+
+
+def said(path: Path, *words: object) -> list[str]:
+    done = run_tool("lif-estimate", path, *words)
+    assert (done.returncode, done.stderr) == (0, "")
+    return done.stdout.splitlines()
+
+
+def fan(rate: int, middles: int, sinks: int) -> Code:
+    """A link from the source to each middle node carries the sum of all rows, and each sink has links from as many middle
+    nodes as the rate. The decoders don't decode."""
+    nodes = ("s", *(f"m{node}" for node in range(middles)), *(f"t{node}" for node in range(sinks)))
+    first = tuple(Link(f"a{node}", 0, 1 + node) for node in range(middles))
+    second = tuple(
+        Link(f"b{sink}-{node}", 1 + (sink + node) % middles, 1 + middles + sink)
+        for sink in range(sinks)
+        for node in range(rate)
+    )
+    network = Network(nodes, first + second, 0, tuple(range(1 + middles, 1 + middles + sinks)), (Pattern("none", ()),))
+    operands = [tuple(Operand(row, 1) for row in range(rate)) for _ in first]
+    operands += [(Operand(link.tail - 1, 1),) for link in second]
+    decoders = tuple(
+        Decoder(tuple(range(middles + sink * rate, middles + (sink + 1) * rate)), [1] * rate * rate)
+        for sink in range(sinks)
+    )
+    return Code(network, 8, rate, tuple(operands), decoders)
+
+
+def test_the_butterfly() -> None:
+    assert said(CODE) == [
+        "code rate 2 field 8 demands 2",
+        "pattern none live 9 of 9 links",
+        "products a byte 9: links 5, sinks 4",
+        "frames a generation 72, for at most 2044 bytes of the source",
+    ]
+    lines = said(CODE, "--bytes", 67_108_864)
+    assert lines[4] == ("source 67108864 bytes: generations 32833, frames 2363976, bytes on all links 330956640")
+    assert lines[6:] == [f"link {name} 36772960" for name in "s-a s-b a-t1 b-t2 a-c b-c c-d d-t1 d-t2".split()]
+
+
+def test_the_fan_of_the_measurements(tmp_path: Path) -> None:
+    path = tmp_path / "fan.lif"
+    path.write_bytes(bytes_of(fan(8, 16, 16)))
+    assert said(path)[2:] == [
+        "products a byte 160: links 32, sinks 128",
+        "frames a generation 1152, for at most 8188 bytes of the source",
+    ]
+    assert "frames 9442944," in said(path, "--bytes", 67_108_864)[4]
+
+
+def test_a_pattern_leaves_links_and_operands_out(tmp_path: Path) -> None:
+    path = tmp_path / "one.lif"
+    operands = ((Operand(0, 1),), (Operand(0, 1),), (Operand(0, 1),), (Operand(1, 1), Operand(2, 2)))
+    assert octet_product(3, 0xF4) == 1
+    path.write_bytes(
+        bytes_of(Code(read_network(FAILING), 8, 1, operands, (Decoder((3,), (0xF4,)), Decoder((3,), (1,)))))
+    )
+    assert said(path)[1:3] == ["pattern none live 4 of 4 links", "products a byte 6: links 5, sinks 1"]
+    lines = said(path, "--pattern", "f", "--bytes", 0)
+    assert lines[1:3] == ["pattern f live 2 of 4 links", "products a byte 3: links 2, sinks 1"]
+    assert lines[-4:] == ["link u 0", "link w 1120", "link v 0", "link z 1120"]
+    assert said(path, "--patterns") == ["none", "f"]
+
+
+def test_rates_that_do_not_divide_have_two_decimals(tmp_path: Path) -> None:
+    path = tmp_path / "fan.lif"
+    path.write_bytes(bytes_of(fan(3, 4, 1)))
+    assert said(path)[2] == "products a byte 8: links 5, sinks 3"
+    path.write_bytes(bytes_of(fan(3, 5, 2)))
+    assert said(path)[2] == "products a byte 13: links 7, sinks 6"
+    code = fan(3, 3, 1)
+    operands = (code.operands[0][:2], *code.operands[1:])
+    path.write_bytes(bytes_of(Code(code.network, 8, 3, operands, code.decoders)))
+    assert said(path)[2] == "products a byte 6.67: links 3.67, sinks 3"
+
+
+def test_what_the_program_sends(program, tmp_path: Path) -> None:
+    """Generations and frames are those of `demo`, of which the code is made in the program alone."""
+    lines = dict(line.split(" ", 1) for line in program("demo", 4, 2, 100_000).stdout.splitlines())
+    path = tmp_path / "fan.lif"
+    code = fan(2, 4, 6)
+    path.write_bytes(bytes_of(code))
+    found = said(path, "--bytes", 100_000)
+    assert f"generations {lines['generations']}, frames {lines['frames']}," in found[4]
+
+
+@pytest.mark.parametrize("size", [0, 1_000_000, 30_000_000])
+def test_the_memory_of_send(program, tmp_path: Path, size: int) -> None:
+    """What the program takes, beyond what it takes for next to nothing, is near what was said."""
+    measure = shutil.which("time")
+    if measure is None:
+        pytest.skip("there is no program time; on Debian: apt-get install time")
+    (tmp_path / "none").write_bytes(b"")
+    (tmp_path / "source").write_bytes(bytes(size))
+
+    def most(code: Path, source: str) -> int:
+        words = [*find_program(), "send", code, "none", "1", tmp_path / source, tmp_path / "out"]
+        done = subprocess.run([measure, "-f", "%M", *map(str, words)], capture_output=True, text=True, check=True)
+        return int(done.stderr) * 1024
+
+    net, code = tmp_path / "layers.net", tmp_path / "layers.lif"
+    net.write_text(layers_text(4, 12))
+    assert program("compile", net, code, tmp_path / "layers.txt").returncode == 0
+    estimated = int(re.match(r"memory of send about (\d+) bytes", said(code, "--bytes", size)[5])[1])
+    taken = most(code, "source") - most(EXAMPLES / "one-link/one.lif", "none")
+    assert estimated == pytest.approx(taken, rel=0.25, abs=500_000)
+
+
+def test_misuse_and_unknown_patterns(tmp_path: Path) -> None:
+    for words in ((), (CODE, "--bytes", "-1"), (CODE, "--bytes", 67_108_865), (CODE, "--bytes", "many")):
+        done = run_tool("lif-estimate", *words)
+        assert done.returncode == 2 and "Traceback" not in done.stderr
+    assert (
+        run_tool("lif-estimate", CODE, "--pattern", "f").stderr == "lif-estimate: unknown pattern: f; there are none\n"
+    )
+    assert run_tool("lif-estimate", tmp_path).stderr == f"lif-estimate: {tmp_path}: Is a directory\n"
+
+
+def test_no_package_is_needed() -> None:
+    assert without_packages("lif-estimate", CODE).stdout.startswith("code rate 2 field 8 demands 2\n")
