@@ -1,6 +1,7 @@
-// Reads a network text, and writes the code file and the report of docs/FORMATS.md, as `lif compile` does.
+// Reads a network text, and writes the code file and the report of docs/FORMATS.md, as `lif compile` does. The first
+// word says how flows are found: preflow, edmonds-karp or dinic.
 //
-// The paths of all demands are flows by LEMON. Each demand has for each of its paths the link that was visited last on
+// The paths of all demands are flows, as cuts.hpp finds them. Each demand has for each of its paths the link that was visited last on
 // it, and an inverse vector, whose product with that link's vector is one, and zero with those of the other paths. The
 // links are visited in order. For each there is a table with a row for each path over it, and a column for each link
 // before it on these paths: the products of those links' vectors with the paths' inverse vectors. The coefficients are
@@ -355,25 +356,24 @@ static void write_file(const char *path, const std::string &bytes) {
 }
 
 // Writes the code file and the report, and gives the line that is said of them.
-static std::string compile(const Network &network, const char *code_path, const char *report_path) {
+static std::string compile(const char *method, const Network &network, const char *code_path, const char *report_path) {
     std::vector<int> order = links_in_order(network);
     std::size_t demands = network.sinks.size() * network.patterns.size();
     int field = network.field != 0 ? network.field : demands <= 256 ? 8 : 16;
     if (demands > (field == 8 ? 256 : 65536)) fail("there are too many demands for the field");
-    Cutter cutter(network);
-    std::string report = cutter.report();
-    int rate = cutter.rate;
+    Report report = report_of(method, network);
+    int rate = report.rate;
     if (rate < 1 || rate > MOST_RATE) fail("the rate isn't 1 to 32");
     Network ordered = renumbered(network, order);
-    auto hops = hops_by_link(network, order, rate, cutter.hops);
+    auto hops = hops_by_link(network, order, rate, report.hops);
     write_file(code_path, field == 8 ? Compiler<Octet>(ordered, rate, std::move(hops)).code()
                                      : Compiler<Pair>(ordered, rate, std::move(hops)).code());
-    write_file(report_path, report);
+    write_file(report_path, report.text);
     return "compiled rate " + std::to_string(rate) + " field " + std::to_string(field) + " demands " +
            std::to_string(demands) + "\n";
 }
 
 int main(int count, char **words) {
-    if (count != 4) fail("usage: compile NET CODE REPORT");
-    return say_of_file(words[1], [&](const Network &network) { return compile(network, words[2], words[3]); });
+    if (count != 5) fail("usage: compile METHOD NET CODE REPORT");
+    return say_of_file(words[2], [&](const Network &network) { return compile(words[1], network, words[3], words[4]); });
 }

@@ -1,15 +1,18 @@
-// The cuts and the flows of a network's demands, and their report: what cuts.cpp and compile.cpp share. For each demand
-// LEMON finds a flow by preflows: each link is an arc of capacity 1, or of 0 where it fails. The least side is what a
-// search from the source reaches over links that could carry more, and backwards over those that carry something.
+// The cuts and the flows of a network's demands, and their report: what cuts.cpp and compile.cpp share. Each demand's
+// flow is found from nothing, by LEMON's Preflow or EdmondsKarp, or by Dinic's method over links of capacity 1.
 #pragma once
 
 #include "network.hpp"
 
+#include <lemon/core.h>
+#include <lemon/edmonds_karp.h>
 #include <lemon/preflow.h>
 #include <lemon/smart_graph.h>
 
 using Graph = lemon::SmartDigraph;
 using Capacities = Graph::ArcMap<int>;
+using Preflow = lemon::Preflow<Graph, Capacities>;
+using EdmondsKarp = lemon::EdmondsKarp<Graph, Capacities>;
 
 // A link on a path of a demand, with what comes before it there: a link, or where it is the first, the number of the
 // path.
@@ -17,13 +20,146 @@ struct Hop {
     int demand, path, link, before;
 };
 
-// The nodes and links of the graph have the numbers of the network.
-class Cutter {
+// Flows by LEMON: each link is an arc of capacity 1, or of 0 where it fails, and has the number of the network. The
+// least side is what a search from the source reaches over links that could carry more, and backwards over those that
+// carry something.
+template <typename Flow>
+class LemonFlows {
 public:
-    explicit Cutter(const Network &of) : network(of), out(links_out(of)), carries(of.links.size()) {
+    explicit LemonFlows(const Network &of) : network(of) {
         for (std::size_t node = 0; node < network.nodes.size(); node++) graph.addNode();
         for (const Link &link : network.links) graph.addArc(graph.nodeFromId(link.tail), graph.nodeFromId(link.head));
     }
+
+    int find(int sink, const Pattern &pattern) {
+        for (std::size_t link = 0; link < network.links.size(); link++) {
+            capacities[graph.arcFromId(link)] = pattern.fails[link] ? 0 : 1;
+        }
+        Flow flow(graph, capacities, graph.nodeFromId(network.source), graph.nodeFromId(sink));
+        flow.run();
+        for (std::size_t link = 0; link < network.links.size(); link++) {
+            carried[link] = flow.flow(graph.arcFromId(link)) > 0;
+        }
+        find_side();
+        return flow.flowValue();
+    }
+
+    bool carries(int link) const { return carried[link]; }
+    bool is_on_side(int node) const { return is_inside[node]; }
+
+private:
+    const Network &network;
+    Graph graph;
+    Capacities capacities{graph};
+    std::vector<char> carried = std::vector<char>(network.links.size());
+    // The nodes of the least side, in the order in which they are reached, and whether each is one.
+    std::vector<int> side;
+    std::vector<char> is_inside;
+
+    void find_side() {
+        side.clear();
+        is_inside.assign(network.nodes.size(), false);
+        reach(network.source);
+        for (std::size_t place = 0; place < side.size(); place++) {
+            Graph::Node node = graph.nodeFromId(side[place]);
+            for (Graph::OutArcIt arc(graph, node); arc != lemon::INVALID; ++arc) {
+                if (capacities[arc] > 0 && !carried[graph.id(arc)]) reach(graph.id(graph.target(arc)));
+            }
+            for (Graph::InArcIt arc(graph, node); arc != lemon::INVALID; ++arc) {
+                if (carried[graph.id(arc)]) reach(graph.id(graph.source(arc)));
+            }
+        }
+    }
+
+    void reach(int node) {
+        if (!is_inside[node]) side.push_back(node);
+        is_inside[node] = true;
+    }
+};
+
+// Flows by Dinic's method: a link is an arc that is open or not, and so is its way back. A search in breadth gives each
+// node its distance from the source, until it gets to the sink; then paths are found depth first, from each node to one
+// that is further by one, with a cursor for each node. The search that doesn't get there has reached the least side.
+class DinicFlows {
+public:
+    explicit DinicFlows(const Network &of) : network(of), arcs_at(of.nodes.size()) {
+        for (const Link &link : network.links) {
+            add(link.tail, link.head);
+            add(link.head, link.tail);
+        }
+    }
+
+    int find(int sink, const Pattern &pattern) {
+        for (std::size_t link = 0; link < network.links.size(); link++) {
+            arcs[2 * link].is_open = !pattern.fails[link];
+            arcs[2 * link + 1].is_open = false;
+        }
+        int value = 0;
+        while (find_levels(sink)) {
+            cursors.assign(network.nodes.size(), 0);
+            while (push(network.source, sink)) value++;
+        }
+        return value;
+    }
+
+    bool carries(int link) const { return arcs[2 * link + 1].is_open; }
+    bool is_on_side(int node) const { return levels[node] >= 0; }
+
+private:
+    struct Arc {
+        int to;
+        bool is_open;
+    };
+
+    const Network &network;
+    // The arc of link `l` is number `2 * l`, and its way back the next.
+    std::vector<Arc> arcs;
+    std::vector<std::vector<int>> arcs_at;
+    std::vector<int> levels, queue;
+    std::vector<std::size_t> cursors;
+
+    void add(int from, int to) {
+        arcs_at[from].push_back(arcs.size());
+        arcs.push_back({to, false});
+    }
+
+    bool find_levels(int sink) {
+        levels.assign(network.nodes.size(), -1);
+        levels[network.source] = 0;
+        queue.assign(1, network.source);
+        for (std::size_t place = 0; place < queue.size(); place++) {
+            int node = queue[place];
+            for (int number : arcs_at[node]) {
+                const Arc &arc = arcs[number];
+                if (!arc.is_open || levels[arc.to] >= 0) continue;
+                levels[arc.to] = levels[node] + 1;
+                if (arc.to == sink) return true;
+                queue.push_back(arc.to);
+            }
+        }
+        return false;
+    }
+
+    bool push(int node, int sink) {
+        if (node == sink) return true;
+        for (std::size_t &cursor = cursors[node]; cursor < arcs_at[node].size(); cursor++) {
+            int number = arcs_at[node][cursor];
+            Arc &arc = arcs[number];
+            if (arc.is_open && levels[arc.to] == levels[node] + 1 && push(arc.to, sink)) {
+                arc.is_open = false;
+                arcs[number ^ 1].is_open = true;
+                return true;
+            }
+        }
+        return false;
+    }
+};
+
+// The certificates of all demands.
+template <typename Flows>
+class Cutter {
+public:
+    explicit Cutter(const Network &of) : network(of), out(links_out(of)), flows(of), carries(of.links.size()) {}
 
     // The least value of all demands, and the links of all their paths, path by path, once there is a report.
     int rate = 0;
@@ -38,15 +174,9 @@ public:
     }
 
 private:
-    using Flow = lemon::Preflow<Graph, Capacities>;
-
     const Network &network;
     std::vector<std::vector<int>> out;
-    Graph graph;
-    Capacities capacities{graph};
-    // The nodes of the least side, in the order in which they are reached, and whether each is one.
-    std::vector<int> side;
-    std::vector<char> is_inside;
+    Flows flows;
     // Whether each link carries something for which there is no path yet.
     std::vector<char> carries;
     // How many demands were said before.
@@ -55,46 +185,20 @@ private:
 
     // Says a demand, and gives its value.
     int say_demand(int sink, const Pattern &pattern) {
-        for (std::size_t link = 0; link < network.links.size(); link++) {
-            capacities[graph.arcFromId(link)] = pattern.fails[link] ? 0 : 1;
-        }
-        Flow flow(graph, capacities, graph.nodeFromId(network.source), graph.nodeFromId(sink));
-        flow.run();
-        find_side(flow);
+        int value = flows.find(sink, pattern);
         said.append("demand ").append(network.nodes[sink]).append(" ").append(pattern.name);
-        said.append(" cut ").append(std::to_string(flow.flowValue())).append("\n");
+        said.append(" cut ").append(std::to_string(value)).append("\n");
         say_side();
         say_crossing(pattern);
-        say_paths(flow, sink);
+        say_paths(sink);
         demand++;
-        return flow.flowValue();
-    }
-
-    void find_side(const Flow &flow) {
-        side.clear();
-        is_inside.assign(network.nodes.size(), false);
-        reach(graph.nodeFromId(network.source));
-        for (std::size_t place = 0; place < side.size(); place++) {
-            Graph::Node node = graph.nodeFromId(side[place]);
-            for (Graph::OutArcIt arc(graph, node); arc != lemon::INVALID; ++arc) {
-                if (flow.flow(arc) < capacities[arc]) reach(graph.target(arc));
-            }
-            for (Graph::InArcIt arc(graph, node); arc != lemon::INVALID; ++arc) {
-                if (flow.flow(arc) > 0) reach(graph.source(arc));
-            }
-        }
-    }
-
-    void reach(Graph::Node node) {
-        int number = graph.id(node);
-        if (!is_inside[number]) side.push_back(number);
-        is_inside[number] = true;
+        return value;
     }
 
     void say_side() {
         said.append("side");
         for (std::size_t node = 0; node < network.nodes.size(); node++) {
-            if (is_inside[node]) said.append(" ").append(network.nodes[node]);
+            if (flows.is_on_side(node)) said.append(" ").append(network.nodes[node]);
         }
         said.append("\n");
     }
@@ -103,15 +207,15 @@ private:
         said.append("cross");
         for (std::size_t number = 0; number < network.links.size(); number++) {
             const Link &link = network.links[number];
-            bool leaves = is_inside[link.tail] && !is_inside[link.head];
+            bool leaves = flows.is_on_side(link.tail) && !flows.is_on_side(link.head);
             if (leaves && !pattern.fails[number]) said.append(" ").append(link.name);
         }
         said.append("\n");
     }
 
     // A path begins with each link from the source that carries something.
-    void say_paths(const Flow &flow, int sink) {
-        for (std::size_t link = 0; link < carries.size(); link++) carries[link] = flow.flow(graph.arcFromId(link)) > 0;
+    void say_paths(int sink) {
+        for (std::size_t link = 0; link < carries.size(); link++) carries[link] = flows.carries(link);
         int path = 0;
         for (int link : out[network.source]) {
             if (carries[link]) say_path(path++, link, sink);
@@ -133,3 +237,25 @@ private:
         said.append("\n");
     }
 };
+
+struct Report {
+    int rate;
+    std::vector<Hop> hops;
+    std::string text;
+};
+
+template <typename Flows>
+Report report_by(const Network &network) {
+    Cutter<Flows> cutter(network);
+    std::string text = cutter.report();
+    return {cutter.rate, std::move(cutter.hops), std::move(text)};
+}
+
+// The report of a network, by flows that are found as a word says.
+inline Report report_of(const std::string &method, const Network &network) {
+    if (method == "preflow") return report_by<LemonFlows<Preflow>>(network);
+    if (method == "edmonds-karp") return report_by<LemonFlows<EdmondsKarp>>(network);
+    if (method == "dinic") return report_by<DinicFlows>(network);
+    fail("a method is preflow, edmonds-karp or dinic");
+    return {};
+}

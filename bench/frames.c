@@ -1,6 +1,7 @@
 // Feeds one node or one sink of a code with frames, over and over, and does with ISA-L what they do. The first word says
 // which, the second is the number of links out of the node, or the rate of the sink, and the third the number of rounds.
-// Prints the nanoseconds that it took, the number of frames, and a checksum.
+// Prints the nanoseconds that it took, the number of frames, and a checksum: of a node that of each byte of the frames that
+// one more round writes, of which the time isn't taken.
 //
 // The codes are those that bench/codes.c writes: `node`, of which two links lead into the node, and `fan`, of which the
 // links into the sink carry what the middle nodes got. In a round come all pieces of four generations. The node keeps a
@@ -9,6 +10,7 @@
 #include "frame.h"
 
 #include <isa-l/erasure_code.h>
+#include <stdbool.h>
 #include <stdint.h>
 #include <stdio.h>
 #include <stdlib.h>
@@ -44,9 +46,8 @@ static void fill_payload(uint8_t *payload, unsigned link, unsigned piece) {
     for (unsigned place = 0; place < PIECE; place++) payload[place] = (uint8_t)(place * 7 + piece * 31 + link * 97 + 1);
 }
 
-static void count_frame(struct tally *tally, const uint8_t *frame) {
-    tally->frames++;
-    tally->sum = tally->sum * 31 + frame[3] + frame[7] + frame[11] + frame[HEAD] + frame[FRAME - 1];
+static void add(struct tally *tally, unsigned number) {
+    tally->sum = tally->sum * 31 + number;
 }
 
 struct node {
@@ -72,28 +73,36 @@ static void start_node(struct node *node, int outs) {
     free(matrix);
 }
 
-static void give(struct node *node, uint32_t generation, unsigned piece, struct tally *tally) {
+// Writes the frames of all links out, each to its place. Says how many there are.
+static int give(struct node *node, uint32_t generation, unsigned piece) {
     uint8_t *from[INS] = {node->held[generation][0] + piece * PIECE, node->held[generation][1] + piece * PIECE};
     ec_encode_data(PIECE, INS, node->outs, node->tables, from, node->into);
-    for (int out = 0; out < node->outs; out++) {
-        uint8_t *frame = node->frames + (size_t)out * FRAME;
-        put_head(frame, (uint32_t)(INS + out), generation, piece);
-        count_frame(tally, frame);
-    }
+    for (int out = 0; out < node->outs; out++) put_head(node->frames + (size_t)out * FRAME, (uint32_t)(INS + out), generation, piece);
+    return node->outs;
 }
 
-static void take(struct node *node, unsigned link, uint32_t generation, unsigned piece, const uint8_t *payload, struct tally *tally) {
-    if (node->has[generation][link][piece]) return;
+static int take(struct node *node, unsigned link, uint32_t generation, unsigned piece, const uint8_t *payload) {
+    if (node->has[generation][link][piece]) return 0;
     node->has[generation][link][piece] = 1;
     memcpy(node->held[generation][link] + piece * PIECE, payload, PIECE);
-    if (node->has[generation][1 - link][piece]) give(node, generation, piece, tally);
+    return node->has[generation][1 - link][piece] ? give(node, generation, piece) : 0;
 }
 
-static void node_round(struct node *node, uint8_t payloads[INS][PIECES][PIECE], struct tally *tally) {
+// Adds up the bytes of the first frames.
+static void look(const struct node *node, int frames, struct tally *tally) {
+    for (size_t place = 0; place < (size_t)frames * FRAME; place++) add(tally, node->frames[place]);
+}
+
+// In a round whose time is taken frames are counted, and in the other one their bytes are added up.
+static void node_round(struct node *node, uint8_t payloads[INS][PIECES][PIECE], bool timed, struct tally *tally) {
     memset(node->has, 0, sizeof node->has);
     for (uint32_t generation = 0; generation < GENERATIONS; generation++) {
         for (unsigned piece = 0; piece < PIECES; piece++) {
-            for (unsigned link = 0; link < INS; link++) take(node, link, generation, piece, payloads[link][piece], tally);
+            for (unsigned link = 0; link < INS; link++) {
+                int given = take(node, link, generation, piece, payloads[link][piece]);
+                if (timed) tally->frames += (uint64_t)given;
+                else look(node, given, tally);
+            }
         }
     }
 }
@@ -127,7 +136,7 @@ static void decode(struct sink *sink, uint32_t generation, struct tally *tally) 
         into[row] = sink->block + (size_t)row * ROW;
     }
     ec_encode_data(ROW, sink->rate, sink->rate, sink->tables, from, into);
-    for (int row = 0; row < sink->rate; row++) tally->sum = tally->sum * 31 + into[row][0] + into[row][ROW - 1];
+    for (int row = 0; row < sink->rate; row++) add(tally, into[row][0] + into[row][ROW - 1]);
 }
 
 static void keep(struct sink *sink, unsigned link, uint32_t generation, unsigned piece, const uint8_t *payload, struct tally *tally) {
@@ -156,8 +165,10 @@ static uint64_t run_node(int outs, unsigned long rounds, struct tally *tally) {
         for (unsigned piece = 0; piece < PIECES; piece++) fill_payload(payloads[link][piece], link, piece);
     }
     uint64_t start = now();
-    for (unsigned long round = 0; round < rounds; round++) node_round(&node, payloads, tally);
-    return now() - start;
+    for (unsigned long round = 0; round < rounds; round++) node_round(&node, payloads, true, tally);
+    uint64_t elapsed = now() - start;
+    node_round(&node, payloads, false, tally);
+    return elapsed;
 }
 
 static uint64_t run_sink(int rate, unsigned long rounds, struct tally *tally) {
