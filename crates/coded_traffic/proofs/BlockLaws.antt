@@ -82,11 +82,3 @@ bytes_of-block_elements code block is =
     (bytes_of_elements-elements_of code.field (row_of block i) (row_of-bytes block i is.bytes)
     (ap (λ n. n % bytes_of_element code.field) long ∙ whole_row code.field))) in
     ap (λ (rows : List (List ℕ)). concat rows) (each_back code.field (rows_of code.rate row_bytes block) back) ∙ concat-rows_of code.rate row_bytes block is.size
-
--- blocks with the same rows of elements are the same
-pub block_elements-injective : (code : Code) (block other : List ℕ) → IsBlockOf code block → IsBlockOf code other → block_elements code block ≡ block_elements code other
-    → block ≡ other
-block_elements-injective code block other is is_other same =
-    sym (bytes_of-block_elements code block is)
-    ∙ ap (λ (rows : List (List ℕ)). concat (map (bytes_of_elements code.field) rows)) same
-    ∙ bytes_of-block_elements code other is_other

@@ -8,7 +8,7 @@ use Rattle.gf_tables.specs.declared.kind.FieldKind.{FieldKind}
 use Rattle.gf_tables.specs.declared.kind.FieldKind.TheVariants.{Eight, Sixteen}
 use Rattle.field_rows.specs.Bytes.{elements_of}
 use Rattle.linear_algebra.specs.Elements.{AreBytes}
-use Rattle.linear_algebra.proofs.ElementsLaws.{elements_of-IsRow, elements_of-zero_row, length-elements_of}
+use Rattle.linear_algebra.proofs.ElementsLaws.{elements_of-IsRow, elements_of-zero_row}
 use Rattle.linear_algebra.proofs.EntryLaws.{row_end}
 use Rattle.linear_algebra.specs.Rows.{zero_row, IsRow}
 use Rattle.generation_frame.specs.Blocks.{row_bytes}
@@ -38,13 +38,7 @@ pub row_of-bytes : (rows : List ℕ) (place : ℕ) → AreBytes rows → AreByte
 row_of-bytes rows place bytes =
     All-take (λ byte. byte < 256) row_bytes (drop (place * row_bytes) rows) (All-drop (λ byte. byte < 256) (place * row_bytes) rows bytes)
 
--- the elements of a row
-pub length-elements_at : (field : FieldKind) (rows : List ℕ) (place : ℕ) → place * row_bytes + row_bytes ≤ length rows
-    → length (elements_at field rows place) ≡ row_width field
-length-elements_at field rows place within =
-    length-elements_of field (row_width field) (row_of rows place) (length-row_of rows place within ∙ row_bytes-row_width field)
-
--- they are a row of elements
+-- the elements of a row are a row of elements
 pub elements_at-IsRow : (field : FieldKind) (rows : List ℕ) (place : ℕ) → AreBytes rows → place * row_bytes + row_bytes ≤ length rows
     → IsRow field (row_width field) (elements_at field rows place)
 elements_at-IsRow field rows place bytes within =

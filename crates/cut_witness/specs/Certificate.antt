@@ -1,5 +1,7 @@
 -- Certificates: for each demand a flow and a cut of equal size, which is left by the least side.
-use Rattle.std.specs.Prelude.{◌≡◌, ◌<◌, ◌≤◌, ◌+◌, ℕ, List, IsTrue, Some, length, slice_get}
+use Rattle.std.specs.Prelude.{◌≡◌, ◌<◌, ◌≤◌, ◌+◌, ◌*◌, ◌/◌, ℕ, List, IsTrue, Some, length, slice_get, Result, Ok, Vec}
+use Rattle.std.specs.declared.alloc.AllocError.{AllocError}
+use Rattle.std.specs.Global.{Global}
 use Rattle.net_model.specs.Demands.{demand_count}
 use Rattle.net_model.specs.Flows.{IsFlow, IsLeastSide, crossing, flow_network}
 use Rattle.net_model.specs.Lists.{is_rising}
@@ -34,6 +36,18 @@ pub record AreCertificatesFrom (net : Net) (first : ℕ) (certs : List Cert) : T
 pub record AreCertificates (net : Net) (certs : List Cert) : Type 0 where
   pub each_demand : length certs ≡ demand_count net
   pub are : AreCertificatesFrom net 0 certs
+
+-- those of a batch, where all demands are cut into so many
+pub record IsBatch (net : Net) (batches batch : ℕ) (certs : List Cert) : Type 0 where
+  pub count : batch * demand_count net / batches + length certs
+      ≡ (batch + 1) * demand_count net / batches
+  pub are : AreCertificatesFrom net (batch * demand_count net / batches) certs
+
+-- for each batch, by its number, its certificates or want of memory
+abbrev pub AreBatches : Net → ℕ → List (Result (Vec Cert Global) AllocError) → Type 0
+AreBatches net batches made =
+    (batch : ℕ) (certs : Vec Cert Global) → slice_get made batch ≡ Some (Ok certs)
+    → IsBatch net batches batch certs.items
 
 -- some certificate has that value, and none has a smaller one
 pub record IsLeastValue (certs : List Cert) (value : ℕ) : Type 0 where

@@ -1,7 +1,7 @@
 //! The demands of a network, cut into batches.
-ghost use Rattle.std.specs.Prelude.{◌≡◌, ◌<◌, ◌≤◌, ◌+◌, ◌*◌, ◌/◌, IfOk, length};
+ghost use Rattle.std.specs.Prelude.{◌≡◌, ◌<◌, ◌≤◌, ◌+◌, ◌*◌, ◌/◌, IfOk, length, vec_len};
 ghost use Rattle.failure_patterns.specs.UsedField.{pair_demands};
-ghost use Rattle.cut_witness.specs.Certificate.{AreCertificates, AreCertificatesFrom, IsCertificate, IsDemand};
+ghost use Rattle.cut_witness.specs.Certificate.{AreBatches, AreCertificates, AreCertificatesFrom, IsBatch, IsCertificate, IsDemand};
 ghost use Rattle.link_chains.specs.Wiring.{IsWiring};
 ghost use Rattle.net_model.specs.Demands.{demand_count};
 ghost use Rattle.unit_flow.specs.Visits.{AreFewVisits};
@@ -16,6 +16,7 @@ use net_model::{Demand, Net};
 use std::alloc::{AllocError, Global};
 use std::marker::Brand;
 use std::sync::ledger::{Blank, Ledger};
+use std::thread::{Threads, map_indices};
 use unit_flow::{Flow, max_flow_along};
 
 /// The certificate of a demand, where the chains of the network's links are given.
@@ -44,8 +45,9 @@ pub fn certify_along<L: Ledger>(
     })
 }
 
-/// The certificates of all demands, in so many batches.
-pub fn certify_batches<G: Gate>(
+/// The certificates of all demands, in so many batches side by side.
+pub fn certify_batches<G: Gate + Sync, R: Threads + Sync>(
+    rt: &R,
     alloc: Global,
     net: &Net,
     wiring: &Wiring,
@@ -57,14 +59,51 @@ pub fn certify_batches<G: Gate>(
     requires few { demand_count net.now ≤ pair_demands }
     ensures { IfOk result (λ certs. AreCertificates net.now certs.items) }
 {
+    let made = map_indices(
+        rt,
+        alloc,
+        batches as usize,
+        &|batch: usize| { enter_batch(alloc, net, wiring, batches, batch as u32, gate) },
+    )?;
+    join_batches(alloc, net, batches, made)
+}
+
+// The certificates of a batch, which enters the gate before.
+fn enter_batch<G: Gate>(
+    alloc: Global,
+    net: &Net,
+    wiring: &Wiring,
+    batches: u32,
+    batch: u32,
+    gate: &G,
+) -> Result<Vec<Cert>, AllocError>
+    requires wiring { IsWiring net.now.links (length net.now.nodes) wiring.now }
+    requires batch { batch < batches }
+    requires few { demand_count net.now ≤ pair_demands }
+    ensures { IfOk result (λ certs. IsBatch net.now batches batch certs.items) }
+{
+    gate.enter(batch);
     let count = demands(net);
-    let mut certs = Vec::with_capacity(alloc, count as usize)?;
-    for batch in 0..batches {
-        gate.enter(batch);
-        let from = batch_start(batch, batches, count);
-        let to = batch_start(batch + 1, batches, count);
-        let mut made = certify_batch::<Brand>(alloc, net, wiring, from, to, Blank::new(1))?;
-        certs.append(&mut made)?;
+    let from = batch_start(batch, batches, count);
+    let to = batch_start(batch + 1, batches, count);
+    certify_batch::<Brand>(alloc, net, wiring, from, to, Blank::new(1))
+}
+
+// The certificates of all batches, put together in the order of the batches.
+fn join_batches(
+    alloc: Global,
+    net: &Net,
+    batches: u32,
+    made: Vec<Result<Vec<Cert>, AllocError>>,
+) -> Result<Vec<Cert>, AllocError>
+    requires some { 0 < batches }
+    requires count { vec_len made ≡ batches }
+    requires each { AreBatches net.now batches made.items }
+    ensures { IfOk result (λ certs. AreCertificates net.now certs.items) }
+{
+    let mut certs = Vec::with_capacity(alloc, demands(net) as usize)?;
+    for batch in made {
+        certs.append(&mut batch?)?;
     }
     Ok(certs)
 }

@@ -34,8 +34,8 @@ pub fn certify<L: Ledger>(
 }
 
 /// The certificates of all demands of a network, in their order. The demands are cut into as many batches as there are
-/// workers, or demands where those are fewer. Each batch enters the gate with its number before it begins; the batches
-/// are done one after another.
+/// workers, or demands where those are fewer, and the batches are done side by side. Each enters the gate with its number
+/// before it begins.
 pub fn certify_all<G: Gate + Sync, R: Threads + Sync>(
     rt: &R,
     alloc: Global,
@@ -49,7 +49,7 @@ pub fn certify_all<G: Gate + Sync, R: Threads + Sync>(
 {
     let wiring = wiring_of(alloc, net)?;
     let batches = demands(net).min(workers as u64) as u32;
-    certify_batches(alloc, net, &wiring, batches, gate)
+    certify_batches(rt, alloc, net, &wiring, batches, gate)
 }
 
 /// The least value of certificates: where they are those of all demands, the rate of their network.

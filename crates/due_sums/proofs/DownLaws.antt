@@ -1,32 +1,35 @@
 -- Laws of counting down.
-use Rattle.std.specs.Prelude.{◌≡◌, ◌≢◌, ◌<◌, ◌≤◌, ◌⊎◌, ◌+◌, ◌-◌, ◌==◌, ℕ, cond, ◌*◌, List, length, take, slice_index, slice_set}
+use Rattle.std.specs.Prelude.{◌≡◌, ◌≢◌, ◌<◌, ◌≤◌, ◌⊎◌, ◌+◌, ◌-◌, ◌/◌, ◌%◌, ◌==◌, ℕ, cond, ◌*◌, List, length, take, slice_index, slice_set}
 use Rattle.std.proofs.Common.{refl, sym, ap, ◌∙◌, arith, get_or, inl, inr, subst}
 use Rattle.std.proofs.lemmas.Bool.{cases_eq, cases_lt, eq-eqb, ne_eqb}
 use Rattle.std.proofs.lemmas.List.{get_or-set_other, get_or-set_same, get_or_past}
 use Rattle.std.proofs.lemmas.List.Sums.{count_by_more_no, count_by_more_yes, sum_by_more_le}
-use Rattle.least_set.specs.Members.{Gains, Members, bit_of, bound}
-use Rattle.due_sums.specs.Counts.{CountsDown, reads_of}
+use Rattle.generation_frame.specs.Blocks.{pieces}
+use Rattle.least_set.specs.Members.{GainsEighths, IsEighth, Members, bit_of, bound}
+use Rattle.least_set.proofs.MaskLaws.{eighths-stay}
+use Rattle.due_sums.specs.Counts.{CountsDown, IsDone, reads_of}
+use Rattle.due_sums.specs.Groups.{HasSums}
 use Rattle.due_sums.specs.Waiting.{due_number}
 
--- how often the sums up to a place name a number
+-- how often the groups up to a place name a number
 pub reads_of-here : (readers : List ℕ) (piece i : ℕ) → i < length readers
     → reads_of (take (i + 1) readers) piece (due_number (get_or readers i 0) piece) ≡ reads_of (take i readers) piece (due_number (get_or readers i 0) piece) + 1
 reads_of-here readers piece i within =
-    count_by_more_yes (λ sum. due_number sum piece == due_number (get_or readers i 0) piece) readers i 0 within (eq-eqb _ _ refl)
+    count_by_more_yes (λ group. due_number group piece == due_number (get_or readers i 0) piece) readers i 0 within (eq-eqb _ _ refl)
 
 pub reads_of-elsewhere : (readers : List ℕ) (piece i number : ℕ) → i < length readers → number ≢ due_number (get_or readers i 0) piece
     → reads_of (take (i + 1) readers) piece number ≡ reads_of (take i readers) piece number
 reads_of-elsewhere readers piece i number within apart =
-    count_by_more_no (λ sum. due_number sum piece == number) readers i 0 within (ne_eqb _ _ (λ is. apart (sym is)))
+    count_by_more_no (λ group. due_number group piece == number) readers i 0 within (ne_eqb _ _ (λ is. apart (sym is)))
 
--- an input of the sum at a place is missing, as long as all of them are enough
-pub some_missing : (readers : List ℕ) (piece i : ℕ) (old now : List ℕ) (old_due now_due : Members) → i < length readers
+-- an input of the group at a place is missing, as long as all of them are enough
+pub some_missing : (readers starts : List ℕ) (piece i : ℕ) (old now : List ℕ) (old_due now_due : Members) → i < length readers
     → ((number : ℕ) → reads_of readers piece number ≤ slice_index old number)
-    → CountsDown (reads_of (take i readers) piece) old now old_due now_due
+    → CountsDown (reads_of (take i readers) piece) starts piece old now old_due now_due
     → 0 < slice_index now (due_number (get_or readers i 0) piece)
-some_missing readers piece i old now old_due now_due within enough so_far =
+some_missing readers starts piece i old now old_due now_due within enough so_far =
     let number = due_number (get_or readers i 0) piece in
-    let test : ℕ → ℕ = λ sum. cond (due_number sum piece == number) 1 0 in
+    let test : ℕ → ℕ = λ group. cond (due_number group piece == number) 1 0 in
     let most = sum_by_more_le test readers i 0 within in
     let here : test (get_or readers i 0) ≡ 1 = ap (λ b. cond b 1 0) (eq-eqb number number refl) in
     omega (arith, most, here, enough number, so_far.counts number)
@@ -38,53 +41,123 @@ within_counts counts number some = elim (cases_lt number (length counts)) [
   | inr above ↦ absurd (omega (arith, some, get_or_past counts number 0 above))
 ]
 
--- one sum more is counted down
-module _ (reads reads' : ℕ → ℕ) (old now new : List ℕ) (old_due now_due new_due : Members) (number : ℕ)
-    (here : reads' number ≡ reads number + 1) (elsewhere : (other : ℕ) → other ≢ number → reads' other ≡ reads other)
-    (count : slice_index new number + 1 ≡ slice_index now number) (counts : (other : ℕ) → other ≢ number → slice_index new other ≡ slice_index now other)
-    (room : bound new_due ≡ bound now_due) (others : (other : ℕ) → other ≢ number → bit_of new_due.words other ≡ bit_of now_due.words other)
-    (done : slice_index new number ≡ 0 → bit_of new_due.words number ≡ 1)
-    (not_done : 0 < slice_index new number → bit_of new_due.words number ≡ bit_of now_due.words number)
-    (so_far : CountsDown reads old now old_due now_due) where
-  pub CountsDown-more : CountsDown reads' old new old_due new_due
+-- the group at a place has sums, and there is room for them
+pub has_sums : (readers starts : List ℕ) (piece i : ℕ) (old now : List ℕ) (old_due now_due : Members) → i < length readers
+    → ((number : ℕ) → reads_of readers piece number ≤ slice_index old number)
+    → CountsDown (reads_of (take i readers) piece) starts piece old now old_due now_due → length now ≡ length old
+    → ((group : ℕ) → due_number group piece < length old → HasSums starts group old_due) → HasSums starts (get_or readers i 0) now_due
+has_sums readers starts piece i old now old_due now_due within enough so_far long groups =
+    let number = due_number (get_or readers i 0) piece in
+    let inside = within_counts now number (some_missing readers starts piece i old now old_due now_due within enough so_far) in
+    let has = groups (get_or readers i 0) (omega (arith, inside, long)) in
+    record { stands = has.stands; some = has.some; few = has.few; room = omega (arith, has.room, so_far.room) }
+
+-- the numbers that become due with a group are those of its sums
+pub group_numbers : (starts : List ℕ) (group piece number : ℕ) → piece < pieces → slice_index starts group < slice_index starts (group + 1)
+    → IsEighth (due_number (slice_index starts group) piece) (due_number (slice_index starts (group + 1) - 1) piece) number
+    → (number % pieces ≡ piece) × (slice_index starts group ≤ number / pieces) × (number / pieces < slice_index starts (group + 1))
+group_numbers starts group piece number low rising is =
+    let step : number % pieces ≡ piece = omega (arith, is.step, low) in
+    (step, omega (arith, is.from, step, low), omega (arith, is.from, is.to, step, low, rising))
+
+pub group_number : (starts : List ℕ) (group piece sum : ℕ) → piece < pieces → slice_index starts group ≤ sum → sum < slice_index starts (group + 1)
+    → IsEighth (due_number (slice_index starts group) piece) (due_number (slice_index starts (group + 1) - 1) piece) (due_number sum piece)
+group_number starts group piece sum low from to = record { from = omega (arith, from); to = omega (arith, to); step = omega (arith, low) }
+
+-- one group more is counted down
+module _ (reads reads' : ℕ → ℕ) (starts : List ℕ) (piece : ℕ) (low : piece < pieces) (old now new : List ℕ) (old_due now_due new_due : Members) (group : ℕ)
+    (rising : slice_index starts group < slice_index starts (group + 1)) (here : reads' (due_number group piece) ≡ reads (due_number group piece) + 1)
+    (elsewhere : (other : ℕ) → other ≢ due_number group piece → reads' other ≡ reads other)
+    (some : 0 < slice_index now (due_number group piece))
+    (count : slice_index new (due_number group piece) + 1 ≡ slice_index now (due_number group piece))
+    (counts : (other : ℕ) → other ≢ due_number group piece → slice_index new other ≡ slice_index now other)
+    (step : ((slice_index new (due_number group piece) ≡ 0)
+    × GainsEighths (due_number (slice_index starts group) piece) (due_number (slice_index starts (group + 1) - 1) piece) now_due new_due)
+    ⊎ ((slice_index new (due_number group piece) ≢ 0) × (new_due ≡ now_due)))
+    (so_far : CountsDown reads starts piece old now old_due now_due) where
+  abbrev number : ℕ
+  number = due_number group piece
+
+  apart_numbers : (other : ℕ) → other ≢ group → due_number other piece ≢ number
+  apart_numbers other differs is = differs (omega (arith, is))
+
+  stays : (other : ℕ) → bit_of now_due.words other ≡ 1 → bit_of new_due.words other ≡ 1
+  stays other has = elim step [
+    | inl made ↦ eighths-stay _ _ now_due.words new_due.words made.1 other has
+    | inr same ↦ ap (λ set. bit_of set.words other) same.1 ∙ has
+  ]
+
+  made_due : (sum : ℕ) → IsDone reads' starts piece new group sum → bit_of new_due.words (due_number sum piece) ≡ 1
+  made_due sum done = elim step [
+    | inl made ↦ made.1.here (due_number sum piece) (group_number starts group piece sum low done.from done.to)
+    | inr same ↦ absurd (same.0 done.none)
+  ]
+
+  -- what was done before
+  earlier : (other sum : ℕ) → other ≢ group → IsDone reads' starts piece new other sum → IsDone reads starts piece now other sum
+  earlier other sum differs done = record {
+    from = done.from;
+    to = done.to;
+    read = omega (arith, done.read, elsewhere (due_number other piece) (apart_numbers other differs));
+    none = sym (counts (due_number other piece) (apart_numbers other differs)) ∙ done.none;
+  }
+
+  later : (other sum : ℕ) → IsDone reads starts piece now other sum → (other ≢ group) × IsDone reads' starts piece new other sum
+  later other sum done =
+      let differs : other ≢ group = λ same. absurd (omega (arith, some, ap (λ (g : ℕ). slice_index now (due_number g piece)) same, done.none)) in (
+        differs,
+        record {
+          from = done.from;
+          to = done.to;
+          read = omega (arith, done.read, elsewhere (due_number other piece) (apart_numbers other differs));
+          none = counts (due_number other piece) (apart_numbers other differs) ∙ done.none;
+        },
+      )
+
+  -- a number that isn't made due
+  kept : (other : ℕ) → ((g : ℕ) → other % pieces ≡ piece → IsDone reads' starts piece new g (other / pieces) → ⊥) → bit_of new_due.words other ≡ bit_of now_due.words other
+  kept other isnt = elim step [
+    | inl made ↦ made.1.others other (λ is.
+        let of_group = group_numbers starts group piece other low rising is in
+        isnt group of_group.0 (record { from = of_group.1; to = of_group.2; read = omega (arith, here); none = made.0 }))
+    | inr same ↦ ap (λ set. bit_of set.words other) same.1
+  ]
+
+  pub CountsDown-more : CountsDown reads' starts piece old new old_due new_due
   CountsDown-more = record {
     counts = λ other. elim (cases_eq other number) [
       | inl same ↦ subst (λ n. slice_index new n + reads' n ≡ slice_index old n) (sym same) (omega (arith, here, count, so_far.counts number))
       | inr apart ↦ omega (arith, elsewhere other apart, counts other apart, so_far.counts other)
     ];
-    due = λ other some none. elim (cases_eq other number) [
-      | inl same ↦ subst (λ n. bit_of new_due.words n ≡ 1) (sym same) (done (ap (slice_index new) (sym same) ∙ none))
-      | inr apart ↦ others other apart ∙ so_far.due other (omega (arith, some, elsewhere other apart)) (sym (counts other apart) ∙ none)
+    due = λ other sum done. elim (cases_eq other group) [
+      | inl same ↦ made_due sum (subst (λ g. IsDone reads' starts piece new g sum) same done)
+      | inr differs ↦ stays (due_number sum piece) (so_far.due other sum (earlier other sum differs done))
     ];
-    others = λ other why. elim (cases_eq other number) [
-      | inl same ↦ subst (λ n. (reads' n ≡ 0) ⊎ (0 < slice_index new n) → bit_of new_due.words n ≡ bit_of old_due.words n) (sym same) at_number why
-      | inr apart ↦ others other apart ∙ so_far.others other (before other apart why)
-    ];
+    others = λ other isnt. kept other isnt ∙ so_far.others other (λ g is done. isnt g is (later g (other / pieces) done).1);
     room = room ∙ so_far.room;
   }
     where
-      at_number : (reads' number ≡ 0) ⊎ (0 < slice_index new number) → bit_of new_due.words number ≡ bit_of old_due.words number
-      at_number (inl none) = absurd (omega (arith, none, here))
-      at_number (inr some) = not_done some ∙ so_far.others number (inr (omega (arith, some, count)))
+      room : bound new_due ≡ bound now_due
+      room = elim step [
+        | inl made ↦ ap (λ n. 64 * n) made.1.long
+        | inr same ↦ ap bound same.1
+      ]
 
-      before : (other : ℕ) → other ≢ number → (reads' other ≡ 0) ⊎ (0 < slice_index new other) → (reads other ≡ 0) ⊎ (0 < slice_index now other)
-      before other apart (inl none) = inl (sym (elsewhere other apart) ∙ none)
-      before other apart (inr some) = inr (omega (arith, some, counts other apart))
-
--- The sum at a place is counted down: its number is due now if none is missing, and else nothing more is.
-pub counted_down : (readers : List ℕ) (piece i : ℕ) (old now : List ℕ) (old_due now_due new_due : Members) → i < length readers
-    → ((number : ℕ) → reads_of readers piece number ≤ slice_index old number)
-    → CountsDown (reads_of (take i readers) piece) old now old_due now_due
-    → let number = due_number (get_or readers i 0) piece in
+-- The group at a place is counted down: the numbers of its sums are due now if no input is missing, and else nothing more is.
+pub counted_down : (readers starts : List ℕ) (piece i : ℕ) (old now : List ℕ) (old_due now_due new_due : Members) → piece < pieces → i < length readers
+    → slice_index starts (get_or readers i 0) < slice_index starts (get_or readers i 0 + 1) → ((number : ℕ) → reads_of readers piece number ≤ slice_index old number)
+    → CountsDown (reads_of (take i readers) piece) starts piece old now old_due now_due
+    → let group = get_or readers i 0 in
+    let number = due_number group piece in
     let new = slice_set now number (slice_index now number - 1) in
-    ((slice_index new number ≡ 0) × Gains number now_due new_due) ⊎ ((slice_index new number ≢ 0) × (new_due ≡ now_due))
-    → CountsDown (reads_of (take (i + 1) readers) piece) old new old_due new_due
-counted_down readers piece i old now old_due now_due new_due within enough so_far step =
-    CountsDown-more (reads_of (take i readers) piece) (reads_of (take (i + 1) readers) piece) old now new old_due now_due new_due number
-    (reads_of-here readers piece i within) (λ other apart. reads_of-elsewhere readers piece i other within apart)
-    (omega (arith, some, get_or-set_same now number (slice_index now number - 1) 0 inside))
-    (λ other apart. get_or-set_other now number other (slice_index now number - 1) 0 apart)
-    (room step) (others step) (done step) (not_done step) so_far
+    ((slice_index new number ≡ 0) × GainsEighths (due_number (slice_index starts group) piece) (due_number (slice_index starts (group + 1) - 1) piece) now_due new_due)
+    ⊎ ((slice_index new number ≢ 0) × (new_due ≡ now_due))
+    → CountsDown (reads_of (take (i + 1) readers) piece) starts piece old new old_due new_due
+counted_down readers starts piece i old now old_due now_due new_due low within rising enough so_far step =
+    CountsDown-more (reads_of (take i readers) piece) (reads_of (take (i + 1) readers) piece) starts piece low old now new old_due now_due new_due (get_or readers i 0)
+    rising (reads_of-here readers piece i within) (λ other apart. reads_of-elsewhere readers piece i other within apart)
+    some (omega (arith, some, get_or-set_same now number (slice_index now number - 1) 0 inside))
+    (λ other apart. get_or-set_other now number other (slice_index now number - 1) 0 apart) step so_far
   where
     number : ℕ
     number = due_number (get_or readers i 0) piece
@@ -93,26 +166,7 @@ counted_down readers piece i old now old_due now_due new_due within enough so_fa
     new = slice_set now number (slice_index now number - 1)
 
     some : 0 < slice_index now number
-    some = some_missing readers piece i old now old_due now_due within enough so_far
+    some = some_missing readers starts piece i old now old_due now_due within enough so_far
 
     inside : number < length now
     inside = within_counts now number some
-
-    Step : Type 0
-    Step = ((slice_index new number ≡ 0) × Gains number now_due new_due) ⊎ ((slice_index new number ≢ 0) × (new_due ≡ now_due))
-
-    room : Step → bound new_due ≡ bound now_due
-    room (inl due) = ap (λ n. 64 * n) due.1.long
-    room (inr same) = ap bound same.1
-
-    others : Step → (other : ℕ) → other ≢ number → bit_of new_due.words other ≡ bit_of now_due.words other
-    others (inl due) other apart = due.1.others other apart
-    others (inr same) other apart = ap (λ set. bit_of set.words other) same.1
-
-    done : Step → slice_index new number ≡ 0 → bit_of new_due.words number ≡ 1
-    done (inl due) none = due.1.here
-    done (inr same) none = absurd (same.0 none)
-
-    not_done : Step → 0 < slice_index new number → bit_of new_due.words number ≡ bit_of now_due.words number
-    not_done (inl due) left = absurd (omega (arith, left, due.0))
-    not_done (inr same) left = ap (λ set. bit_of set.words number) same.1

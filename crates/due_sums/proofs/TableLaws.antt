@@ -10,10 +10,11 @@ use Rattle.std.proofs.lemmas.List.Sums.{sum_by-le-sum_by}
 use Rattle.generation_frame.specs.Blocks.{pieces}
 use Rattle.held_rows.specs.Held.{Held, Holds, HoldsNone, is_held, place, row_count}
 use Rattle.least_set.specs.Members.{HasNone, Loses, Members, bit_of, bound}
-use Rattle.due_sums.specs.Counts.{AreReaders, CountsDown, IsCounted, IsFresh, count_of, missing_of, reads_of}
+use Rattle.due_sums.specs.Counts.{AreReaders, CountsDown, IsCounted, IsDone, IsFresh, count_of, missing_of, reads_of}
+use Rattle.due_sums.specs.Groups.{AreGroups}
 use Rattle.due_sums.specs.Waiting.{AreSums, due_number}
-use Rattle.due_sums.proofs.CountLaws.{one_if, count_by-all, count_by-falls, count_by-same, due_number-of, due_number-sum, length-is_rising, list_all-from_count, list_all-from_some, reads_of-other, reads_of-own}
-use Rattle.due_sums.proofs.DownLaws.{within_counts}
+use Rattle.due_sums.proofs.CountLaws.{one_if, count_by-all, count_by-falls, count_by-same, due_number-of, due_number-piece, due_number-sum, length-is_rising, list_all-from_count, list_all-from_some, reads_of-other, reads_of-own}
+use Rattle.due_sums.proofs.GroupLaws.{HasGroup, group_of, group_over}
 
 -- a sum has at most as many inputs as there are
 pub few_inputs : (inputs : ℕ) (sums : List (List ℕ)) → AreSums inputs sums → inputs < 2 ^ 32 → All (λ sum. length sum < 2 ^ 32) sums
@@ -24,53 +25,40 @@ missing_of-none : (held : Held) (inputs : List ℕ) (piece : ℕ) → HoldsNone 
 missing_of-none held inputs piece none = count_by-all (λ input. not (is_held held input piece)) inputs (λ input. not_from_false _ (none input piece))
 
 -- the counts of a generation that nothing has come of
-pub IsCounted-fresh : (inputs : ℕ) (sums : List (List ℕ)) (held : Held) (counts : List ℕ) (due : Members) → row_count held ≡ inputs → HoldsNone held → HasNone due
-    → length counts ≡ length sums * pieces → length counts ≤ bound due
-    → ((number : ℕ) → number < length counts → slice_index counts number ≡ length (slice_index_or sums (number / pieces) []))
-    → IsCounted inputs sums held counts due
-IsCounted-fresh inputs sums held counts due rows none empty whole room all = record {
+pub IsCounted-fresh : (inputs : ℕ) (sums groups : List (List ℕ)) (held : Held) (counts : List ℕ) (due : Members) → row_count held ≡ inputs → HoldsNone held → HasNone due
+    → length counts ≡ length groups * pieces → length sums * pieces ≤ bound due
+    → ((number : ℕ) → number < length counts → slice_index counts number ≡ length (slice_index_or groups (number / pieces) []))
+    → IsCounted inputs sums groups held counts due
+IsCounted-fresh inputs sums groups held counts due rows none empty whole room all = record {
   rows = rows;
   whole = whole;
   room = room;
-  missing = λ sum piece within low.
-      all (due_number sum piece) (omega (arith, whole, within, low))
-      ∙ ap (λ sum. length (slice_index_or sums sum [])) (due_number-sum sum piece low)
-      ∙ sym (missing_of-none held (slice_index_or sums sum []) piece none);
+  missing = λ group piece within low.
+      all (due_number group piece) (omega (arith, whole, within, low))
+      ∙ ap (λ group. length (slice_index_or groups group [])) (due_number-sum group piece low)
+      ∙ sym (missing_of-none held (slice_index_or groups group []) piece none);
   complete = λ number is. absurd (omega (arith, is, empty number));
 }
 
 -- so a generation with these counts is one that nothing has come of
-pub IsFresh-counted : (inputs : ℕ) (sums : List (List ℕ)) (held : Held) (was : Vec ℕ Global) (counts : List ℕ) (due : Members) → row_count held ≡ inputs → HoldsNone held → HasNone due
-    → length counts ≡ was.len → was.len ≡ length sums * pieces → was.len ≤ bound due
-    → ((number : ℕ) → number < length counts → slice_index counts number ≡ length (slice_index_or sums (number / pieces) []))
-    → IsFresh inputs sums (record { held = held; missing = with_items was counts; due = due })
-IsFresh-counted inputs sums held was counts due rows none empty same whole room all = record {
-  counted = subst (λ counts. IsCounted inputs sums held counts due) (sym (with_items_is was counts same))
-      (IsCounted-fresh inputs sums held counts due rows none empty (same ∙ whole) (omega (arith, same, room)) all);
+pub IsFresh-counted : (inputs : ℕ) (sums groups : List (List ℕ)) (held : Held) (was : Vec ℕ Global) (counts : List ℕ) (due : Members) → row_count held ≡ inputs → HoldsNone held → HasNone due
+    → length counts ≡ was.len → was.len ≡ length groups * pieces → length sums * pieces ≤ bound due
+    → ((number : ℕ) → number < length counts → slice_index counts number ≡ length (slice_index_or groups (number / pieces) []))
+    → IsFresh inputs sums groups (record { held = held; missing = with_items was counts; due = due })
+IsFresh-counted inputs sums groups held was counts due rows none empty same whole room all = record {
+  counted = subst (λ counts. IsCounted inputs sums groups held counts due) (sym (with_items_is was counts same))
+      (IsCounted-fresh inputs sums groups held counts due rows none empty (same ∙ whole) room all);
   held = none;
   due = empty;
 }
 
--- a piece of a sum is complete where its count is zero
-pub complete_is : (inputs : ℕ) (sums : List (List ℕ)) (held : Held) (counts : List ℕ) (due : Members) (sum piece : ℕ)
-    → IsCounted inputs sums held counts due → sum < length sums → piece < pieces
-    → list_all (λ input. is_held held input piece) (slice_index_or sums sum []) ≡ (slice_index counts (due_number sum piece) == 0)
-complete_is inputs sums held counts due sum piece counted within low = elim (cases_eq count 0) [
-  | inl none ↦ list_all-from_count test numbers (sym same ∙ none) ∙ sym (eq-eqb count 0 none)
-  | inr some ↦ list_all-from_some test numbers (omega (arith, same, some)) ∙ sym (ne_eqb count 0 some)
+-- inputs have come for a piece where none is missing
+pub complete_is : (held : Held) (numbers : List ℕ) (piece : ℕ)
+    → list_all (λ input. is_held held input piece) numbers ≡ (missing_of held numbers piece == 0)
+complete_is held numbers piece = elim (cases_eq (missing_of held numbers piece) 0) [
+  | inl none ↦ list_all-from_count (λ input. is_held held input piece) numbers none ∙ sym (eq-eqb _ 0 none)
+  | inr some ↦ list_all-from_some (λ input. is_held held input piece) numbers (omega (arith, some)) ∙ sym (ne_eqb _ 0 some)
 ]
-  where
-    count : ℕ
-    count = slice_index counts (due_number sum piece)
-
-    numbers : List ℕ
-    numbers = slice_index_or sums sum []
-
-    test : ℕ → Bool
-    test input = is_held held input piece
-
-    same : count ≡ missing_of held numbers piece
-    same = counted.missing sum piece within low
 
 -- An input is missing at least as often as a sum names it, as long as that piece of it hasn't come.
 missing_of-own : (held : Held) (inputs : List ℕ) (input piece : ℕ) → is_held held input piece ≡ false → count_of input inputs ≤ missing_of held inputs piece
@@ -86,25 +74,25 @@ missing_of-own held inputs input piece none =
     here one = counted (one == input) (not (is_held held one piece)) (λ same. ap (λ one. not (is_held held one piece)) (eqb-true one input same) ∙ not_from_false _ none)
 
 -- a piece of an input comes
-module _ (inputs : ℕ) (sums readers : List (List ℕ)) (held : Held) (counts : List ℕ) (due : Members) (input piece : ℕ)
-    (read : AreReaders inputs sums readers) (counted : IsCounted inputs sums held counts due) (within : input < inputs) (low : piece < pieces)
-    (none : is_held held input piece ≡ false) where
+module _ (inputs : ℕ) (sums groups : List (List ℕ)) (starts : List ℕ) (readers : List (List ℕ)) (held : Held) (counts : List ℕ) (due : Members) (input piece : ℕ)
+    (grouped : AreGroups sums groups starts) (read : AreReaders inputs groups readers) (counted : IsCounted inputs sums groups held counts due)
+    (within : input < inputs) (low : piece < pieces) (none : is_held held input piece ≡ false) where
   -- how often it is counted down
   abbrev reads : ℕ → ℕ
   reads = reads_of (slice_index_or readers input []) piece
 
-  own : (sum : ℕ) → reads (due_number sum piece) ≡ count_of input (slice_index_or sums sum [])
-  own sum = reads_of-own (slice_index_or readers input []) sum piece ∙ read.each input sum within
+  own : (group : ℕ) → reads (due_number group piece) ≡ count_of input (slice_index_or groups group [])
+  own group = reads_of-own (slice_index_or readers input []) group piece ∙ read.each input group within
 
-  other : (sum p : ℕ) → p < pieces → p ≢ piece → reads (due_number sum p) ≡ 0
-  other sum p low' apart = reads_of-other (slice_index_or readers input []) sum piece p low low' apart
+  other : (group p : ℕ) → p < pieces → p ≢ piece → reads (due_number group p) ≡ 0
+  other group p low' apart = reads_of-other (slice_index_or readers input []) group piece p low low' apart
 
-  enough_at : (sum p : ℕ) → p < pieces → reads (due_number sum p) ≤ slice_index counts (due_number sum p)
-  enough_at sum p low' = elim (cases_eq p piece) [
-    | inr apart ↦ omega (arith, other sum p low' apart)
-    | inl same ↦ subst (λ p. reads (due_number sum p) ≤ slice_index counts (due_number sum p)) (sym same) (elim (cases_lt sum (length sums)) [
-      | inl inside ↦ omega (arith, own sum, counted.missing sum piece inside low, missing_of-own held (slice_index_or sums sum []) input piece none)
-      | inr past ↦ omega (arith, own sum, ap (count_of input) (get_or_past sums sum [] past))
+  enough_at : (group p : ℕ) → p < pieces → reads (due_number group p) ≤ slice_index counts (due_number group p)
+  enough_at group p low' = elim (cases_eq p piece) [
+    | inr apart ↦ omega (arith, other group p low' apart)
+    | inl same ↦ subst (λ p. reads (due_number group p) ≤ slice_index counts (due_number group p)) (sym same) (elim (cases_lt group (length groups)) [
+      | inl inside ↦ omega (arith, own group, counted.missing group piece inside low, missing_of-own held (slice_index_or groups group []) input piece none)
+      | inr past ↦ omega (arith, own group, ap (count_of input) (get_or_past groups group [] past))
     ])
   ]
 
@@ -112,91 +100,166 @@ module _ (inputs : ℕ) (sums readers : List (List ℕ)) (held : Held) (counts :
   enough number = subst (λ n. reads n ≤ slice_index counts n) (due_number-of number) (enough_at (number / pieces) (number % pieces) (omega arith))
 
   module _ (held' : Held) (counts' : List ℕ) (due' : Members) (payload : List ℕ) (came : Holds input piece payload held held')
-      (rows : row_count held' ≡ row_count held) (down : CountsDown (reads_of (slice_index_or readers input []) piece) counts counts' due due')
+      (rows : row_count held' ≡ row_count held) (down : CountsDown (reads_of (slice_index_or readers input []) piece) starts piece counts counts' due due')
       (whole : length counts' ≡ length counts) where
     stays : (one p : ℕ) → p < pieces → ((one ≡ input) × (p ≡ piece) → ⊥) → is_held held' one p ≡ is_held held one p
     stays one p low' apart = came.same_marks (place one p) (λ same. apart (omega (arith, same, low, low'), omega (arith, same, low, low')))
+
+    -- how many are missing: of another piece as many, and of this one fewer by as often as the input is named
+    as_many : (numbers : List ℕ) (p : ℕ) → p < pieces → p ≢ piece → missing_of held' numbers p ≡ missing_of held numbers p
+    as_many numbers p low' apart =
+        sym (count_by-same (λ one. not (is_held held one p)) (λ one. not (is_held held' one p)) numbers (λ one. ap not (sym (stays one p low' (λ same. apart same.1)))))
 
     falls : (numbers : List ℕ) → missing_of held' numbers piece + count_of input numbers ≡ missing_of held numbers piece
     falls numbers =
         count_by-falls (λ one. not (is_held held one piece)) (λ one. not (is_held held' one piece)) input numbers (not_from_false _ none) (not_from_true _ came.held)
         (λ one apart. ap not (stays one piece low (λ same. apart same.0)))
 
-    missing : (sum p : ℕ) → sum < length sums → p < pieces → slice_index counts' (due_number sum p) ≡ missing_of held' (slice_index_or sums sum []) p
-    missing sum p inside low' = elim (cases_eq p piece) [
+    no_more : (numbers : List ℕ) (p : ℕ) → p < pieces → missing_of held' numbers p ≤ missing_of held numbers p
+    no_more numbers p low' = elim (cases_eq p piece) [
+      | inl same ↦ subst (λ p. missing_of held' numbers p ≤ missing_of held numbers p) (sym same) (omega (arith, falls numbers))
+      | inr apart ↦ omega (arith, as_many numbers p low' apart)
+    ]
+
+    missing : (group p : ℕ) → group < length groups → p < pieces → slice_index counts' (due_number group p) ≡ missing_of held' (slice_index_or groups group []) p
+    missing group p inside low' = elim (cases_eq p piece) [
       | inl same ↦
-          let numbers = slice_index_or sums sum [] in
-          subst (λ p. slice_index counts' (due_number sum p) ≡ missing_of held' numbers p) (sym same)
-          (omega (arith, own sum, counted.missing sum piece inside low, falls numbers, down.counts (due_number sum piece)))
+          let numbers = slice_index_or groups group [] in
+          subst (λ p. slice_index counts' (due_number group p) ≡ missing_of held' numbers p) (sym same)
+          (omega (arith, own group, counted.missing group piece inside low, falls numbers, down.counts (due_number group piece)))
       | inr apart ↦
-          let numbers = slice_index_or sums sum [] in
-          let kept = count_by-same (λ one. not (is_held held one p)) (λ one. not (is_held held' one p)) numbers (λ one. ap not (sym (stays one p low' (λ same. apart same.1)))) in
-          omega (arith, other sum p low' apart, counted.missing sum p inside low', kept, down.counts (due_number sum p))
+          let numbers = slice_index_or groups group [] in
+          omega (arith, other group p low' apart, counted.missing group p inside low', as_many numbers p low' apart, down.counts (due_number group p))
     ]
 
-    complete : (number : ℕ) → bit_of due'.words number ≡ 1 → (number < length counts') × (slice_index counts' number ≡ 0)
-    complete number is = elim (cases_lt 0 (slice_index counts' number)) [
-      | inl some ↦
-          let before = counted.complete number (sym (down.others number (inr some)) ∙ is) in
-          absurd (omega (arith, some, before.1, down.counts number))
-      | inr zero ↦ (
-        elim (cases_lt 0 (reads number)) [
-          | inl read ↦ omega (arith, whole, within_counts counts number (omega (arith, read, down.counts number)))
-          | inr unread ↦
-              let before = counted.complete number (sym (down.others number (inl (omega (arith, unread)))) ∙ is) in
-              omega (arith, whole, before.0)
-        ],
-        omega (arith, zero),
-      )
-    ]
+    -- what is done has come
+    done_has : (group sum : ℕ) → IsDone reads starts piece counts' group sum → (sum < length sums) × (missing_of held' (slice_index_or sums sum []) piece ≡ 0)
+    done_has group sum done =
+        let over = group_over sums groups starts grouped group sum done.from done.to in
+        (over.1, ap (λ (numbers : List ℕ). missing_of held' numbers piece) over.2 ∙ sym (missing group piece over.0 low) ∙ done.none)
 
-    pub IsCounted-accept : IsCounted inputs sums held' counts' due'
+    done_at : (number group : ℕ) → number % pieces ≡ piece → IsDone reads starts piece counts' group (number / pieces)
+        → (number / pieces < length sums) × (missing_of held' (slice_index_or sums (number / pieces) []) (number % pieces) ≡ 0)
+    done_at number group is done =
+        let has = done_has group (number / pieces) done in
+        (has.0, ap (missing_of held' (slice_index_or sums (number / pieces) [])) is ∙ has.1)
+
+    complete : (number : ℕ) → bit_of due'.words number ≡ 1
+        → (number / pieces < length sums) × (missing_of held' (slice_index_or sums (number / pieces) []) (number % pieces) ≡ 0)
+    complete number is = (inside, has)
+      where
+        before : ((group : ℕ) → number % pieces ≡ piece → IsDone reads starts piece counts' group (number / pieces) → ⊥)
+            → (number / pieces < length sums) × (missing_of held (slice_index_or sums (number / pieces) []) (number % pieces) ≡ 0)
+        before isnt = counted.complete number (sym (down.others number isnt) ∙ is)
+
+        inside : number / pieces < length sums
+        inside = elim (cases_lt (number / pieces) (length sums)) [
+          | inl below ↦ below
+          | inr past ↦ (before (λ group at done. omega (arith, past, (done_at number group at done).0))).0
+        ]
+
+        has : missing_of held' (slice_index_or sums (number / pieces) []) (number % pieces) ≡ 0
+        has = elim (cases_eq (missing_of held' (slice_index_or sums (number / pieces) []) (number % pieces)) 0) [
+          | inl zero ↦ zero
+          | inr some ↦
+              let was = (before (λ group at done. some (done_at number group at done).1)).1 in
+              omega (arith, was, no_more (slice_index_or sums (number / pieces) []) (number % pieces) (omega arith))
+        ]
+
+    pub IsCounted-accept : IsCounted inputs sums groups held' counts' due'
     IsCounted-accept = record {
       rows = rows ∙ counted.rows;
       whole = whole ∙ counted.whole;
-      room = omega (arith, whole, counted.room, down.room);
+      room = omega (arith, counted.room, down.room);
       missing = missing;
       complete = complete;
     }
 
-    -- what was given stays so, and what is complete now is due
-    pub given_kept : (sum p : ℕ) → sum < length sums → p < pieces
-        → (list_all (λ one. is_held held' one p) (slice_index_or sums sum []) && not (bit_of due'.words (due_number sum p) == 1))
-        ≡ (list_all (λ one. is_held held one p) (slice_index_or sums sum []) && not (bit_of due.words (due_number sum p) == 1))
-    given_kept sum p inside low' =
-        ap (λ (whole : Bool). whole && not (bit_of due'.words number == 1)) (complete_is inputs sums held' counts' due' sum p IsCounted-accept inside low')
-        ∙ by_count
-        ∙ ap (λ (whole : Bool). whole && not (bit_of due.words number == 1)) (sym (complete_is inputs sums held counts due sum p counted inside low'))
-      where
-        number : ℕ
-        number = due_number sum p
+    -- a piece of a sum
+    module _ (sum p : ℕ) (inside : sum < length sums) (low' : p < pieces) where
+      abbrev number : ℕ
+      number = due_number sum p
 
-        given : List ℕ → Members → Bool
-        given counts due = (slice_index counts number == 0) && not (bit_of due.words number == 1)
+      abbrev numbers : List ℕ
+      numbers = slice_index_or sums sum []
 
-        was_missing : 0 < reads number → given counts due ≡ false
-        was_missing some = ap (λ (zero : Bool). zero && not (bit_of due.words number == 1)) (ne_eqb (slice_index counts number) 0 (λ zero. absurd (omega (arith, some, zero, down.counts number))))
+      abbrev given : Held → Members → Bool
+      given held due = (missing_of held numbers p == 0) && not (bit_of due.words number == 1)
 
-        is_missing : 0 < reads number → given counts' due' ≡ false
-        is_missing some = elim (cases_eq (slice_index counts' number) 0) [
-          | inl zero ↦ ap (λ (zero : Bool). zero && not (bit_of due'.words number == 1)) (eq-eqb (slice_index counts' number) 0 zero)
-              ∙ ap not (eq-eqb (bit_of due'.words number) 1 (down.due number some zero))
-          | inr left ↦ ap (λ (zero : Bool). zero && not (bit_of due'.words number == 1)) (ne_eqb (slice_index counts' number) 0 left)
+      -- where as many are missing and nothing is made due
+      same_given : missing_of held' numbers p ≡ missing_of held numbers p
+          → ((group : ℕ) → number % pieces ≡ piece → IsDone reads starts piece counts' group (number / pieces) → ⊥) → given held' due' ≡ given held due
+      same_given many isnt =
+          ap (λ n. (n == 0) && not (bit_of due'.words number == 1)) many ∙ ap (λ n. (missing_of held numbers p == 0) && not (n == 1)) (down.others number isnt)
+
+      sum_is : number / pieces ≡ sum
+      sum_is = due_number-sum sum p low'
+
+      piece_is : number % pieces ≡ p
+      piece_is = due_number-piece sum p low'
+
+      module _ (same : p ≡ piece) where
+        has : HasGroup starts (length groups) sum
+        has = group_of sums groups starts grouped sum inside
+
+        in_group : numbers ≡ slice_index_or groups has.group []
+        in_group = grouped.same has.group sum has.inside has.from has.to
+
+        read_so : reads (due_number has.group piece) ≡ count_of input numbers
+        read_so = own has.group ∙ ap (count_of input) (sym in_group)
+
+        fewer : missing_of held' numbers p + reads (due_number has.group piece) ≡ missing_of held numbers p
+        fewer = subst (λ p. missing_of held' numbers p + reads (due_number has.group piece) ≡ missing_of held numbers p) (sym same) (omega (arith, falls numbers, read_so))
+
+        count_is : slice_index counts' (due_number has.group piece) ≡ missing_of held' numbers p
+        count_is = missing has.group piece has.inside low ∙ ap (λ (ns : List ℕ). missing_of held' ns piece) (sym in_group) ∙ ap (missing_of held' numbers) (sym same)
+
+        was_missing : 0 < reads (due_number has.group piece) → given held due ≡ false
+        was_missing some = ap (λ (zero : Bool). zero && not (bit_of due.words number == 1)) (ne_eqb (missing_of held numbers p) 0 (λ zero. absurd (omega (arith, some, zero, fewer))))
+
+        made_due : 0 < reads (due_number has.group piece) → missing_of held' numbers p ≡ 0 → bit_of due'.words number ≡ 1
+        made_due some zero =
+            ap (λ p. bit_of due'.words (due_number sum p)) same
+            ∙ down.due has.group sum (record { from = has.from; to = has.to; read = some; none = count_is ∙ zero })
+
+        is_missing : 0 < reads (due_number has.group piece) → given held' due' ≡ false
+        is_missing some = elim (cases_eq (missing_of held' numbers p) 0) [
+          | inl zero ↦ ap (λ (zero : Bool). zero && not (bit_of due'.words number == 1)) (eq-eqb (missing_of held' numbers p) 0 zero)
+              ∙ ap not (eq-eqb (bit_of due'.words number) 1 (made_due some zero))
+          | inr left ↦ ap (λ (zero : Bool). zero && not (bit_of due'.words number == 1)) (ne_eqb (missing_of held' numbers p) 0 left)
         ]
 
-        by_count : given counts' due' ≡ given counts due
-        by_count = elim (cases_lt 0 (reads number)) [
+        -- a group that reaches over the sum and was counted down is read by the sum's own
+        isnt_done : reads (due_number has.group piece) ≡ 0 → (group : ℕ) → number % pieces ≡ piece → IsDone reads starts piece counts' group (number / pieces) → ⊥
+        isnt_done unread group at done =
+            let over = group_over sums groups starts grouped group (number / pieces) done.from done.to in
+            let named : count_of input numbers ≡ count_of input (slice_index_or groups group []) = ap (λ s. count_of input (slice_index_or sums s [])) (sym sum_is) ∙ ap (count_of input) over.2 in
+            omega (arith, unread, read_so, named, own group, done.read)
+
+        by_piece : given held' due' ≡ given held due
+        by_piece = elim (cases_lt 0 (reads (due_number has.group piece))) [
           | inl some ↦ is_missing some ∙ sym (was_missing some)
-          | inr unread ↦
-              let count : slice_index counts' number ≡ slice_index counts number = omega (arith, unread, down.counts number) in
-              let same = down.others number (inl (omega (arith, unread))) in
-              ap (λ n. (n == 0) && not (bit_of due'.words number == 1)) count ∙ ap (λ n. (slice_index counts number == 0) && not (n == 1)) same
+          | inr unread ↦ same_given (omega (arith, fewer, unread)) (isnt_done (omega (arith, unread)))
         ]
+
+      by_count : given held' due' ≡ given held due
+      by_count = elim (cases_eq p piece) [
+        | inl same ↦ by_piece same
+        | inr apart ↦ same_given (as_many numbers p low' apart) (λ group at done. apart (sym piece_is ∙ at))
+      ]
+
+      -- what was given stays so, and what is complete now is due
+      pub given_kept : (list_all (λ one. is_held held' one p) (slice_index_or sums sum []) && not (bit_of due'.words (due_number sum p) == 1))
+          ≡ (list_all (λ one. is_held held one p) (slice_index_or sums sum []) && not (bit_of due.words (due_number sum p) == 1))
+      given_kept =
+          ap (λ (whole : Bool). whole && not (bit_of due'.words number == 1)) (complete_is held' numbers p)
+          ∙ by_count
+          ∙ ap (λ (whole : Bool). whole && not (bit_of due.words number == 1)) (sym (complete_is held numbers p))
 
 -- a due number is taken
-pub IsCounted-lost : (inputs : ℕ) (sums : List (List ℕ)) (held : Held) (counts : List ℕ) (due due' : Members) (number : ℕ)
-    → IsCounted inputs sums held counts due → Loses number due due' → IsCounted inputs sums held counts due'
-IsCounted-lost inputs sums held counts due due' number counted lost = record {
+pub IsCounted-lost : (inputs : ℕ) (sums groups : List (List ℕ)) (held : Held) (counts : List ℕ) (due due' : Members) (number : ℕ)
+    → IsCounted inputs sums groups held counts due → Loses number due due' → IsCounted inputs sums groups held counts due'
+IsCounted-lost inputs sums groups held counts due due' number counted lost = record {
   rows = counted.rows;
   whole = counted.whole;
   room = omega (arith, counted.room, lost.long);

@@ -1,5 +1,5 @@
 -- Laws of sums that wait: where nothing has come, where a piece of an input comes, and where a due piece is taken.
-use Rattle.std.specs.Prelude.{◌≡◌, ◌≢◌, ◌<◌, ◌/◌, ◌%◌, ◌&&◌, ◌==◌, ℕ, Bool, true, false, not, All, List, [], Vec, length, map, slice_index, slice_index_or, slice_set}
+use Rattle.std.specs.Prelude.{◌≡◌, ◌≢◌, ◌<◌, ◌/◌, ◌%◌, ◌&&◌, ◌==◌, ℕ, Bool, true, false, not, All, List, [], Vec, length, map, slice_index_or, slice_set}
 use Rattle.std.specs.Global.{Global}
 use Rattle.std.specs.List.{list_all}
 use Rattle.std.specs.Vec.{with_items}
@@ -15,6 +15,7 @@ use Rattle.held_rows.specs.Held.{Held, Holds, HoldsNone, is_held, payload_of, pl
 use Rattle.least_set.specs.Members.{HasNone, IsLeast, Loses, Members, bit_of}
 use Rattle.least_set.proofs.WordLaws.{no_bit}
 use Rattle.due_sums.specs.Counts.{AreReaders, CountsDown, IsCounted, IsFresh, IsTable, IsWaiting, lists_of, reads_of, seen}
+use Rattle.due_sums.specs.Groups.{AreGroups}
 use Rattle.due_sums.specs.Waiting.{Gains, HasNothing, IsAtMost, Table as Seen, Takes, Waiting, due_number, has_input, input_at, is_due}
 use Rattle.due_sums.specs.declared.due_sums.Table.{Table}
 use Rattle.due_sums.proofs.CountLaws.{due_number-of}
@@ -30,9 +31,9 @@ pub record IsEmpty (table : Seen) : Type 0 where
   pub due : HasNone table.due
 
 -- where nothing has come of any generation, nothing has
-pub HasNothing-fresh : (inputs : ℕ) (sums : List (List ℕ)) (tables : List Table) → All (IsFresh inputs sums) tables
+pub HasNothing-fresh : (inputs : ℕ) (sums groups : List (List ℕ)) (tables : List Table) → All (IsFresh inputs sums groups) tables
     → HasNothing (record { inputs = inputs; sums = sums; tables = map seen tables })
-HasNothing-fresh inputs sums tables fresh = record {
+HasNothing-fresh inputs sums groups tables fresh = record {
   inputs = λ generation input piece. (empty generation).held input piece;
   due = λ generation sum piece. ap (λ bit. bit == 1) ((empty generation).due (due_number sum piece));
 }
@@ -41,20 +42,21 @@ HasNothing-fresh inputs sums tables fresh = record {
     empty generation = elim (cases_lt generation (length (map seen tables))) [
       | inl within ↦
           All-get_or IsEmpty (map seen tables) generation nothing within
-          (All-map IsEmpty seen tables (All-weaker (IsFresh inputs sums) (λ table. IsEmpty (seen table)) (λ table none. record { held = none.held; due = none.due }) tables fresh))
+          (All-map IsEmpty seen tables (All-weaker (IsFresh inputs sums groups) (λ table. IsEmpty (seen table)) (λ table none. record { held = none.held; due = none.due }) tables fresh))
       | inr past ↦
           subst IsEmpty (sym (get_or_past (map seen tables) generation nothing past))
           (record { held = λ row piece. refl; due = λ number. no_bit 0 (number % 64) refl })
     ]
 
 -- a generation is changed
-pub IsWaiting-set : (inputs : ℕ) (sums readers : List (List ℕ)) (tables : List Table) (generation : ℕ) (table : Table)
-    → IsWaiting inputs sums readers tables → IsTable inputs sums table → IsWaiting inputs sums readers (slice_set tables generation table)
-IsWaiting-set inputs sums readers tables generation table waiting counted = record {
+pub IsWaiting-set : (inputs : ℕ) (sums groups : List (List ℕ)) (starts : List ℕ) (readers : List (List ℕ)) (tables : List Table) (generation : ℕ) (table : Table)
+    → IsWaiting inputs sums groups starts readers tables → IsTable inputs sums groups table → IsWaiting inputs sums groups starts readers (slice_set tables generation table)
+IsWaiting-set inputs sums groups starts readers tables generation table waiting counted = record {
   work = waiting.work;
   few = waiting.few;
+  grouped = waiting.grouped;
   read = waiting.read;
-  counted = All-set (IsTable inputs sums) tables generation table counted waiting.counted;
+  counted = All-set (IsTable inputs sums groups) tables generation table counted waiting.counted;
 }
 
 -- whether a piece of a sum was given, by what stands of its generation
@@ -107,15 +109,14 @@ module _ (inputs : ℕ) (sums : List (List ℕ)) (tables : List Seen) (generatio
   }
 
   -- the least due piece is taken
-  pub Takes-least : (number : ℕ) (counts : List ℕ) → IsCounted inputs sums at.held counts at.due → IsLeast number at.due → Loses number at.due table.due → table.held ≡ at.held
+  pub Takes-least : (groups : List (List ℕ)) (number : ℕ) (counts : List ℕ) → IsCounted inputs sums groups at.held counts at.due → IsLeast number at.due → Loses number at.due table.due → table.held ≡ at.held
       → Takes generation (number / pieces) (number % pieces) (record { inputs = inputs; sums = sums; tables = tables })
       (record { inputs = inputs; sums = sums; tables = slice_set tables generation table })
-  Takes-least number counts counted least lost held = record {
+  Takes-least groups number counts counted least lost held = record {
     in_sums = in_sums;
     in_pieces = low;
     complete =
-        complete_is inputs sums at.held counts at.due sum piece counted in_sums low
-        ∙ eq-eqb _ 0 (ap (slice_index counts) (due_number-of number) ∙ (counted.complete number least.within).1);
+        complete_is at.held (slice_index_or sums sum []) piece ∙ eq-eqb _ 0 (counted.complete number least.within).1;
     due = eq-eqb _ 1 (ap (bit_of at.due.words) (due_number-of number) ∙ least.within);
     least = λ s p low' due. at_most s p low' (eqb-true _ 1 due);
     taken = ap (λ (one : Seen). bit_of one.due.words (due_number sum piece) == 1) at_new
@@ -142,7 +143,7 @@ module _ (inputs : ℕ) (sums : List (List ℕ)) (tables : List Seen) (generatio
       low = omega arith
 
       in_sums : number / pieces < length sums
-      in_sums = omega (arith, (counted.complete number least.within).0, counted.whole)
+      in_sums = (counted.complete number least.within).0
 
       same_held : (g : ℕ) → (slice_index_or (slice_set tables generation table) g nothing).held ≡ (slice_index_or tables g nothing).held
       same_held g = each (λ one other. one.held ≡ other.held) held (λ one. refl) g
@@ -166,12 +167,12 @@ seen_at : (tables : List Table) (generation : ℕ) (table : Table) → generatio
 seen_at tables generation table inside is = get_or-map seen tables generation table nothing inside ∙ ap seen (sym is)
 
 -- the least due piece of a generation is taken
-pub Takes-table : (inputs : ℕ) (sums : List (List ℕ)) (tables : List Table) (generation number : ℕ) (table : Table) (due' : Members)
-    → generation < length tables → table ≡ get_or tables generation table → IsTable inputs sums table → IsLeast number table.due → Loses number table.due due'
+pub Takes-table : (inputs : ℕ) (sums groups : List (List ℕ)) (tables : List Table) (generation number : ℕ) (table : Table) (due' : Members)
+    → generation < length tables → table ≡ get_or tables generation table → IsTable inputs sums groups table → IsLeast number table.due → Loses number table.due due'
     → (waiting : Waiting) → waiting_of inputs sums tables ≡ waiting
     → Takes generation (number / pieces) (number % pieces) waiting
     (waiting_of inputs sums (slice_set tables generation (record { held = table.held; missing = table.missing; due = due' })))
-Takes-table inputs sums tables generation number table due' inside is counted least lost waiting seen_so =
+Takes-table inputs sums groups tables generation number table due' inside is counted least lost waiting seen_so =
     let old = map seen tables in
     let at = slice_index_or old generation nothing in
     let counts = table.missing.items in
@@ -180,25 +181,25 @@ Takes-table inputs sums tables generation number table due' inside is counted le
     let Before : Waiting → Type 0 = λ waiting. Takes generation (number / pieces) (number % pieces) waiting (waiting_of inputs sums (slice_set tables generation table')) in
     let After : List Seen → Type 0 = λ new. Takes generation (number / pieces) (number % pieces) (waiting_of inputs sums tables) (record { inputs = inputs; sums = sums; tables = new }) in
     subst Before seen_so (subst After (sym (map-set seen tables generation table'))
-    (Takes-least inputs sums old generation (seen table') (omega (arith, inside, length-map tables seen)) number counts
-    (subst (λ (one : Seen). IsCounted inputs sums one.held counts one.due) back counted) (subst (λ (one : Seen). IsLeast number one.due) back least)
+    (Takes-least inputs sums old generation (seen table') (omega (arith, inside, length-map tables seen)) groups number counts
+    (subst (λ (one : Seen). IsCounted inputs sums groups one.held counts one.due) back counted) (subst (λ (one : Seen). IsLeast number one.due) back least)
     (subst (λ (one : Seen). Loses number one.due due') back lost) (ap (λ (one : Seen). one.held) back)))
 
 -- a piece of an input comes to a generation
-module _ (inputs : ℕ) (sums readers : List (List ℕ)) (input piece : ℕ) (payload : List ℕ) (table : Table) (held' : Held) (counts' : List ℕ) (due' : Members)
-    (read : AreReaders inputs sums readers) (counted : IsTable inputs sums table) (within : input < inputs) (low : piece < pieces)
+module _ (inputs : ℕ) (sums groups : List (List ℕ)) (starts : List ℕ) (readers : List (List ℕ)) (input piece : ℕ) (payload : List ℕ) (table : Table) (held' : Held) (counts' : List ℕ) (due' : Members)
+    (grouped : AreGroups sums groups starts) (read : AreReaders inputs groups readers) (counted : IsTable inputs sums groups table) (within : input < inputs) (low : piece < pieces)
     (none : is_held table.held input piece ≡ false) (came : Holds input piece payload table.held held') (rows : row_count held' ≡ row_count table.held)
-    (down : CountsDown (reads_of (slice_index_or readers input []) piece) table.missing.items counts' table.due due') (whole : length counts' ≡ length table.missing.items) where
+    (down : CountsDown (reads_of (slice_index_or readers input []) piece) starts piece table.missing.items counts' table.due due') (whole : length counts' ≡ length table.missing.items) where
   abbrev table' : Table
   table' = record { held = held'; missing = with_items table.missing counts'; due = due' }
 
   items : (with_items table.missing counts').items ≡ counts'
   items = with_items_is table.missing counts' (whole ∙ sym table.missing.ok.0)
 
-  pub IsTable-accept : IsTable inputs sums (record { held = held'; missing = with_items table.missing counts'; due = due' })
+  pub IsTable-accept : IsTable inputs sums groups (record { held = held'; missing = with_items table.missing counts'; due = due' })
   IsTable-accept =
-      subst (λ counts. IsCounted inputs sums held' counts due') (sym items)
-      (IsCounted-accept inputs sums readers table.held table.missing.items table.due input piece read counted within low none held' counts' due' payload came rows down whole)
+      subst (λ counts. IsCounted inputs sums groups held' counts due') (sym items)
+      (IsCounted-accept inputs sums groups starts readers table.held table.missing.items table.due input piece grouped read counted within low none held' counts' due' payload came rows down whole)
 
   pub Gains-table : (tables : List Table) (generation : ℕ) → generation < length tables → table ≡ get_or tables generation table
       → (waiting : Waiting) → waiting_of inputs sums tables ≡ waiting
@@ -214,7 +215,7 @@ module _ (inputs : ℕ) (sums readers : List (List ℕ)) (input piece : ℕ) (pa
       (subst (λ (one : Seen). Holds input piece payload one.held held') back came)
       (λ s p below low'.
       subst (λ (one : Seen). given_in sums (seen table') s p ≡ given_in sums one s p) back
-      (given_kept inputs sums readers table.held table.missing.items table.due input piece read counted within low none held' counts' due' payload came rows down whole s p below low'))))
+      (given_kept inputs sums groups starts readers table.held table.missing.items table.due input piece grouped read counted within low none held' counts' due' payload came rows down whole s p below low'))))
 
 -- a piece that hasn't come before
 pub not_before : (known : Bool) (answer : Accepted) → answer ≡ accepted known → (answer ≡ Known → ⊥) → known ≡ false

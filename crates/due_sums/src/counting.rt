@@ -1,38 +1,60 @@
-//! Counts of the inputs that are missing, for each piece of each sum.
-ghost use Rattle.std.specs.Prelude.{◌≡◌, ◌<◌, ◌≤◌, ◌*◌, ◌/◌, ◌^◌, ℕ, All, length, slice_index};
+//! Counts of the inputs that are missing, for each piece of each group of sums.
+ghost use Rattle.std.specs.Prelude.{◌≡◌, ◌<◌, ◌≤◌, ◌+◌, ◌-◌, ◌*◌, ◌/◌, ◌^◌, ℕ, All, length, slice_index};
 ghost use Rattle.generation_frame.specs.Blocks.{pieces};
-ghost use Rattle.least_set.specs.Members.{bound};
+ghost use Rattle.least_set.specs.Members.{GainsEighths};
 ghost use Rattle.due_sums.specs.Counts.{CountsDown, list_at, reads_of};
+ghost use Rattle.due_sums.specs.Groups.{HasSums};
+ghost use Rattle.due_sums.specs.Waiting.{due_number};
 
 use crate::SumTable;
 use generation_frame::PIECES;
 use least_set::LeastSet;
 
-// Counts all inputs of each sum as missing, for each piece.
-pub fn count_all(missing: &mut [u32], sums: &SumTable)
-    requires whole { length missing.old ≡ length sums.now * pieces }
-    requires few { All (λ inputs. length inputs < 2 ^ 32) sums.now }
+// Counts all inputs of each group as missing, for each piece.
+pub fn count_all(missing: &mut [u32], groups: &SumTable)
+    requires whole { length missing.old ≡ length groups.now * pieces }
+    requires few { All (λ inputs. length inputs < 2 ^ 32) groups.now }
     ensures { (number : ℕ) → number < length missing.new
-        → slice_index missing.new number ≡ length (list_at sums.now (number / pieces)) }
+        → slice_index missing.new number ≡ length (list_at groups.now (number / pieces)) }
 {
     for (number, count) in missing.iter_mut().enumerate() {
-        *count = sums.at(number / PIECES).len() as u32;
+        *count = groups.at(number / PIECES).len() as u32;
     }
 }
 
-// Counts a piece of an input down at the sums that read it. Those that have no input missing are due.
-pub fn count_down(missing: &mut [u32], due: &mut LeastSet, readers: &[u32], piece: u8)
+// Counts a piece of an input down at the groups that read it. The sums of those that have no input missing are due.
+pub fn count_down(
+    missing: &mut [u32],
+    due: &mut LeastSet,
+    starts: &[u32],
+    readers: &[u32],
+    piece: u8,
+)
+    requires piece { piece < pieces }
     requires enough { (number : ℕ)
         → reads_of readers.now piece number ≤ slice_index missing.old number }
-    requires few { length missing.old ≤ 2 ^ 32 }
-    requires room { length missing.old ≤ bound due.old }
-    ensures { CountsDown (reads_of readers.now piece) missing.old missing.new due.old due.new }
+    requires groups { (group : ℕ) → due_number group piece < length missing.old
+        → HasSums starts.now group due.old }
+    ensures { CountsDown (reads_of readers.now piece) starts.now piece missing.old missing.new
+        due.old due.new }
 {
-    for sum in readers {
-        let number = *sum as usize * PIECES + piece as usize;
+    for group in readers {
+        let number = *group as usize * PIECES + piece as usize;
         missing[number] -= 1;
         if missing[number] == 0 {
-            due.insert(number as u32);
+            make_due(due, starts, *group as usize, piece);
         }
     }
+}
+
+// Makes a piece of all sums of a group due.
+fn make_due(due: &mut LeastSet, starts: &[u32], group: usize, piece: u8)
+    requires piece { piece < pieces }
+    requires sums { HasSums starts.now group due.old }
+    ensures { GainsEighths (due_number (slice_index starts.now group) piece)
+        (due_number (slice_index starts.now (group + 1) - 1) piece) due.old due.new }
+{
+    let first = starts[group] * PIECES as u32 + piece as u32;
+    let last = (starts[group + 1] - 1) * PIECES as u32 + piece as u32;
+    due.insert_eighths(first, last);
 }

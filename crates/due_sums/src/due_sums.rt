@@ -2,6 +2,7 @@
 ghost use Rattle.std.specs.Prelude.{◌≡◌, ◌<◌, ◌≤◌, ◌*◌, ◌^◌, ℕ, true, false, length, IfOk, IfSome, IsNone};
 
 use crate::counting::{count_all, count_down};
+use crate::groups::{Groups, groups_of};
 use crate::readers::readers_of;
 use generation_frame::{Accepted, PIECES};
 use held_rows::HeldRows;
@@ -23,8 +24,8 @@ pub struct Due {
     pub piece: u8,
 }
 
-// One generation: the pieces of inputs that have come, for each piece of each sum how many inputs are missing, and
-// those that are due.
+// One generation: the pieces of inputs that have come, for each piece of each group of sums how many inputs are missing,
+// and the pieces of sums that are due.
 #[derive(Drop)]
 struct Table {
     held: HeldRows,
@@ -37,29 +38,34 @@ impl Table {
     ghost use Rattle.due_sums.specs.Counts.{IsFresh, IsTable};
 
     // A generation of which nothing has come.
-    fn new(alloc: Global, inputs: u32, sums: &SumTable) -> Result<Table, AllocError>
-        requires { AreSums inputs sums.now }
-        ensures { IfOk result (IsFresh inputs sums.now) }
+    fn new(
+        alloc: Global,
+        inputs: u32,
+        sums: &SumTable,
+        groups: &SumTable,
+    ) -> Result<Table, AllocError>
+        requires sums { AreSums inputs sums.now }
+        requires groups { AreSums inputs groups.now }
+        ensures { IfOk result (IsFresh inputs sums.now groups.now) }
     {
-        let places = sums.len() * PIECES;
-        let mut missing = vec![in alloc; 0u32; places]?;
-        count_all(&mut missing, sums);
+        let mut missing = vec![in alloc; 0u32; groups.len() * PIECES]?;
+        count_all(&mut missing, groups);
         Ok(Table {
             held: HeldRows::new(alloc, inputs)?,
             missing,
-            due: LeastSet::new(alloc, places as u32)?,
+            due: LeastSet::new(alloc, (sums.len() * PIECES) as u32)?,
         })
     }
 
     // Forgets all that came.
-    fn clear(&mut self, inputs: u32, sums: &SumTable)
-        requires sums { AreSums inputs sums.now }
-        requires table { IsTable inputs sums.now self.old }
-        ensures { IsFresh inputs sums.now self.new }
+    fn clear(&mut self, inputs: u32, sums: &SumTable, groups: &SumTable)
+        requires groups { AreSums inputs groups.now }
+        requires table { IsTable inputs sums.now groups.now self.old }
+        ensures { IsFresh inputs sums.now groups.now self.new }
     {
         self.held.clear();
         self.due.clear();
-        count_all(&mut self.missing, sums);
+        count_all(&mut self.missing, groups);
     }
 }
 
@@ -68,7 +74,8 @@ impl Table {
 pub struct DueSums {
     inputs: u32,
     sums: SumTable,
-    // For each input the sums that read it.
+    groups: Groups,
+    // For each input the groups that read it.
     readers: Vec<Vec<u32>>,
     tables: Vec<Table>,
 }
@@ -89,8 +96,8 @@ impl Model for DueSums {
         } };
 
     ghost invariant = { λ waiting.
-        IsWaiting waiting.inputs waiting.sums (lists_of waiting.readers.items)
-        waiting.tables.items };
+        IsWaiting waiting.inputs waiting.sums waiting.groups.inputs waiting.groups.starts.items
+        (lists_of waiting.readers.items) waiting.tables.items };
 }
 
 impl DueSums {
@@ -112,11 +119,13 @@ impl DueSums {
         ensures generations { IfOk result (λ waiting. length waiting.tables ≡ generations) }
         ensures nothing { IfOk result HasNothing }
     {
-        let readers = readers_of(alloc, inputs, &sums)?;
-        let tables = fresh_tables(alloc, inputs, &sums, generations)?;
+        let groups = groups_of(alloc, &sums)?;
+        let readers = readers_of(alloc, inputs, &groups.inputs)?;
+        let tables = fresh_tables(alloc, inputs, &sums, &groups.inputs, generations)?;
         Ok(DueSums {
             inputs,
             sums,
+            groups,
             readers,
             tables,
         })
@@ -134,7 +143,12 @@ impl DueSums {
         ensures work { IsSameWork self.old self.new }
         ensures nothing { HasNothing self.new }
     {
-        clear_tables(&mut self.tables, self.inputs, &self.sums);
+        clear_tables(
+            &mut self.tables,
+            self.inputs,
+            &self.sums,
+            &self.groups.inputs,
+        );
     }
 
     /// Takes a piece of an input in, if it hasn't come before. The sums that it completes are due.
@@ -161,6 +175,7 @@ impl DueSums {
         count_down(
             &mut table.missing,
             &mut table.due,
+            &self.groups.starts,
             &self.readers[input as usize],
             piece,
         );
@@ -204,26 +219,28 @@ fn fresh_tables(
     alloc: Global,
     inputs: u32,
     sums: &SumTable,
+    groups: &SumTable,
     count: usize,
 ) -> Result<Vec<Table>, AllocError>
-    requires { AreSums inputs sums.now }
+    requires sums { AreSums inputs sums.now }
+    requires groups { AreSums inputs groups.now }
     ensures count { IfOk result (λ tables. length tables.items ≡ count) }
-    ensures fresh { IfOk result (λ tables. All (IsFresh inputs sums.now) tables.items) }
+    ensures fresh { IfOk result (λ tables. All (IsFresh inputs sums.now groups.now) tables.items) }
 {
     let mut tables = Vec::with_capacity(alloc, count)?;
     for _ in 0..count {
-        tables.push(Table::new(alloc, inputs, sums)?)?;
+        tables.push(Table::new(alloc, inputs, sums, groups)?)?;
     }
     Ok(tables)
 }
 
 // Forgets all that came of each generation.
-fn clear_tables(tables: &mut [Table], inputs: u32, sums: &SumTable)
-    requires sums { AreSums inputs sums.now }
-    requires tables { All (IsTable inputs sums.now) tables.old }
-    ensures { All (IsFresh inputs sums.now) tables.new }
+fn clear_tables(tables: &mut [Table], inputs: u32, sums: &SumTable, groups: &SumTable)
+    requires groups { AreSums inputs groups.now }
+    requires tables { All (IsTable inputs sums.now groups.now) tables.old }
+    ensures { All (IsFresh inputs sums.now groups.now) tables.new }
 {
     for table in tables.iter_mut() {
-        table.clear(inputs, sums);
+        table.clear(inputs, sums, groups);
     }
 }

@@ -1,19 +1,23 @@
-//! For each input the sums that read it.
+//! For each input the groups of sums that read it.
 ghost use Rattle.std.specs.Prelude.{◌≡◌, ◌<◌, ◌≤◌, ℕ, [], All, IfOk, OnOk, length};
 ghost use Rattle.due_sums.specs.Counts.{AreReaders, GainReader, list_at, lists_of};
 
 use crate::SumTable;
 use std::alloc::{AllocError, Global};
 
-// For each of so many inputs the sums that read it.
-pub fn readers_of(alloc: Global, inputs: u32, sums: &SumTable) -> Result<Vec<Vec<u32>>, AllocError>
-    requires few { length sums.now ≤ 8192 }
-    requires below { All (All (λ input. input < inputs)) sums.now }
-    ensures { IfOk result (λ readers. AreReaders inputs sums.now (lists_of readers.items)) }
+// For each of so many inputs the groups that read it, by the inputs of each group.
+pub fn readers_of(
+    alloc: Global,
+    inputs: u32,
+    groups: &SumTable,
+) -> Result<Vec<Vec<u32>>, AllocError>
+    requires few { length groups.now ≤ 8192 }
+    requires below { All (All (λ input. input < inputs)) groups.now }
+    ensures { IfOk result (λ readers. AreReaders inputs groups.now (lists_of readers.items)) }
 {
     let mut readers = empty_lists(alloc, inputs)?;
-    for (sum, inputs) in sums.as_slice().iter().enumerate() {
-        add_reader(&mut readers, sum as u32, inputs.as_slice())?;
+    for (group, inputs) in groups.as_slice().iter().enumerate() {
+        add_reader(&mut readers, group as u32, inputs.as_slice())?;
     }
     Ok(readers)
 }
@@ -30,14 +34,14 @@ fn empty_lists(alloc: Global, count: u32) -> Result<Vec<Vec<u32>>, AllocError>
     Ok(lists)
 }
 
-// Adds a sum to the readers of each of its inputs.
-fn add_reader(readers: &mut [Vec<u32>], sum: u32, inputs: &[u32]) -> Result<(), AllocError>
+// Adds a group to the readers of each of its inputs.
+fn add_reader(readers: &mut [Vec<u32>], group: u32, inputs: &[u32]) -> Result<(), AllocError>
     requires { All (λ input. input < length readers.old) inputs.now }
     ensures { OnOk result
-        (GainReader sum inputs.now (lists_of readers.old) (lists_of readers.new)) }
+        (GainReader group inputs.now (lists_of readers.old) (lists_of readers.new)) }
 {
     for input in inputs {
-        readers[*input as usize].push(sum)?;
+        readers[*input as usize].push(group)?;
     }
     Ok(())
 }

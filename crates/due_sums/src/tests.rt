@@ -76,3 +76,28 @@ fn all_inputs_are_missing_once_more_when_cleared(rt: HostRuntime) -> Result<(), 
     assert_eq!(rt; *waiting.input(0, 2, 4), [7; 128]);
     Ok(())
 }
+
+// Of two inputs, the sums of both, of both, of the last and of both.
+fn four_sums(alloc: Global) -> Result<SumTable, AllocError>
+    ensures { IfOk result (AreSums 2) }
+{
+    let first = LinkList::of(vec![in alloc; 0, 1]?);
+    let second = LinkList::of(vec![in alloc; 0, 1]?);
+    let third = LinkList::of(vec![in alloc; 1]?);
+    let fourth = LinkList::of(vec![in alloc; 0, 1]?);
+    Ok(SumTable::of(vec![in alloc; first, second, third, fourth]?))
+}
+
+#[test]
+fn sums_of_the_same_inputs_are_due_together(rt: HostRuntime) -> Result<(), test::Fail> {
+    let mut waiting = DueSums::new(rt.alloc(), 2, four_sums(rt.alloc())?, 1)?;
+    assert_eq!(rt; waiting.accept(0, 0, 3, &[1; 128]), Accepted::New);
+    assert_eq!(rt; waiting.take_due(0), None);
+    assert_eq!(rt; waiting.accept(0, 1, 3, &[2; 128]), Accepted::New);
+    assert_eq!(rt; waiting.take_due(0), Some(Due { sum: 0, piece: 3 }));
+    assert_eq!(rt; waiting.take_due(0), Some(Due { sum: 1, piece: 3 }));
+    assert_eq!(rt; waiting.take_due(0), Some(Due { sum: 2, piece: 3 }));
+    assert_eq!(rt; waiting.take_due(0), Some(Due { sum: 3, piece: 3 }));
+    assert_eq!(rt; waiting.take_due(0), None);
+    Ok(())
+}

@@ -1,12 +1,12 @@
 -- The words over the words of a set: what they say after a change, and that they lead to the least number.
-use Rattle.std.specs.Prelude.{◌≡◌, ◌≢◌, ◌<◌, ◌≤◌, ◌*◌, ◌/◌, ◌%◌, ◌^◌, ◌==◌, ℕ, zero, suc, List, Option, None, Some, IfNone, IfSome, [], ◌∷◌, ◌++◌, length, take, drop, replicate, slice_index_or, min, bit_or}
+use Rattle.std.specs.Prelude.{◌≡◌, ◌≢◌, ◌<◌, ◌≤◌, ◌*◌, ◌/◌, ◌%◌, ◌^◌, ◌==◌, ℕ, List, Option, None, Some, IfNone, IfSome, ◌++◌, length, take, drop, replicate, slice_index_or, min, bit_or}
 use Rattle.std.specs.Int.{bit_at, w64}
 use Rattle.std.proofs.Common.{refl, sym, ap, subst, ◌∙◌, arith, inl, inr}
 use Rattle.std.proofs.lemmas.Bool.{cases_Bool, cases_lt, eqb-false, eqb-true}
 use Rattle.std.proofs.lemmas.List.{append-nil, get_or-replicate, length-replicate, take_all}
 use Rattle.std.proofs.lemmas.Nat.Bits.{bit_at_set_other, bit_at_set_same}
 use Rattle.std.proofs.Math.ListN.{drop_of_length-le, get_or-eq_default}
-use Rattle.least_set.specs.Members.{bit_of, SameElsewhere, SetsBit, ClearsBit, HasLeast, IsFirstBit, IsLeast, IsOver, Tells}
+use Rattle.least_set.specs.Members.{bit_of, SameElsewhere, SetsBit, HasLeast, IsFirstBit, IsLeast, IsOver, Tells}
 use Rattle.least_set.proofs.WordLaws.{no_bit, some_from_bit}
 
 -- a list that was changed in place, and is as long as it was
@@ -38,9 +38,6 @@ over_zeros words over_words count count_over is is_over room few few_over = reco
 pub min_some : (n : ℕ) → n ≢ 0 → 1 ≡ min 1 n
 min_some n some = omega (arith, some)
 
-some_from_min : (n : ℕ) → min 1 n ≡ 1 → n ≢ 0
-some_from_min n e none = omega (arith, e, none)
-
 none_from_min : (n : ℕ) → min 1 n ≡ 0 → n ≡ 0
 none_from_min n e = omega (arith, e)
 
@@ -63,59 +60,36 @@ module _ (lower lower' : List ℕ) (bit bit' : ℕ → ℕ) (word : ℕ) (tells 
   pub tells_none : slice_index_or lower' word 0 ≡ 0 → bit' word ≡ 0 → Tells lower' bit'
   tells_none none cleared = at_all (cleared ∙ ap (min 1) (sym none))
 
--- what a level above tells of a word
-pub some_told : (words : List ℕ) (bit : ℕ → ℕ) (word : ℕ) → Tells words bit → bit word ≡ 1 → slice_index_or words word 0 ≢ 0
-some_told words bit word tells set = some_from_min _ (sym (tells word) ∙ set)
-
 pub none_told : (words : List ℕ) (bit : ℕ → ℕ) (word : ℕ) → Tells words bit → bit word ≡ 0 → slice_index_or words word 0 ≡ 0
 none_told words bit word tells cleared = none_from_min _ (sym (tells word) ∙ cleared)
 
--- a word that isn't 0 is there
-pub within_some : (words : List ℕ) (word : ℕ) → slice_index_or words word 0 ≢ 0 → word < length words
-within_some [] word some = absurd (some refl)
-within_some (x ∷ words) zero some = omega arith
-within_some (x ∷ words) (suc word) some = omega (arith, within_some words word some)
-
--- a number was added: the lesser of it and the least one is the least
-pub least_insert : (least : Option ℕ) (number lesser : ℕ) (words words' : List ℕ) → HasLeast least words → SetsBit number words words'
+-- a number was added, and maybe greater ones: the lesser of it and the least one is the least
+pub least_insert : (least : Option ℕ) (number lesser : ℕ) (words words' : List ℕ) → HasLeast least words → bit_of words' number ≡ 1
+    → ((other : ℕ) → other ≢ number → bit_of words other ≡ 1 → bit_of words' other ≡ 1) → ((other : ℕ) → other < number → bit_of words' other ≡ bit_of words other)
     → IfSome least (λ other. lesser ≡ min other number) → IfNone least (lesser ≡ number) → HasLeast (Some lesser) words'
-least_insert None number lesser words words' has sets some none = record {
+least_insert None number lesser words words' has here stays below some none = record {
   some = subst (λ n. IsLeast n (record { words = words' })) (sym none) (record {
-    within = sets.here;
-    least = λ other less. sets.others other (omega (arith, less)) ∙ has.none other;
+    within = here;
+    least = λ other less. below other less ∙ has.none other;
   });
   none = tt;
 }
-least_insert (Some least) number lesser words words' has sets some none = record {
+least_insert (Some least) number lesser words words' has here stays below some none = record {
   some = subst (λ n. IsLeast n (record { words = words' })) (sym some) (elim (cases_lt least number) [
     | inl less ↦
         let is : min least number ≡ least = omega (arith, less) in
         subst (λ n. IsLeast n (record { words = words' })) (sym is) (record {
-          within = sets.others least (omega (arith, less)) ∙ has.some.within;
-          least = λ other below. sets.others other (omega (arith, below, less)) ∙ has.some.least other below;
+          within = stays least (omega (arith, less)) has.some.within;
+          least = λ other lower. below other (omega (arith, lower, less)) ∙ has.some.least other lower;
         })
     | inr more ↦
         let is : min least number ≡ number = omega (arith, more) in
         subst (λ n. IsLeast n (record { words = words' })) (sym is) (record {
-          within = sets.here;
-          least = λ other below. sets.others other (omega (arith, below)) ∙ has.some.least other (omega (arith, below, more));
+          within = here;
+          least = λ other lower. below other lower ∙ has.some.least other (omega (arith, lower, more));
         })
   ]);
   none = tt;
-}
-
--- the least number was taken from a word that has others: the first of these is the least
-pub least_after : (words words' : List ℕ) (number first : ℕ) → IsLeast number (record { words = words }) → ClearsBit number words words'
-    → IsFirstBit (number / 64) first words' → IsLeast first (record { words = words' })
-least_after words words' number first was clears is = record {
-  within = is.set;
-  least = λ other less. elim (cases_Bool (other / 64 == number / 64)) [
-    | inl same ↦ is.before other (eqb-true _ _ same) less
-    | inr differs ↦
-        let apart : other / 64 ≢ number / 64 = eqb-false _ _ differs in
-        let earlier : other < number = omega (arith, less, is.place, apart) in
-        clears.others other (omega (arith, earlier)) ∙ was.least other earlier
-  ];
 }
 
 -- the first bit of each level leads to the least number
@@ -142,23 +116,24 @@ is_least words over_words over_all top word number over before first second = re
           no_bit _ (w % 64) (none_told over_words (bit_at over_all) (w / 64) over.second (before (w / 64) above))
     ]
 
--- a number was added
-pub over_insert : (words words' over_words over_words' : List ℕ) (over_all number : ℕ) → IsOver words over_words over_all → number < 64 * length words
-    → SetsBit number words words' → SameElsewhere (number / 64) words words' → SetsBit (number / 64) over_words over_words' → SameElsewhere (number / 64 / 64) over_words over_words'
-    → IsOver words' over_words' (bit_or over_all (1 * 2 ^ (number / 64 / 64) % 2 ^ 64))
-over_insert words words' over_words over_words' over_all number over below sets rest sets_over rest_over =
+-- numbers were added to a word
+pub over_word : (words words' over_words over_words' : List ℕ) (over_all word : ℕ) → IsOver words over_words over_all → word < length words
+    → length words' ≡ length words → SameElsewhere word words words' → slice_index_or words' word 0 ≢ 0 → SetsBit word over_words over_words' → SameElsewhere (word / 64) over_words over_words'
+    → IsOver words' over_words' (bit_or over_all (1 * 2 ^ (word / 64) % 2 ^ 64))
+over_word words words' over_words over_words' over_all word over below long rest some sets_over rest_over =
     let few = over.few in
-    let low : number / 64 / 64 < 64 = omega (arith, below, few) in
+    let low : word / 64 < 64 = omega (arith, below, few) in
     record {
-      first = tells_some words words' (bit_of over_words) (bit_of over_words') (number / 64) over.first rest sets_over.others (some_from_bit _ (number % 64) sets.here) sets_over.here;
-      second = tells_some over_words over_words' (bit_at over_all) (bit_at (bit_or over_all (1 * 2 ^ (number / 64 / 64) % 2 ^ 64))) (number / 64 / 64) over.second rest_over
-          (λ other apart. bit_at_set_other w64 over_all (number / 64 / 64) low other apart) (some_from_bit _ (number / 64 % 64) sets_over.here) (bit_at_set_same w64 over_all (number / 64 / 64) low);
-      room = omega (arith, over.room, sets.long, sets_over.long);
-      few = omega (arith, over.few, sets.long);
+      first = tells_some words words' (bit_of over_words) (bit_of over_words') word over.first rest sets_over.others some sets_over.here;
+      second = tells_some over_words over_words' (bit_at over_all) (bit_at (bit_or over_all (1 * 2 ^ (word / 64) % 2 ^ 64))) (word / 64) over.second rest_over
+          (λ other apart. bit_at_set_other w64 over_all (word / 64) low other apart) (some_from_bit _ (word % 64) sets_over.here) (bit_at_set_same w64 over_all (word / 64) low);
+      room = omega (arith, over.room, long, sets_over.long);
+      few = omega (arith, over.few, long);
       few_over = omega (arith, over.few_over, sets_over.long);
     }
 
--- a number was taken from a word that has others, or added to one, and was taken from one that had it alone
+-- a number was taken from a word that has others, or numbers were added to one that has any, and a number was taken from one
+-- that had it alone
 pub over_kept : (words words' over_words : List ℕ) (over_all word : ℕ) → IsOver words over_words over_all → length words' ≡ length words
     → SameElsewhere word words words' → bit_of over_words word ≡ 1 → slice_index_or words' word 0 ≢ 0 → IsOver words' over_words over_all
 over_kept words words' over_words over_all word over long rest set some = record {
@@ -169,20 +144,10 @@ over_kept words words' over_words over_all word over long rest set some = record
   few_over = over.few_over;
 }
 
-pub over_more : (words words' over_words : List ℕ) (over_all number : ℕ) → IsOver words over_words over_all → SetsBit number words words'
-    → SameElsewhere (number / 64) words words' → slice_index_or words (number / 64) 0 ≢ 0 → IsOver words' over_words over_all
-over_more words words' over_words over_all number over sets rest some =
-    over_kept words words' over_words over_all (number / 64) over sets.long rest (over.first (number / 64) ∙ sym (min_some _ some)) (some_from_bit _ (number % 64) sets.here)
-
-pub over_left : (words words' over_words over_words' : List ℕ) (over_all over_all' word : ℕ) → IsOver words over_words over_all → length words' ≡ length words
-    → SameElsewhere word words words' → ClearsBit word over_words over_words' → Tells over_words' (bit_at over_all') → slice_index_or words' word 0 ≡ 0 → IsOver words' over_words' over_all'
-over_left words words' over_words over_words' over_all over_all' word over long rest clears tells none = record {
-  first = tells_none words words' (bit_of over_words) (bit_of over_words') word over.first rest clears.others none clears.here;
-  second = tells;
-  room = omega (arith, over.room, long, clears.long);
-  few = omega (arith, over.few, long);
-  few_over = omega (arith, over.few_over, clears.long);
-}
+pub over_more : (words words' over_words : List ℕ) (over_all word : ℕ) → IsOver words over_words over_all → length words' ≡ length words
+    → SameElsewhere word words words' → slice_index_or words word 0 ≢ 0 → slice_index_or words' word 0 ≢ 0 → IsOver words' over_words over_all
+over_more words words' over_words over_all word over long rest some more =
+    over_kept words words' over_words over_all word over long rest (over.first word ∙ sym (min_some _ some)) more
 
 -- both lists were changed in place
 pub in_place : (count : ℕ) (words words' : List ℕ) (count_over : ℕ) (over_words over_words' : List ℕ) (over_all : ℕ)

@@ -1,5 +1,5 @@
 -- Sets of numbers as bits in words of 64, and the words that say which of them have any.
-use Rattle.std.specs.Prelude.{◌≡◌, ◌≢◌, ◌<◌, ◌≤◌, ◌*◌, ◌/◌, ◌%◌, ℕ, List, Option, IfNone, IfSome, length, slice_index_or, min}
+use Rattle.std.specs.Prelude.{◌≡◌, ◌≢◌, ◌<◌, ◌≤◌, ◌+◌, ◌*◌, ◌/◌, ◌%◌, ℕ, List, Option, IfNone, IfSome, length, slice_index_or, min, bit_or}
 use Rattle.std.specs.Int.{bit_at}
 
 -- a set: the words of its bits
@@ -42,6 +42,33 @@ Gains number old new = SetsBit number old.words new.words
 
 abbrev pub Loses : ℕ → Members → Members → Type 0
 Loses number old new = ClearsBit number old.words new.words
+
+-- a number from a first to a last one, of which each is eight more than the one before
+pub record IsEighth (first last number : ℕ) : Type 0 where
+  pub from : first ≤ number
+  pub to : number ≤ last
+  pub step : number % 8 ≡ first % 8
+
+-- the bits of such numbers were set, and the others stay
+pub record SetsEighths (first last : ℕ) (old new : List ℕ) : Type 0 where
+  pub here : (number : ℕ) → IsEighth first last number → bit_of new number ≡ 1
+  pub others : (other : ℕ) → (IsEighth first last other → ⊥) → bit_of new other ≡ bit_of old other
+  pub long : length new ≡ length old
+
+-- such numbers are in the set now, and the others are as before
+abbrev pub GainsEighths : ℕ → ℕ → Members → Members → Type 0
+GainsEighths first last old new = SetsEighths first last old.words new.words
+
+-- the bits of a word were set, and the others stay
+pub record SetsBits (word bits : ℕ) (old new : List ℕ) : Type 0 where
+  pub here : slice_index_or new word 0 ≡ bit_or (slice_index_or old word 0) bits
+  pub elsewhere : SameElsewhere word old new
+  pub long : length new ≡ length old
+
+-- the bits of such numbers in one word
+pub record AreEighths (first last word bits : ℕ) : Type 0 where
+  pub set : (place : ℕ) → place < 64 → IsEighth first last (word * 64 + place) → bit_at bits place ≡ 1
+  pub others : (place : ℕ) → place < 64 → (IsEighth first last (word * 64 + place) → ⊥) → bit_at bits place ≡ 0
 
 -- a number is in the set, and no smaller one is
 pub record IsLeast (number : ℕ) (set : Members) : Type 0 where

@@ -1,8 +1,8 @@
 //! The words of a set and the two levels over them.
-ghost use Rattle.std.specs.Prelude.{◌≡◌, ◌<◌, ◌*◌, ◌/◌, ℕ, Option, IfNone, IfSome, length, min};
-ghost use Rattle.least_set.specs.Members.{ClearsBit, HasLeast, IsLeast, IsOver, SetsBit};
+ghost use Rattle.std.specs.Prelude.{◌≡◌, ◌≢◌, ◌<◌, ◌≤◌, ◌*◌, ◌/◌, ◌%◌, ℕ, Option, IfNone, IfSome, length, min};
+ghost use Rattle.least_set.specs.Members.{ClearsBit, HasLeast, IsLeast, IsOver, SetsBit, SetsBits, SetsEighths};
 
-use crate::words::{clear_bit, first_bit, first_of, leave_word, set_bit};
+use crate::words::{clear_bit, eighths_of, first_bit, first_of, leave_word, set_bit, set_bits};
 
 // The lesser of two numbers, of which the first may be missing.
 pub fn lesser(least: Option<u32>, number: u32) -> u32
@@ -26,6 +26,53 @@ pub fn add(words: &mut [u64], over_words: &mut [u64], over_all: u64, number: usi
     if set_bit(words, number) {
         set_bit(over_words, number / 64);
         over_all | 1 << (number / 64 / 64)
+    } else {
+        over_all
+    }
+}
+
+// Adds the numbers from a first to a last one, of which each is eight more than the one before, and gives the word over
+// all then.
+pub fn add_eighths(
+    words: &mut [u64],
+    over_words: &mut [u64],
+    over_all: u64,
+    first: usize,
+    last: usize,
+) -> u64
+    requires over { IsOver words.old over_words.old over_all }
+    requires order { first ≤ last }
+    requires step { last % 8 ≡ first % 8 }
+    requires within { last < 64 * length words.old }
+    ensures bits { SetsEighths first last words.old words.new }
+    ensures over { IsOver words.new over_words.new result }
+    ensures long { length over_words.new ≡ length over_words.old }
+{
+    let mut over_all = over_all;
+    for word in first / 64..last / 64 + 1 {
+        over_all = add_bits(
+            words,
+            over_words,
+            over_all,
+            word,
+            eighths_of(word, first, last),
+        );
+    }
+    over_all
+}
+
+// Adds numbers of one word, and gives the word over all then.
+fn add_bits(words: &mut [u64], over_words: &mut [u64], over_all: u64, word: usize, bits: u64) -> u64
+    requires over { IsOver words.old over_words.old over_all }
+    requires within { word < length words.old }
+    requires some { bits ≢ 0 }
+    ensures bits { SetsBits word bits words.old words.new }
+    ensures over { IsOver words.new over_words.new result }
+    ensures long { length over_words.new ≡ length over_words.old }
+{
+    if set_bits(words, word, bits) {
+        set_bit(over_words, word);
+        over_all | 1 << (word / 64)
     } else {
         over_all
     }

@@ -5,14 +5,14 @@
 //! where the word has another number, that word alone leads to it.
 #![tactic(auto)]
 
-ghost use Rattle.std.specs.Prelude.{◌≡◌, ◌≢◌, ◌<◌, ◌≤◌, ◌*◌, ◌+◌, length, IfOk, IfSome, IsNone, Some};
+ghost use Rattle.std.specs.Prelude.{◌≡◌, ◌≢◌, ◌<◌, ◌≤◌, ◌*◌, ◌+◌, ◌%◌, length, IfOk, IfSome, IsNone, Some};
 
 mod levels;
 #[cfg(test)]
 mod tests;
 mod words;
 
-use levels::{add, lesser, take_away};
+use levels::{add, add_eighths, lesser, take_away};
 use std::alloc::{AllocError, Global};
 use std::marker::Model;
 
@@ -41,7 +41,7 @@ impl Model for LeastSet {
 }
 
 impl LeastSet {
-    ghost use Rattle.least_set.specs.Members.{has, bound, HasNone, Gains, Loses, IsLeast};
+    ghost use Rattle.least_set.specs.Members.{has, bound, HasNone, Gains, GainsEighths, Loses, IsLeast};
 
     /// The empty set of numbers below a bound, which is rounded up to a multiple of 64.
     pub fn new(alloc: Global, numbers: u32) -> Result<LeastSet, AllocError>
@@ -78,6 +78,24 @@ impl LeastSet {
         let place = number as usize;
         self.over_all = add(&mut self.words, &mut self.over_words, self.over_all, place);
         self.least = Some(lesser(self.least, number));
+    }
+
+    /// Adds the numbers from a first to a last one, of which each is eight more than the one before. It costs a step for
+    /// each eight of them.
+    pub fn insert_eighths(&mut self, first: u32, last: u32)
+        requires order { first ≤ last }
+        requires step { last % 8 ≡ first % 8 }
+        requires within { last < bound self.old }
+        ensures { GainsEighths first last self.old self.new }
+    {
+        self.over_all = add_eighths(
+            &mut self.words,
+            &mut self.over_words,
+            self.over_all,
+            first as usize,
+            last as usize,
+        );
+        self.least = Some(lesser(self.least, first));
     }
 
     /// Takes the least number away, if there is any.

@@ -43,3 +43,20 @@ fn nothing_is_left_of_what_was_cleared(rt: HostRuntime) -> Result<(), test::Fail
     assert_eq!(rt; set.take_least(), None);
     Ok(())
 }
+
+#[test]
+fn eighths_come_among_others(rt: HostRuntime) -> Result<(), test::Fail> {
+    let mut set = LeastSet::new(rt.alloc(), 256)?;
+    set.insert(70);
+    set.insert_eighths(61, 205);
+    set.insert_eighths(3, 3);
+    assert_eq!(rt; set.take_least(), Some(3));
+    assert_eq!(rt; set.take_least(), Some(61));
+    assert_eq!(rt; set.take_least(), Some(69));
+    assert_eq!(rt; set.take_least(), Some(70));
+    for step in 0..17 {
+        assert_eq!(rt; set.take_least(), Some(77 + 8 * step));
+    }
+    assert_eq!(rt; set.take_least(), None);
+    Ok(())
+}

@@ -1,7 +1,10 @@
 //! Bits in words of 64.
-ghost use Rattle.std.specs.Prelude.{◌≡◌, ◌≢◌, ◌<◌, ◌*◌, ◌/◌, ◌%◌, ◌==◌, ◌≤◌, ℕ, length, slice_index_or};
+ghost use Rattle.std.specs.Prelude.{◌≡◌, ◌≢◌, ◌<◌, ◌⊎◌, ◌*◌, ◌/◌, ◌%◌, ◌==◌, ◌≤◌, ℕ, length, slice_index_or};
 ghost use Rattle.std.specs.Int.{bit_at};
-ghost use Rattle.least_set.specs.Members.{bit_of, SameElsewhere, SetsBit, ClearsBit, IsFirstBit, Tells};
+ghost use Rattle.least_set.specs.Members.{bit_of, AreEighths, SameElsewhere, SetsBit, SetsBits, ClearsBit, IsFirstBit, Tells};
+
+// Each eighth bit, from the first one on.
+const EIGHTHS: u64 = 0x0101_0101_0101_0101;
 
 // Sets the bit of a number, and says whether its word had none before.
 pub fn set_bit(words: &mut [u64], number: usize) -> bool
@@ -14,6 +17,42 @@ pub fn set_bit(words: &mut [u64], number: usize) -> bool
     let had_none = *word == 0;
     *word |= 1 << (number % 64);
     had_none
+}
+
+// Sets bits of a word, and says whether it had none before.
+pub fn set_bits(words: &mut [u64], word: usize, bits: u64) -> bool
+    requires { word < length words.old }
+    ensures bits { SetsBits word bits words.old words.new }
+    ensures value { result ≡ (slice_index_or words.old word 0 == 0) }
+{
+    let word = &mut words[word];
+    let had_none = *word == 0;
+    *word |= bits;
+    had_none
+}
+
+// The bits from a place to another.
+fn bits_between(from: usize, to: usize) -> u64
+    requires order { from ≤ to }
+    requires low { to < 64 }
+    ensures inside { (i : ℕ) → from ≤ i → i ≤ to → bit_at result i ≡ 1 }
+    ensures outside { (i : ℕ) → (i < from) ⊎ (to < i) → bit_at result i ≡ 0 }
+{
+    let below = (1 << from) - 1;
+    ((1 << to) - 1) * 2 + 1 - below
+}
+
+// In a word the bits of the numbers from a first to a last one, of which each is eight more than the one before.
+pub fn eighths_of(word: usize, first: usize, last: usize) -> u64
+    requires first { first / 64 ≤ word }
+    requires last { word ≤ last / 64 }
+    requires order { first ≤ last }
+    requires step { last % 8 ≡ first % 8 }
+    ensures { AreEighths first last word result }
+{
+    let from = if word == first / 64 { first % 64 } else { 0 };
+    let to = if word == last / 64 { last % 64 } else { 63 };
+    (EIGHTHS << (first % 8)) & bits_between(from, to)
 }
 
 // Clears the bit of a number, and says whether its word has none then.

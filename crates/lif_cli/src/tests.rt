@@ -79,31 +79,68 @@ pub fn behind_reads<'a>(log: &'a [Event], path: &str, held: &[u8]) -> Option<&'a
     None
 }
 
-// Whether the log has appends to a path alone, which together add these bytes.
-fn are_appends(log: &[Event], path: &str, held: &[u8]) -> bool {
-    let mut rest = held;
-    for event in log {
-        let Event::Appended { path: other, bytes } = event else {
-            return false;
-        };
-        match rest.strip_prefix(bytes.as_slice()) {
-            Some(more) if other.as_str() == path => rest = more,
-            _ => return false,
+// Whether a path is one of these.
+fn is_among(path: &str, paths: &[&str]) -> bool {
+    for other in paths {
+        if *other == path {
+            return true;
         }
     }
-    rest.is_empty()
+    false
 }
 
-// Whether these are the calls of a source that was sent: the code was read to its end, the output made, the source
-// read to its end, and its bytes appended to the output.
+// Whether a log has reads of a file that holds these bytes, from its start on without a gap until one gave nothing, and
+// appends to these outputs alone, of which those to the output add all that the file holds, and nothing before it was read.
+fn is_added(log: &[Event], path: &str, outputs: &[&str], output: &str, held: &[u8]) -> bool {
+    let (mut read, mut added, mut has_ended) = (0usize, 0usize, false);
+    for event in log {
+        match event {
+            Event::Appended { path: other, bytes } if other.as_str() == output => {
+                let Some(rest) = held.get(added..read) else {
+                    return false;
+                };
+                if !rest.starts_with(bytes) {
+                    return false;
+                }
+                added = added.saturating_add(bytes.len());
+            }
+            Event::Appended { path: other, .. } if is_among(other.as_str(), outputs) => {}
+            _ => {
+                let (Some(bytes), Some(rest)) = (bytes_read(event, path, read), held.get(read..))
+                else {
+                    return false;
+                };
+                if has_ended || !rest.starts_with(bytes) {
+                    return false;
+                }
+                read = read.saturating_add(bytes.len());
+                has_ended = bytes.is_empty();
+            }
+        }
+    }
+    has_ended && read == held.len() && added == held.len()
+}
+
+/// Whether a log streams a file that holds these bytes to these outputs: it is read once, from its start to its end, and
+/// what was read is added to each of them.
+pub fn is_stream(log: &[Event], path: &str, outputs: &[&str], held: &[u8]) -> bool {
+    for output in outputs {
+        if !is_added(log, path, outputs, output, held) {
+            return false;
+        }
+    }
+    true
+}
+
+// Whether these are the calls of a source that was sent: the code was read to its end, the output made, and the source
+// read to its end, and streamed to the output.
 fn is_delivery(log: &[Event], code: &[u8], source: &[u8]) -> bool {
-    let Some([Event::Created { path }, log @ ..]) = behind_reads(log, CODE, code) else {
-        return false;
-    };
-    let Some(log) = behind_reads(log, SOURCE, source) else {
-        return false;
-    };
-    path.as_str() == OUTPUT && are_appends(log, OUTPUT, source)
+    match behind_reads(log, CODE, code) {
+        Some([Event::Created { path }, log @ ..]) => {
+            path.as_str() == OUTPUT && is_stream(log, SOURCE, &[OUTPUT], source)
+        }
+        _ => false,
+    }
 }
 
 // Whether the folder has these names and no other.

@@ -3,10 +3,13 @@ use Rattle.std.specs.Prelude.{◌≡◌, ◌≤◌, ℕ, IsTrue, List, [], All, 
 use Rattle.std.proofs.Common.{sym, ap, ◌∙◌, arith, get_or, subst}
 use Rattle.std.proofs.lemmas.List.Elements.{All-weaker}
 use Rattle.std.proofs.lemmas.Option.{slice_get-get_or, unwrap_or-slice_get}
+use Rattle.counted_steps.specs.Steps.{RoseByAtMost}
 use Rattle.cut_bound.proofs.HighestLaws.{accepted-at_most_rate}
 use Rattle.cut_witness.proofs.CertificateLaws.{IsRate-least_value}
 use Rattle.cut_witness.specs.Certificate.{AreCertificates, IsLeastValue}
 use Rattle.cut_witness.specs.declared.cert.Cert.{Cert}
+use Rattle.failure_patterns.proofs.RateLaws.{IsRate-unique}
+use Rattle.failure_patterns.specs.Rate.{IsRate}
 use Rattle.gf_tables.specs.Product.{size_of}
 use Rattle.gf_tables.specs.declared.kind.FieldKind.{FieldKind}
 use Rattle.net_model.specs.Demands.{demand_count}
@@ -24,10 +27,11 @@ use Rattle.topo_order.specs.Order.{order_of}
 use Rattle.lif_compiler.specs.Compiled.{Feeds, IsCodeOf, IsCompiled, IsOfPaths}
 use Rattle.lif_compiler.specs.Hops.{AreHops, Routes}
 use Rattle.lif_compiler.proofs.InOrderLaws.{HasEachOnce-order_of, are_in_order-renumbered}
-use Rattle.lif_compiler.proofs.OriginLaws.{AreRoutes-renumbered, Feeds-of_hop}
+use Rattle.lif_compiler.proofs.OriginLaws.{AreRoutes-renumbered, Feeds-of_hop, demand_count-renumbered}
 use Rattle.lif_compiler.proofs.RouteLaws.{routes-count}
 use Rattle.lif_compiler.specs.Routes.{routes_of_certs}
 use Rattle.lif_compiler.specs.Visits.{AreRoutes, AreVisitable, IsFilled, IsOfHop}
+use Rattle.lif_compiler.specs.Work.{choice_bound}
 use Rattle.lif_compiler.specs.declared.hops.Hop.{Hop}
 
 -- the order of a network without a cycle has each link once
@@ -60,6 +64,13 @@ module _ (net new : Net) (certs : List Cert) (order : List ℕ) (rate : ℕ) (ki
 
   pub new_count : length new.links ≡ length net.links
   new_count = ap length renumbered.links ∙ length-renumbered_links net.links once
+
+  -- as much work is done for it
+  pub new_ticks : (old next : ℕ) → RoseByAtMost (choice_bound (length new.links) (demand_count new) rate) old next → RoseByAtMost (choice_bound (length net.links) (demand_count net) rate) old next
+  new_ticks old next rose =
+      let demands = demand_count-renumbered net new certs order rate (choice_of kind) are once renumbered enough in
+      subst (λ demands. RoseByAtMost (choice_bound (length net.links) demands rate) old next) demands
+      (subst (λ links. RoseByAtMost (choice_bound links (demand_count new) rate) old next) new_count rose)
 
   -- its links can be visited
   pub can_visit_all : (routes : Routes) (hops : List (List Hop)) → routes ≡ routes_of_certs order rate certs → length hops ≡ length net.links
@@ -101,3 +112,10 @@ module _ (net new : Net) (certs : List Cert) (order : List ℕ) (rate : ℕ) (ki
         (Feeds-of_hop net new certs order rate (choice_of kind) are once renumbered enough new_order link operand from (leaves_source code.net link) (ap (λ net. leaves_source net link) of_net))))
         (operands_at code.operands link) of_these;
   }
+
+-- what is counted at the least value of a network's certificates is counted at its rate
+pub rate_ticks : (net : Net) (certs : List Cert) (least old new : ℕ) → AreCertificates net certs → IsLeastValue certs least → RoseByAtMost (choice_bound (length net.links) (demand_count net) least) old new
+    → (rate : ℕ) → IsRate net rate → RoseByAtMost (choice_bound (length net.links) (demand_count net) rate) old new
+rate_ticks net certs least old new are is_least rose rate is =
+    let same = IsRate-unique net least rate (IsRate-least_value net certs least are is_least) is in
+    subst (λ rate. RoseByAtMost (choice_bound (length net.links) (demand_count net) rate) old new) same rose

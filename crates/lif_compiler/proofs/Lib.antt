@@ -18,7 +18,7 @@ pub mod OriginLaws
 pub mod RouteSteps
 pub mod TableSteps
 pub mod CarrySteps
-pub mod RenewSteps
+pub mod AdvanceSteps
 pub mod ChoosingSteps
 pub mod ReadySteps
 pub mod AfterSteps
@@ -27,3 +27,4 @@ pub mod VisitSteps
 pub mod StartSteps
 pub mod AllSteps
 pub mod BuildSteps
+pub mod WorkLaws

@@ -20,7 +20,7 @@ use Rattle.lif_compiler.specs.Frontier.{IsAtFrontier}
 use Rattle.lif_compiler.proofs.HopLaws.{hop-demand, hop-path, rising-route}
 use Rattle.lif_compiler.specs.Hops.{IsHop, Routes, route_of}
 use Rattle.net_model.proofs.RisingLaws.{is_among-from_Contains, place-from_is_among, rising-below}
-use Rattle.lif_compiler.specs.Steps.{AreCarried, AreRenewed, IsApart}
+use Rattle.lif_compiler.specs.Steps.{AreCarried, AreAdvanced, IsApart}
 use Rattle.lif_compiler.specs.Tables.{vectors_for}
 use Rattle.lif_compiler.proofs.VisitLaws.{frontier-next, frontier-other}
 use Rattle.lif_compiler.specs.Visits.{CanVisit, IsVisited, Stands, paths_of, vector_under}
@@ -70,7 +70,7 @@ module _ {X : Type 0} {F : FieldWords X} {E : EqualityWords X} (L : LawsOf F) {n
     (can : CanVisit net routes hops code)
     (next : length code.operands.items < length net.links) (operands : List Operand) (chosen : AreChosenBy net (length code.operands.items) hops code operands)
     (new : List (Grid X)) (carried : AreCarried (marked_kind F.MARK) F.number net (length code.operands.items) operands code.vectors.items new)
-    (new_bases : List (Basis X F E)) (renewed : AreRenewed (length code.operands.items) new hops code.bases.items new_bases) where
+    (new_bases : List (Basis X F E)) (advanced : AreAdvanced (length code.operands.items) new hops code.bases.items new_bases) where
   abbrev link : ℕ
   link = length code.operands.items
 
@@ -121,8 +121,8 @@ module _ {X : Type 0} {F : FieldWords X} {E : EqualityWords X} (L : LawsOf F) {n
       let At : ℕ → List (Option ℕ) → Grid X → Type 0 = λ bound frontier grid.
       IsAtFrontier (vector_under net (marked_kind F.MARK) code.rate longer pattern) code.rate (paths_of routes demand) bound frontier (map (numbers F.number) grid.rows) in
       subst (λ bound. At bound (frontier_in new_bases demand) (vectors_in new_bases demand)) (sym more)
-      (subst (λ frontier. At (link + 1) frontier (vectors_in new_bases demand)) (sym (renewed.links_other demand apart))
-      (subst (At (link + 1) (frontier_in code.bases.items demand)) (sym (renewed.vectors_other demand apart))
+      (subst (λ frontier. At (link + 1) frontier (vectors_in new_bases demand)) (sym (advanced.links_other demand apart))
+      (subst (At (link + 1) (frontier_in code.bases.items demand)) (sym (advanced.vectors_other demand apart))
       (frontier-other (vector_under net (marked_kind F.MARK) code.rate code.operands.items pattern) code.rate (paths_of routes demand) link _ _ (can.routes_fit.many demand within) stands (vector_under net (marked_kind F.MARK) code.rate longer pattern) (agree pattern)
       (λ path below. off_path demand path (λ k hop here same there. apart k hop (slice_get_within hops k hop here) here same)))))
 
@@ -143,9 +143,9 @@ module _ {X : Type 0} {F : FieldWords X} {E : EqualityWords X} (L : LawsOf F) {n
       let inside : demand < length code.bases.items = omega (arith, within, basis_count L can) in
       let At : ℕ → List (Option ℕ) → List (List ℕ) → Type 0 = IsAtFrontier (vector_under net (marked_kind F.MARK) code.rate longer pattern) code.rate paths in
       let all : k < length hops = slice_get_within hops k hop here in
-      let links_are : frontier_in new_bases demand ≡ slice_set frontier hop.path (Some link) = renewed.links_at k hop all here in
+      let links_are : frontier_in new_bases demand ≡ slice_set frontier hop.path (Some link) = advanced.links_at k hop all here in
       let rows_are : map (numbers F.number) (vectors_in new_bases demand).rows ≡ slice_set (map (numbers F.number) old.rows) hop.path (vector_under net (marked_kind F.MARK) code.rate longer pattern link) =
-      ap (λ (m : Grid X). map (numbers F.number) m.rows) (renewed.vectors_at k hop all here) ∙ map-set (numbers F.number) old.rows hop.path row
+      ap (λ (m : Grid X). map (numbers F.number) m.rows) (advanced.vectors_at k hop all here) ∙ map-set (numbers F.number) old.rows hop.path row
       ∙ ap (slice_set (map (numbers F.number) old.rows) hop.path) (new_vector L can next operands chosen new carried k hop here) in
       let tall : length (map (numbers F.number) old.rows) ≡ code.rate = length-map old.rows (numbers F.number) ∙ tall_at demand inside in
       let rising = subst (λ route. IsTrue (is_rising route)) (unwrap_or-slice_get paths hop.path []) (rising-route net code.rate routes order can.routes_fit demand hop.path within below) in
@@ -161,7 +161,7 @@ module _ {X : Type 0} {F : FieldWords X} {E : EqualityWords X} (L : LawsOf F) {n
   pub visited_more : (new_code : PartialCode X F E) → new_code.rate ≡ code.rate → new_code.operands.items ≡ longer → new_code.vectors.items ≡ new → new_code.bases.items ≡ new_bases → IsVisited net routes new_code
   visited_more new_code same_rate operands_are vectors_are bases_are =
       IsVisited-of code.rate longer new new_bases new_code same_rate operands_are vectors_are bases_are
-      (chosen_more L can next operands chosen) (vectors_more L can next operands chosen new carried) (renewed.same_count ∙ can.before.each_basis)
+      (chosen_more L can next operands chosen) (vectors_more L can next operands chosen new carried) (advanced.same_count ∙ can.before.each_basis)
       (λ demand within. elim (one_or_apart hops demand) [
         | inl found ↦ subst (Stands net routes code.rate longer new_bases) found.3 (stands_hop found.0 found.1 found.2)
         | inr apart ↦ stands_other demand within apart

@@ -23,7 +23,7 @@ use Rattle.lif_compiler.proofs.AfterSteps.{operand_links, operand_rows, operand_
 use Rattle.lif_compiler.proofs.BasesLaws.{LawsOf}
 use Rattle.lif_compiler.proofs.CarrySteps.{carried_at}
 use Rattle.lif_compiler.proofs.ReadySteps.{item_of, shape, some_basis, vectors_shape, zeros_here}
-use Rattle.lif_compiler.proofs.RenewSteps.{nonzero_at_link}
+use Rattle.lif_compiler.proofs.AdvanceSteps.{nonzero_at_link}
 
 module _ {X : Type 0} {F : FieldWords X} {E : EqualityWords X} (L : LawsOf F) {net : Net} {routes : Routes} {hops : List Hop} {code : PartialCode X F E} (can : CanVisit net routes hops code)
     (next : length code.operands.items < length net.links) (link : ℕ) (link_is : link ≡ length code.operands.items) where
@@ -63,11 +63,11 @@ module _ {X : Type 0} {F : FieldWords X} {E : EqualityWords X} (L : LawsOf F) {n
         new_back count whole = written_back code.vectors.items new count whole carried_here.each_pattern
 
         module _ (made : List (Grid X)) (made_are : made ≡ new) where
-          pub renew_shape : AreOfShape (length net.links) code.rate made
-          renew_shape = subst (AreOfShape (length net.links) code.rate) (sym made_are) (vectors_shape new (vectors_more L can next operands chosen_here new carried_here))
+          pub advance_shape : AreOfShape (length net.links) code.rate made
+          advance_shape = subst (AreOfShape (length net.links) code.rate) (sym made_are) (vectors_shape new (vectors_more L can next operands chosen_here new carried_here))
 
-          pub renew_nonzero : (bases : List (Basis X F E)) → bases ≡ code.bases.items → All HasMatrices code.bases.items → All (IsMatrix F.is_element) new
+          pub advance_nonzero : (bases : List (Basis X F E)) → bases ≡ code.bases.items → All HasMatrices code.bases.items → All (IsMatrix F.is_element) new
               → (k : ℕ) (hop : Hop) → slice_get hops k ≡ Some hop → dot_of F.zero F.add F.mul (row_of (vectors_for made hop.demand) link) (row_of (inverses_in bases hop.demand) hop.path) ≢ F.zero
-          renew_nonzero bases bases_are matrices kept k hop here =
+          advance_nonzero bases bases_are matrices kept k hop here =
               nonzero_at_link link_is made_are bases_are hop
               (product_nonzero L can next operands chosen_here new carried_here k hop here matrices kept (item_of code.bases.items (some_basis L can)))

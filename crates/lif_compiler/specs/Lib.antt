@@ -14,3 +14,4 @@ pub mod PartialCodes
 pub mod Steps
 pub mod Routes
 pub mod Planning
+pub mod Work

@@ -49,7 +49,7 @@ IsApart hops count demand = (k : ℕ) (hop : Hop) → k < count
 
 -- The link is on the frontier of the paths of the first hops, with the vector that it has under the
 -- pattern of the demand. Nothing else is changed.
-pub record AreRenewedTo {X : Type 0} {F : FieldWords X} {E : EqualityWords X} (link : ℕ)
+pub record AreAdvancedTo {X : Type 0} {F : FieldWords X} {E : EqualityWords X} (link : ℕ)
     (vectors : List (Grid X)) (hops : List Hop) (count : ℕ)
     (old new : List (Basis X F E)) : Type 0 where
   pub same_count : length new ≡ length old
@@ -64,6 +64,6 @@ pub record AreRenewedTo {X : Type 0} {F : FieldWords X} {E : EqualityWords X} (l
       → vectors_in new demand ≡ vectors_in old demand
 
 -- so by all hops
-abbrev pub AreRenewed : {X : Type 0} {F : FieldWords X} {E : EqualityWords X}
+abbrev pub AreAdvanced : {X : Type 0} {F : FieldWords X} {E : EqualityWords X}
     → ℕ → List (Grid X) → List Hop → List (Basis X F E) → List (Basis X F E) → Type 0
-AreRenewed link vectors hops old new = AreRenewedTo link vectors hops (length hops) old new
+AreAdvanced link vectors hops old new = AreAdvancedTo link vectors hops (length hops) old new

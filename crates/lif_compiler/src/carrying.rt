@@ -1,5 +1,6 @@
 //! The vectors of a link that is visited, under all patterns.
-ghost use Rattle.std.specs.Prelude.{◌≡◌, ◌<◌, All, false, length, replicate, true};
+ghost use Rattle.std.specs.Prelude.{◌≡◌, ◌*◌, ◌<◌, All, false, length, replicate, true};
+ghost use Rattle.counted_steps.specs.Steps.{RoseByAtMost};
 ghost use Rattle.field_vectors.specs.Grid.{IsMatrix, row_of};
 ghost use Rattle.gf_tables.specs.Kind.{IsOfKind};
 ghost use Rattle.gf_tables.specs.declared.kind.FieldKind.{FieldKind};
@@ -31,6 +32,8 @@ fn carry_unless<F: Field, L: Ledger>(
     ensures carried { (kind : FieldKind) → IsOfKind kind F.SIZE F.BYTES F.MARK F.product
         → IsCarriedUnless is_failed kind F.number leaves operands.now link vectors.old vectors.new }
     ensures kept { IsMatrix F.is_element vectors.new }
+    ensures ticks { RoseByAtMost
+        (length operands.now * vectors.old.columns) steps.old steps.new }
 {
     if !is_failed {
         carry(vectors, link, leaves, operands, steps);
@@ -38,7 +41,8 @@ fn carry_unless<F: Field, L: Ledger>(
     let _rows = vectors.rows();
 }
 
-/// Makes under each pattern the row of a link, which is zero, what the link carries by its operands.
+/// Makes under each pattern the row of a link, which is zero, what the link carries by its operands. It counts at most
+/// a step for each place of each operand's vector.
 pub fn carry_all<F: Field, L: Ledger>(
     vectors: &mut [Matrix<F>],
     rate: u32,
@@ -57,6 +61,8 @@ pub fn carry_all<F: Field, L: Ledger>(
     ensures carried { (kind : FieldKind) → IsOfKind kind F.SIZE F.BYTES F.MARK F.product
         → AreCarried kind F.number net.now link operands.now vectors.old vectors.new }
     ensures kept { All (IsMatrix F.is_element) vectors.new }
+    ensures ticks { RoseByAtMost
+        (length vectors.old * (length operands.now * rate)) steps.old steps.new }
 {
     let leaves = net.leaves_source(link);
     for pattern in 0..vectors.len() {

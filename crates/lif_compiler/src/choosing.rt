@@ -1,5 +1,7 @@
 //! The choice of a link's operands.
-ghost use Rattle.std.specs.Prelude.{◌≡◌, ◌<◌, ◌≤◌, All, IfOk, length};
+ghost use Rattle.std.specs.Prelude.{◌≡◌, ◌+◌, ◌*◌, ◌<◌, ◌≤◌, All, IfOk, length};
+ghost use Rattle.coeff_choice.specs.Choice.{choice_steps};
+ghost use Rattle.counted_steps.specs.Steps.{RoseByAtMost};
 ghost use Rattle.gf_tables.specs.Kind.{IsOfKind};
 ghost use Rattle.net_model.specs.Limits.{highest_rate};
 ghost use Rattle.lif_compiler.specs.Bases.{HasWidth};
@@ -21,7 +23,8 @@ use std::sync::ledger::Ledger;
 
 impl<F: Field> PartialCode<F> {
     /// Operands of a link, by which its vector has a product with the inverse vector of the path of each hop over it
-    /// that isn't zero. What comes before the link on that path has such a vector.
+    /// that isn't zero. What comes before the link on that path has such a vector. It counts the products of the table
+    /// and what the choice counts, with at most as many columns as rows.
     pub fn choose_operands<L: Ledger>(
         &self,
         alloc: Global,
@@ -40,7 +43,9 @@ impl<F: Field> PartialCode<F> {
         requires few { length hops.now ≤ F.SIZE }
         requires named { CanFeed net.now self.now.rate link (befores hops.now) }
         requires own { HaveProducts net.now link hops.now self.now }
-        ensures { IfOk result (AreChosenBy net.now link hops.now self.now) }
+        ensures chosen { IfOk result (AreChosenBy net.now link hops.now self.now) }
+        ensures ticks { let count = length hops.now in RoseByAtMost
+            (count * (count * self.now.rate) + choice_steps count count) steps.old steps.new }
     {
         let sources = sources_of(alloc, hops)?;
         let places = places_of(alloc, hops, &sources)?;

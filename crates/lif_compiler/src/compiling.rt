@@ -1,6 +1,8 @@
 //! The compiler: a network to a code of its rate, the least cut of a demand.
-ghost use Rattle.std.specs.Prelude.{◌≡◌, ◌≤◌, [], IfErr, IfOk, IsTrue, length};
+ghost use Rattle.std.specs.Prelude.{◌≡◌, ◌≤◌, ℕ, [], IfErr, IfOk, IsTrue, length};
+ghost use Rattle.counted_steps.specs.Steps.{RoseByAtMost};
 ghost use Rattle.cut_witness.specs.Certificate.{AreCertificates, IsLeastValue};
+ghost use Rattle.failure_patterns.specs.Rate.{IsRate};
 ghost use Rattle.gf_tables.specs.Kind.{IsOfKind};
 ghost use Rattle.net_model.specs.Demands.{demand_count};
 ghost use Rattle.net_model.specs.Limits.{highest_rate};
@@ -12,6 +14,7 @@ ghost use Rattle.lif_compiler.specs.Compiled.{IsCompiled, marked_kind};
 ghost use Rattle.lif_compiler.specs.Hops.{Routes};
 ghost use Rattle.lif_compiler.specs.Refused.{IsRefusal};
 ghost use Rattle.lif_compiler.specs.Visits.{AreVisitable, IsFilledBy};
+ghost use Rattle.lif_compiler.specs.Work.{choice_bound};
 
 use crate::decoding::decoders_of;
 use crate::kinds::kind_of;
@@ -51,8 +54,10 @@ fn fill<F: Field, L: Ledger>(
     requires order { IsTrue (are_in_order [] net.now.links) }
     requires named { net.now.field ≡ choice_of (marked_kind F.MARK) }
     requires ready { (routes : Routes) × AreVisitable net.now rate routes hops.now }
-    ensures { IfOk result (λ parts.
+    ensures filled { IfOk result (λ parts.
         IsFilledBy net.now (marked_kind F.MARK) rate hops.now parts.0 parts.1) }
+    ensures ticks { RoseByAtMost
+        (choice_bound (length net.now.links) (demand_count net.now) rate) steps.old steps.new }
 {
     let mut code = PartialCode::<F>::start(alloc, net, rate)?;
     code.visit_all(alloc, net, hops, steps)?;
@@ -86,7 +91,10 @@ fn build<F: Field, L: Ledger>(
     requires least { IsLeastValue certs.now rate }
     requires some { 1 ≤ rate }
     requires low { rate ≤ highest_rate }
-    ensures { IfOk result (λ code. IsCompiled net.now (marked_kind F.MARK) code certs.now) }
+    ensures compiled { IfOk result (λ code.
+        IsCompiled net.now (marked_kind F.MARK) code certs.now) }
+    ensures ticks { RoseByAtMost
+        (choice_bound (length net.now.links) (demand_count net.now) rate) steps.old steps.new }
 {
     let routes = routes_of(alloc, certs, order, rate)?;
     let hops = hops_of(alloc, net.links.len(), &routes)?;
@@ -100,7 +108,8 @@ fn build<F: Field, L: Ledger>(
 /// certificates: the least cut of a demand. No accepted code of the network has a higher rate, over either field.
 /// There is such a code for every network without a cycle that has at most as many demands as the field has elements,
 /// and whose rate is 1 to 32; else the refusal says which of this doesn't hold (Jaggi et al. 2005, for demands with
-/// failed links).
+/// failed links). Each product and each inverse counts a step where coefficients are chosen; there are at most
+/// 4 m N (N h + N + h h), for m links, N demands and the rate h.
 pub fn compile<F: Field, G: Gate + Sync, L: Ledger, R: Threads + Sync>(
     rt: &R,
     alloc: Global,
@@ -112,14 +121,37 @@ pub fn compile<F: Field, G: Gate + Sync, L: Ledger, R: Threads + Sync>(
     ensures compiled { IfOk result (λ made.
         IsCompiled net.now (marked_kind F.MARK) made.0 made.1.items) }
     ensures refused { IfErr result (IsRefusal net.now F.SIZE) }
+    ensures ticks { (rate : ℕ) → IsRate net.now rate → RoseByAtMost
+        (choice_bound (length net.now.links) (demand_count net.now) rate) steps.old steps.new }
 {
     let order = order(alloc, net)?;
+    compile_in_order::<F, G, L, R>(rt, alloc, net, &order, gate, steps)
+}
+
+/// The same for a network without a cycle, whose order is at hand.
+pub fn compile_in_order<F: Field, G: Gate + Sync, L: Ledger, R: Threads + Sync>(
+    rt: &R,
+    alloc: Global,
+    net: &Net,
+    order: &[u32],
+    gate: &G,
+    steps: &mut Steps<L>,
+) -> Result<(Code, Vec<Cert>), CompileRefusal>
+    requires field { IsOfKind (marked_kind F.MARK) F.SIZE F.BYTES F.MARK F.product }
+    requires order { order.now ≡ order_of net.now.links }
+    requires acyclic { IsAcyclic net.now.links }
+    ensures compiled { IfOk result (λ made.
+        IsCompiled net.now (marked_kind F.MARK) made.0 made.1.items) }
+    ensures refused { IfErr result (IsRefusal net.now F.SIZE) }
+    ensures ticks { (rate : ℕ) → IsRate net.now rate → RoseByAtMost
+        (choice_bound (length net.now.links) (demand_count net.now) rate) steps.old steps.new }
+{
     let count = demands(net);
     if count > u64::from(F::SIZE) {
         return Err(CompileRefusal::TooManyDemands { count });
     }
     let certs = certify_all(rt, alloc, net, WORKERS, gate)?;
     let rate = bounded_rate(alloc, net, &certs)?;
-    let code = build::<F, L>(alloc, net, &order, &certs, rate, steps)?;
+    let code = build::<F, L>(alloc, net, order, &certs, rate, steps)?;
     Ok((code, certs))
 }

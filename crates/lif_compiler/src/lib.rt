@@ -1,6 +1,7 @@
 //! The Linear Information Flow compiler (Jaggi et al. 2005).
 #![tactic(auto)]
 
+mod advancing;
 mod carrying;
 mod choosing;
 mod compiling;
@@ -12,12 +13,11 @@ mod partial_code;
 mod planning;
 mod rating;
 mod refusal;
-mod renewing;
 mod routes;
 mod starting;
 mod table;
 mod visiting;
 
-pub use compiling::compile;
+pub use compiling::{compile, compile_in_order};
 pub use hops::{Hop, HopList};
 pub use refusal::CompileRefusal;

@@ -1,5 +1,6 @@
 //! The table of products by which the coefficients of a link are chosen.
-ghost use Rattle.std.specs.Prelude.{◌≡◌, ◌≢◌, ◌<◌, ◌≤◌, ◌^◌, ℕ, All, IfOk, false, length, map, slice_index, slice_index_or, true};
+ghost use Rattle.std.specs.Prelude.{◌≡◌, ◌≢◌, ◌*◌, ◌<◌, ◌≤◌, ◌^◌, ℕ, All, IfOk, false, length, map, slice_index, slice_index_or, true};
+ghost use Rattle.counted_steps.specs.Steps.{RoseByAtMost};
 ghost use Rattle.field_vectors.specs.Grid.{row_of};
 ghost use Rattle.gf_tables.specs.Kind.{IsOfKind};
 ghost use Rattle.gf_tables.specs.declared.kind.FieldKind.{FieldKind};
@@ -17,7 +18,7 @@ use net_model::Net;
 use std::alloc::{AllocError, Global};
 use std::sync::ledger::Ledger;
 
-// The product of the vector of a source with the inverse vector of a path.
+// The product of the vector of a source with the inverse vector of a path. It counts at most a step for each place.
 fn product<F: Field, L: Ledger>(
     leaves: bool,
     from: u32,
@@ -33,6 +34,7 @@ fn product<F: Field, L: Ledger>(
     ensures element { F.is_element result }
     ensures value { (kind : FieldKind) → IsOfKind kind F.SIZE F.BYTES F.MARK F.product →
         F.number result ≡ product_by kind F.number leaves vectors.now inverses.now path from }
+    ensures ticks { RoseByAtMost inverses.now.columns steps.old steps.new }
 {
     if leaves {
         inverses.at(path, from)
@@ -63,6 +65,8 @@ fn fill_row<F: Field, L: Ledger>(
         → numbers_at F.number table.new row
         ≡ map (product_by kind F.number leaves vectors.now inverses.now path) sources.now }
     ensures others { (other : ℕ) → other ≢ row → row_of table.new other ≡ row_of table.old other }
+    ensures ticks { RoseByAtMost
+        (length sources.now * inverses.now.columns) steps.old steps.new }
 {
     let _columns = table.columns();
     for (column, from) in sources.iter().enumerate() {
@@ -73,7 +77,7 @@ fn fill_row<F: Field, L: Ledger>(
 
 impl<F: Field> PartialCode<F> {
     /// The table of the products of the sources' vectors with the inverse vectors of the hops' paths: a row for each
-    /// hop over the link, a column for each source.
+    /// hop over the link, a column for each source. It counts at most a step for each place of each product's vectors.
     pub fn table_of<L: Ledger>(
         &self,
         alloc: Global,
@@ -91,7 +95,9 @@ impl<F: Field> PartialCode<F> {
         requires sources { CanFeed net.now self.now.rate link sources.now }
         requires few_sources { length sources.now < 2 ^ 32 }
         requires few_hops { length hops.now < 2 ^ 32 }
-        ensures { IfOk result (IsTableFor net.now link sources.now hops.now self.now) }
+        ensures table { IfOk result (IsTableFor net.now link sources.now hops.now self.now) }
+        ensures ticks { RoseByAtMost
+            (length hops.now * (length sources.now * self.now.rate)) steps.old steps.new }
     {
         let leaves = net.leaves_source(link);
         let mut table = Matrix::zeros(alloc, hops.len() as u32, sources.len() as u32)?;

@@ -1,15 +1,17 @@
 //! The visit of a link.
 ghost use Rattle.std.specs.Prelude.{◌≡◌, ◌<◌, ◌≤◌, ◌+◌, [], All, OnOk, length};
+ghost use Rattle.counted_steps.specs.Steps.{RoseByAtMost};
 ghost use Rattle.gf_tables.specs.Kind.{IsOfKind};
 ghost use Rattle.net_model.specs.Demands.{demand_count};
 ghost use Rattle.lif_compiler.specs.Bases.{HasMatrices};
 ghost use Rattle.lif_compiler.specs.Compiled.{marked_kind};
 ghost use Rattle.lif_compiler.specs.Hops.{Routes};
 ghost use Rattle.lif_compiler.specs.Visits.{AreVisitable, CanVisit, IsVisited, VisitsAll, VisitsNext};
+ghost use Rattle.lif_compiler.specs.Work.{choice_bound};
 
+use crate::advancing::advance_all;
 use crate::carrying::carry_all;
 use crate::partial_code::PartialCode;
-use crate::renewing::renew_all;
 use crate::{Hop, HopList};
 use counted_steps::Steps;
 use gf_tables::Field;
@@ -19,7 +21,7 @@ use std::sync::ledger::Ledger;
 
 impl<F: Field> PartialCode<F> {
     /// Visits the next link, over which these are the hops: chooses its operands, and puts it on the frontier of each
-    /// path that has it.
+    /// path that has it. It counts at most what the choice of a code's coefficients takes for one link.
     pub fn visit<L: Ledger>(
         &mut self,
         alloc: Global,
@@ -37,6 +39,8 @@ impl<F: Field> PartialCode<F> {
             (length self.new.operands.items ≡ length self.old.operands.items + 1) }
         ensures matrices { OnOk result (All HasMatrices self.new.bases.items) }
         ensures visited { OnOk result (VisitsNext net.now hops.now self.old self.new) }
+        ensures ticks { RoseByAtMost
+            (choice_bound 1 (demand_count net.now) self.old.rate) steps.old steps.new }
     {
         let link = self.operands.len() as u32;
         let operands = self.choose_operands(alloc, net, link, hops, steps)?;
@@ -48,20 +52,21 @@ impl<F: Field> PartialCode<F> {
             operands.as_slice(),
             steps,
         );
-        renew_all(
-            alloc,
+        advance_all(
             self.bases.as_mut_slice(),
             self.vectors.as_slice(),
             self.rate,
             net.links.len() as u32,
             link,
             hops,
-        )?;
+            steps,
+        );
         self.operands.push(operands)?;
         Ok(())
     }
 
-    /// Visits all links in order, over which these are the hops.
+    /// Visits all links in order, over which these are the hops. It counts at most what the choice of a code's
+    /// coefficients takes.
     pub fn visit_all<L: Ledger>(
         &mut self,
         alloc: Global,
@@ -80,6 +85,9 @@ impl<F: Field> PartialCode<F> {
         ensures whole { OnOk result (length self.new.operands.items ≡ length net.now.links) }
         ensures matrices { OnOk result (All HasMatrices self.new.bases.items) }
         ensures visited { OnOk result (VisitsAll net.now hops.now self.old self.new) }
+        ensures ticks { RoseByAtMost
+            (choice_bound (length net.now.links) (demand_count net.now) self.old.rate)
+            steps.old steps.new }
     {
         for list in hops {
             self.visit(alloc, net, list.as_slice(), steps)?;

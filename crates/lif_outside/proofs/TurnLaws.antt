@@ -17,7 +17,7 @@ use Rattle.lif_outside.proofs.PutLaws.{take-behind}
 use Rattle.lif_outside.specs.Runs.{StopsWithin, Written, failed_of, creates_of, appends_of, appends_to, turn_of, AreAppendsTo, bytes_appended}
 use Rattle.lif_outside.specs.Sequences.{IsFrontOf}
 use Rattle.lif_outside.proofs.SequenceLaws.{all_split, stops_all, stops_there}
-use Rattle.lif_outside.proofs.RunLaws.{appends_held, appends-append, bytes_appended-append}
+use Rattle.lif_outside.proofs.RunLaws.{appends_held, bytes_appended-append}
 
 -- creates of paths, and then of others: also of one more
 pub creates_of-append : (paths others : List (List ℕ)) → creates_of (paths ++ others) ≡ creates_of paths ++ creates_of others
@@ -54,22 +54,6 @@ apart_behind path paths place apart there = apart (behind_there path paths place
 -- the calls of a turn in which each path gets the same bytes
 abbrev pub turn_calls : List (List ℕ) → List ℕ → List Event
 turn_calls paths bytes = map (λ (part : Written). appended part.0 part.1) (turn_of paths bytes)
-
-pub turn_calls-append : (paths others : List (List ℕ)) (bytes : List ℕ) → turn_calls (paths ++ others) bytes ≡ turn_calls paths bytes ++ turn_calls others bytes
-turn_calls-append paths others bytes =
-    let part_call : Written → Event = λ part. appended part.0 part.1 in
-    let to : List ℕ → Written = λ path. (path, bytes) in
-    ap (map part_call) (map-append to paths others) ∙ map-append part_call (map to paths) (map to others)
-
--- for some of these paths
-turn_are : (all paths : List (List ℕ)) (bytes : List ℕ) → ((path : List ℕ) → Contains paths path → Contains all path) → AreAppendsTo all (turn_calls paths bytes)
-turn_are all [] bytes within = tt
-turn_are all (path ∷ paths) bytes within = (within path (first_there path paths), turn_are all paths bytes (λ place there. within place (behind_there path paths place there)))
-
--- such turns are appends to these paths
-pub appends_to-are : (paths pieces : List (List ℕ)) → AreAppendsTo paths (appends_to paths pieces)
-appends_to-are paths [] = tt
-appends_to-are paths (piece ∷ pieces) = appends-append paths (turn_calls paths piece) (appends_to paths pieces) (turn_are paths paths piece (λ path there. there)) (appends_to-are paths pieces)
 
 -- creates keep every other path
 pub creates_of-keep : (paths : List (List ℕ)) (place : List ℕ) → ¬ Contains paths place → AllByRecursion (KeepsPath place) (creates_of paths)

@@ -1,83 +1,108 @@
--- Blocks of a file that are carried, one more and one more, and what they leave at the sinks.
-use Rattle.std.specs.Prelude.{◌≡◌, ◌<◌, ◌≤◌, ◌+◌, ◌-◌, ℕ, zero, suc, Bool, true, List, [], ◌∷◌, ◌++◌, length, map, slice_index_or}
+-- Blocks of a file that are carried, some and then more, and what they leave at the sinks.
+use Rattle.std.specs.Prelude.{◌≡◌, ◌<◌, ◌≤◌, ◌+◌, ◌-◌, ◌*◌, ℕ, zero, suc, Bool, true, List, [], ◌∷◌, ◌++◌, drop, length, map, slice_index_or, take}
 use Rattle.std.specs.List.{range_with_len}
 use Rattle.std.proofs.Common.{refl, sym, ap, ◌∙◌, subst, arith}
-use Rattle.std.proofs.lemmas.List.{append-nil}
-use Rattle.std.proofs.lemmas.List.FromFn.{get_or-map-range_with_len, length-map-range_with_len, map-range_with_len_more}
-use Rattle.generation_frame.specs.Blocks.{block_of, piece_of}
+use Rattle.std.proofs.Math.Nat.{add-mul}
+use Rattle.std.proofs.lemmas.List.{append-nil, drop-append-le, drop-drop, length-drop, map-append, take-append-le}
+use Rattle.std.proofs.lemmas.List.FromFn.{get_or-map-range_with_len, length-map-range_with_len}
+use Rattle.generation_frame.specs.Blocks.{block_of, capacity, piece_of}
 use Rattle.lif_outside.specs.Moves.{Move}
 use Rattle.node_program.specs.declared.code.Code.{Code}
 use Rattle.node_states.specs.Decoded.{decoded_of}
 use Rattle.node_stations.specs.Opening.{demand_of}
-use Rattle.relay_runner.proofs.JoinLaws.{carried-join, decoded-back, decoded-front}
+use Rattle.relay_runner.proofs.JoinLaws.{carried-join, decoded-back, decoded-front, range-append}
 use Rattle.relay_runner.specs.Carried.{IsCarried, packets_given}
 use Rattle.lif_top.specs.Send.Carried.{AreCarried, CarriesFirst, IsOver, blocks_from}
 
--- one block more
-pub blocks_from-more : (file : List ℕ) (rate count : ℕ) → blocks_from file rate 0 (count + 1) ≡ blocks_from file rate 0 count ++ block_of rate (piece_of file rate count) ∷ []
-blocks_from-more file rate count = map-range_with_len_more (λ generation. block_of rate (piece_of file rate generation)) 0 count count (omega arith)
+-- the block of a generation
+abbrev block_at : List ℕ → ℕ → ℕ → List ℕ
+block_at file rate generation = block_of rate (piece_of file rate generation)
 
-pub length-blocks_from : (file : List ℕ) (rate count : ℕ) → length (blocks_from file rate 0 count) ≡ count
-length-blocks_from file rate count = length-map-range_with_len (λ generation. block_of rate (piece_of file rate generation)) 0 count
+-- some blocks, and then more
+pub blocks_from-append : (file : List ℕ) (rate first count more : ℕ)
+    → blocks_from file rate first (count + more) ≡ blocks_from file rate first count ++ blocks_from file rate (first + count) more
+blocks_from-append file rate first count more =
+    ap (map (block_at file rate)) (range-append first count more)
+    ∙ map-append (block_at file rate) (range_with_len first count) (range_with_len (first + count) more)
+
+pub length-blocks_from : (file : List ℕ) (rate first count : ℕ) → length (blocks_from file rate first count) ≡ count
+length-blocks_from file rate first count = length-map-range_with_len (block_at file rate) first count
+
+-- what is behind the first blocks of a file has the blocks behind them
+pub blocks_from-behind : (file : List ℕ) (rate before first count : ℕ)
+    → blocks_from (drop (before * capacity rate) file) rate first count ≡ blocks_from file rate (before + first) count
+blocks_from-behind file rate before first zero = refl
+blocks_from-behind file rate before first (suc count) =
+    let size = capacity rate in
+    let next : before + (first + 1) ≡ before + first + 1 = omega arith in
+    let place : drop (first * size) (drop (before * size) file) ≡ drop ((before + first) * size) file =
+    drop-drop (first * size) (before * size) file ∙ ap (λ n. drop n file) (sym (add-mul before first size)) in
+    ap (λ (behind : List ℕ). block_of rate (take size behind) ∷ blocks_from (drop (before * size) file) rate (first + 1) count) place
+    ∙ ap (λ rest. block_at file rate (before + first) ∷ rest) (blocks_from-behind file rate before (first + 1) count ∙ ap (λ n. blocks_from file rate n count) next)
+
+-- whole blocks of a file don't change by what follows it
+pub blocks_from-front : (file more : List ℕ) (rate first count : ℕ) → (first + count) * capacity rate ≤ length file
+    → blocks_from (file ++ more) rate first count ≡ blocks_from file rate first count
+blocks_from-front file more rate first zero whole = refl
+blocks_from-front file more rate first (suc count) whole =
+    let size = capacity rate in
+    let next : (first + 1 + count) * size ≡ (first + suc count) * size = ap (λ n. n * size) (omega arith) in
+    let here : (first + 1) * size ≡ first * size + 1 * size = add-mul first 1 size in
+    let there : (first + 1 + count) * size ≡ (first + 1) * size + count * size = add-mul (first + 1) count size in
+    let start : first * size ≤ length file = omega arith in
+    let room : size ≤ length (drop (first * size) file) = omega (arith, length-drop (first * size) file) in
+    let piece : piece_of (file ++ more) rate first ≡ piece_of file rate first =
+    ap (take size) (drop-append-le (first * size) file more start) ∙ take-append-le size (drop (first * size) file) more room in
+    ap (λ piece. block_of rate piece ∷ blocks_from (file ++ more) rate (first + 1) count) piece
+    ∙ ap (λ rest. block_at file rate first ∷ rest) (blocks_from-front file more rate (first + 1) count (omega arith))
 
 module _ (faithful : Bool) (code : Code) (pattern : ℕ) where
   -- where there are blocks, they were carried
-  pub carried-some : (blocks : List (List ℕ)) (moves : List Move) → 0 < length blocks → AreCarried faithful code pattern blocks moves
-      → IsCarried faithful code pattern (record { first = 0; blocks = blocks }) moves
-  carried-some [] moves some are = absurd (omega arith)
-  carried-some (block ∷ blocks) moves some are = are
+  pub carried-some : (first : ℕ) (blocks : List (List ℕ)) (moves : List Move) → 0 < length blocks → AreCarried faithful code pattern first blocks moves
+      → IsCarried faithful code pattern (record { first = first; blocks = blocks }) moves
+  carried-some first [] moves some are = absurd (omega arith)
+  carried-some first (block ∷ blocks) moves some are = are
 
-  -- blocks, and then one more
-  carried-more : (blocks : List (List ℕ)) (first : List Move) (block : List ℕ) (more : List Move) → AreCarried faithful code pattern blocks first
-      → IsCarried faithful code pattern (record { first = length blocks; blocks = block ∷ [] }) more
-      → AreCarried faithful code pattern (blocks ++ block ∷ []) (first ++ more)
-  carried-more [] first block more none is =
-      subst (λ moves. IsCarried faithful code pattern (record { first = 0; blocks = block ∷ [] }) (moves ++ more)) (sym none) is
-  carried-more (one ∷ blocks) first block more are is =
-      let follows : length (one ∷ blocks) ≡ 0 + length (one ∷ blocks) = omega arith in
-      carried-join are is follows
+  pub some-carried : (first : ℕ) (blocks : List (List ℕ)) (moves : List Move) → 0 < length blocks
+      → IsCarried faithful code pattern (record { first = first; blocks = blocks }) moves → AreCarried faithful code pattern first blocks moves
+  some-carried first [] moves some is = absurd (omega arith)
+  some-carried first (block ∷ blocks) moves some is = is
+
+  -- blocks, and then more
+  pub carried-then : (first : ℕ) (blocks : List (List ℕ)) (front : List Move) (others : List (List ℕ)) (later : List Move) → AreCarried faithful code pattern first blocks front
+      → AreCarried faithful code pattern (first + length blocks) others later → AreCarried faithful code pattern first (blocks ++ others) (front ++ later)
+  carried-then first [] front others later none are =
+      let same : first + 0 ≡ first = omega arith in
+      subst (λ front. AreCarried faithful code pattern first others (front ++ later)) (sym none)
+      (subst (λ n. AreCarried faithful code pattern n others later) same are)
+  carried-then first (block ∷ blocks) front [] later are none =
+      subst (λ later. AreCarried faithful code pattern first ((block ∷ blocks) ++ []) (front ++ later)) (sym none)
+      (subst (λ moves. AreCarried faithful code pattern first ((block ∷ blocks) ++ []) moves) (sym (append-nil front))
+      (subst (λ blocks. AreCarried faithful code pattern first blocks front) (sym (append-nil (block ∷ blocks))) are))
+  carried-then first (block ∷ blocks) front (other ∷ others) later are is = carried-join are is refl
 
   -- what a sink decodes of the blocks carried first doesn't change by what comes later
-  front-some : (blocks : List (List ℕ)) (first later : List Move) (place generation : ℕ) → AreCarried faithful code pattern blocks first → generation < length blocks
-      → pattern < length code.net.patterns
-      → decoded_of code (demand_of code pattern place) (packets_given (first ++ later)) generation ≡ decoded_of code (demand_of code pattern place) (packets_given first) generation
-  front-some [] first later place generation are below known = absurd (omega arith)
-  front-some (block ∷ blocks) first later place generation are below known =
-      decoded-front are later place generation known (omega arith) (omega arith)
+  pub decoded-still : (first : ℕ) (blocks : List (List ℕ)) (front later : List Move) (place generation : ℕ) → AreCarried faithful code pattern first blocks front
+      → pattern < length code.net.patterns → first ≤ generation → generation < first + length blocks
+      → decoded_of code (demand_of code pattern place) (packets_given (front ++ later)) generation ≡ decoded_of code (demand_of code pattern place) (packets_given front) generation
+  decoded-still first [] front later place generation are known begun numbered = absurd (omega arith)
+  decoded-still first (block ∷ blocks) front later place generation are known begun numbered = decoded-front are later place generation known begun numbered
 
-  -- and of the next one nothing came before
-  back-some : (blocks : List (List ℕ)) (first later : List Move) (place : ℕ) → AreCarried faithful code pattern blocks first
-      → decoded_of code (demand_of code pattern place) (packets_given (first ++ later)) (length blocks) ≡ decoded_of code (demand_of code pattern place) (packets_given later) (length blocks)
-  back-some [] first later place none =
-      ap (λ moves. decoded_of code (demand_of code pattern place) (packets_given (moves ++ later)) 0) none
-  back-some (block ∷ blocks) first later place are =
-      decoded-back are later place (length (block ∷ blocks)) (omega arith)
+  -- and of those behind them nothing came before
+  pub decoded-next : (first : ℕ) (blocks : List (List ℕ)) (front later : List Move) (place generation : ℕ) → AreCarried faithful code pattern first blocks front
+      → first + length blocks ≤ generation
+      → decoded_of code (demand_of code pattern place) (packets_given (front ++ later)) generation ≡ decoded_of code (demand_of code pattern place) (packets_given later) generation
+  decoded-next first [] front later place generation none past =
+      ap (λ moves. decoded_of code (demand_of code pattern place) (packets_given (moves ++ later)) generation) none
+  decoded-next first (block ∷ blocks) front later place generation are past = decoded-back are later place generation past
 
   module _ (file : List ℕ) (blocks : ℕ) where
     -- the first blocks are all calls, where nothing follows
     pub over-are : (carried : ℕ) (moves : List Move) → CarriesFirst faithful code pattern file blocks IsOver carried moves
-        → AreCarried faithful code pattern (blocks_from file code.rate 0 carried) moves
+        → AreCarried faithful code pattern 0 (blocks_from file code.rate 0 carried) moves
     over-are carried moves is =
-        subst (AreCarried faithful code pattern (blocks_from file code.rate 0 carried))
+        subst (AreCarried faithful code pattern 0 (blocks_from file code.rate 0 carried))
         (sym (is.moves_are ∙ ap (λ later. is.first ++ later) is.rest ∙ append-nil is.first)) is.carries
-
-    -- one block more was carried
-    pub carries-more : (carried : ℕ) (moves more : List Move) → carried < blocks → CarriesFirst faithful code pattern file blocks IsOver carried moves
-        → IsCarried faithful code pattern (record { first = carried; blocks = block_of code.rate (piece_of file code.rate carried) ∷ [] }) more
-        → CarriesFirst faithful code pattern file blocks IsOver (carried + 1) (moves ++ more)
-    carries-more carried moves more below is one =
-        let those = blocks_from file code.rate 0 carried in
-        let block = block_of code.rate (piece_of file code.rate carried) in
-        record {
-          first = moves ++ more;
-          later = [];
-          moves_are = sym (append-nil (moves ++ more));
-          some = omega arith;
-          carries = subst (λ blocks. AreCarried faithful code pattern blocks (moves ++ more)) (sym (blocks_from-more file code.rate carried))
-              (carried-more those moves block more (over-are carried moves is)
-              (subst (λ n. IsCarried faithful code pattern (record { first = n; blocks = block ∷ [] }) more) (sym (length-blocks_from file code.rate carried)) one));
-          rest = refl;
-        }
 
     module _ (R : ℕ → List Move → Type 0) (carried : ℕ) (moves : List Move) (is : CarriesFirst faithful code pattern file blocks R carried moves)
         (known : pattern < length code.net.patterns) where
@@ -86,24 +111,11 @@ module _ (faithful : Bool) (code : Code) (pattern : ℕ) where
           → decoded_of code (demand_of code pattern place) (packets_given moves) generation ≡ block_of code.rate (piece_of file code.rate generation)
       carried-decoded by_faithful generation place below within =
           let those = blocks_from file code.rate 0 carried in
-          let count : length those ≡ carried = length-blocks_from file code.rate carried in
+          let count : length those ≡ carried = length-blocks_from file code.rate 0 carried in
           let start : generation - 0 ≡ generation = omega arith in
-          let carries = carried-some those is.first (omega (arith, count)) is.carries in
+          let carries = carried-some 0 those is.first (omega (arith, count)) is.carries in
           ap (λ moves. decoded_of code (demand_of code pattern place) (packets_given moves) generation) is.moves_are
-          ∙ front-some those is.first is.later place generation is.carries (omega (arith, count)) known
+          ∙ decoded-still 0 those is.first is.later place generation is.carries known (omega arith) (omega (arith, count))
           ∙ carries.decoded by_faithful place generation within (omega arith) (omega (arith, count))
           ∙ ap (λ n. slice_index_or those n []) start
-          ∙ get_or-map-range_with_len (λ generation. block_of code.rate (piece_of file code.rate generation)) 0 carried generation generation [] below (omega arith)
-
-    module _ (carried : ℕ) (moves more : List Move) (is : CarriesFirst faithful code pattern file blocks IsOver carried moves) (known : pattern < length code.net.patterns) where
-      -- what comes later doesn't change what was decoded, and of what was carried before nothing counts later
-      pub decoded-still : (generation place : ℕ) → generation < carried
-          → decoded_of code (demand_of code pattern place) (packets_given (moves ++ more)) generation ≡ decoded_of code (demand_of code pattern place) (packets_given moves) generation
-      decoded-still generation place below =
-          front-some (blocks_from file code.rate 0 carried) moves more place generation (over-are carried moves is)
-          (omega (arith, length-blocks_from file code.rate carried)) known
-
-      pub decoded-next : (place : ℕ) → decoded_of code (demand_of code pattern place) (packets_given (moves ++ more)) carried ≡ decoded_of code (demand_of code pattern place) (packets_given more) carried
-      decoded-next place =
-          subst (λ n. decoded_of code (demand_of code pattern place) (packets_given (moves ++ more)) n ≡ decoded_of code (demand_of code pattern place) (packets_given more) n)
-          (length-blocks_from file code.rate carried) (back-some (blocks_from file code.rate 0 carried) moves more place (over-are carried moves is))
+          ∙ get_or-map-range_with_len (block_at file code.rate) 0 carried generation generation [] below (omega arith)

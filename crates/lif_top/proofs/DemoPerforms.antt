@@ -1,12 +1,12 @@
 -- What has to be known of `demo`.
-use Rattle.std.specs.Prelude.{◌≡◌, ◌≢◌, ◌<◌, ◌≤◌, ◌*◌, ◌%◌, ◌^◌, ◌||◌, ℕ, Bool, true, false, IsTrue, IsFalse, List, [], ◌∷◌, ◌++◌, length, map, sum}
-use Rattle.std.specs.List.{concat, list_any, range_with_len}
-use Rattle.std.proofs.Common.{refl, sym, ap, subst, ◌∙◌, inl, inr, ⊎_elim, arith}
+use Rattle.std.specs.Prelude.{◌≡◌, ◌≢◌, ◌<◌, ◌*◌, ◌%◌, ◌^◌, ℕ, Bool, true, false, IsTrue, IsFalse, List, [], ◌∷◌, ◌++◌, length, sum}
+use Rattle.std.specs.List.{list_any}
+use Rattle.std.proofs.Common.{refl, sym, ap, subst, ◌∙◌, ⊎_elim, arith}
 use Rattle.std.proofs.lemmas.Bool.{false≢true, or_left, or_right}
-use Rattle.std.proofs.lemmas.List.{append-nil, length-map}
+use Rattle.std.proofs.lemmas.List.{append-nil}
 use Rattle.std.proofs.lemmas.List.Folds.{list_any-append}
 use Rattle.coded_traffic.specs.Traffic.{traffic_of}
-use Rattle.generation_frame.specs.Blocks.{block_count, capacity, counted_bytes, piece_of, pieces_before}
+use Rattle.generation_frame.specs.Blocks.{counted_bytes, piece_of}
 use Rattle.generation_frame.proofs.BlockLaws.{counted-block}
 use Rattle.generation_frame.proofs.PieceLaws.{concat-pieces_of, length-piece_of}
 use Rattle.lif_outside.proofs.DeedLaws.{Accounted}
@@ -25,8 +25,8 @@ use Rattle.top_base.specs.Performs.{LeavesAll}
 use Rattle.top_base.specs.Words.{Demo}
 use Rattle.top_base.specs.declared.outcome.Outcome.{Outcome}
 use Rattle.top_base.specs.declared.status.Status.{Status}
-use Rattle.top_base.specs.declared.status.Status.TheVariants.{Done, LinkFault, OutOfMemory, ReadFault, Usage, WriteFault}
-use Rattle.lif_top.proofs.CarriedLaws.{carried-decoded, carried-some, length-blocks_from, over-are}
+use Rattle.top_base.specs.declared.status.Status.TheVariants.{Done, LinkFault, OutOfMemory, Usage}
+use Rattle.lif_top.proofs.CarriedLaws.{carried-decoded, carried-some, length-blocks_from}
 use Rattle.lif_top.proofs.DemoRuns.{none-there}
 use Rattle.lif_top.proofs.FrameLaws.{length-put}
 use Rattle.lif_top.proofs.TallyLaws.{sum-pieces}
@@ -56,8 +56,8 @@ module _ (faithful : Bool) (demo : Demo) where
     -- all blocks were carried as one window
     carries : IsCarried faithful code 0 (record { first = 0; blocks = blocks_from source code.rate 0 blocks }) first
     carries =
-        carried-some faithful code 0 (blocks_from source code.rate 0 blocks) first (omega (arith, length-blocks_from source code.rate blocks))
-        (subst (λ n. AreCarried faithful code 0 (blocks_from source code.rate 0 n) first) shows.all shows.carries.on_links.holds_later.carries)
+        carried-some faithful code 0 0 (blocks_from source code.rate 0 blocks) first (omega (arith, length-blocks_from source code.rate 0 blocks))
+        (subst (λ n. AreCarried faithful code 0 0 (blocks_from source code.rate 0 n) first) shows.all shows.carries.on_links.holds_later.carries)
 
     made-are : calls.on_links ≡ opened demo_seed (room_for code) ∷ first
     made-are =
@@ -94,7 +94,7 @@ module _ (faithful : Bool) (demo : Demo) where
         ∙ counted-block code.rate (piece_of source code.rate generation) (omega (arith, length-piece_of source code.rate generation))
       where
         over : CarriesFirst faithful code 0 source blocks IsOver blocks first
-        over = record { first = first; later = []; moves_are = sym (append-nil first); some = omega arith; carries = subst (λ n. AreCarried faithful code 0 (blocks_from source code.rate 0 n) first) shows.all shows.carries.on_links.holds_later.carries; rest = refl }
+        over = record { first = first; later = []; moves_are = sym (append-nil first); some = omega arith; carries = subst (λ n. AreCarried faithful code 0 0 (blocks_from source code.rate 0 n) first) shows.all shows.carries.on_links.holds_later.carries; rest = refl }
 
     total : faithful ≡ true → sum_received code (packets_given calls.on_links) blocks ≡ (length code.net.sinks * sum source) % 2 ^ 64
     total by_faithful =

@@ -1,5 +1,5 @@
 -- What a run of `demo` comes to, by what was carried and what the sinks got of it.
-use Rattle.std.specs.Prelude.{◌≡◌, ◌⊎◌, ◌<◌, ◌≤◌, ◌+◌, ◌*◌, ◌%◌, ◌^◌, ℕ, Bool, false, List, [], ◌∷◌, length, sum, sum_by}
+use Rattle.std.specs.Prelude.{◌≡◌, ◌⊎◌, ◌<◌, ◌*◌, ◌^◌, ℕ, Bool, false, List, [], ◌∷◌, length, sum, sum_by}
 use Rattle.std.proofs.Common.{refl, sym, ap, subst, ◌∙◌, inl, inr, ⊎_elim, arith}
 use Rattle.std.proofs.lemmas.List.{length-map}
 use Rattle.coded_traffic.specs.Traffic.{live_links_of}
@@ -7,10 +7,9 @@ use Rattle.generation_frame.specs.Blocks.{pieces}
 use Rattle.lif_outside.specs.Calls.{Calls}
 use Rattle.lif_outside.specs.Moves.{FollowMoves, InFlight, Move, open_refused, opened, pairs_put}
 use Rattle.lif_outside.specs.Runs.{appends_of}
-use Rattle.net_model.specs.declared.net.Net.{Net}
 use Rattle.net_model.specs.Renumbering.{renumbered_pattern}
 use Rattle.node_program.specs.declared.code.Code.{Code}
-use Rattle.relay_runner.specs.Carried.{IsCarried, packets_given}
+use Rattle.relay_runner.specs.Carried.{packets_given}
 use Rattle.relay_runner.specs.Running.{Running}
 use Rattle.top_base.specs.Lines.{demo_lines, out_of_memory_line}
 use Rattle.top_base.specs.declared.status.Status.{Status}
@@ -76,16 +75,16 @@ module _ (faithful : Bool) (demo : Demo) (code : Code) (made : IsDemoCode demo c
       on_links = record { first = opened demo_seed (room_for code) ∷ []; later = calls.on_links; events_are = refl; holds_first = refl; holds_later = some.delivered.on_links };
     }
 
-    are : AreCarried faithful code 0 (blocks_from (source_of demo) code.rate 0 blocks) calls.on_links
-    are = subst (λ n. AreCarried faithful code 0 (blocks_from (source_of demo) code.rate 0 n) calls.on_links) some.number
+    are : AreCarried faithful code 0 0 (blocks_from (source_of demo) code.rate 0 blocks) calls.on_links
+    are = subst (λ n. AreCarried faithful code 0 0 (blocks_from (source_of demo) code.rate 0 n) calls.on_links) some.number
         (over-are faithful code 0 (source_of demo) blocks some.delivered.carried calls.on_links some.delivered.on_links)
 
     -- so many frames were put
     frames : length (pairs_put calls.on_links) ≡ blocks * (length (live_links_of code 0) * pieces)
     frames =
         let those = blocks_from (source_of demo) code.rate 0 blocks in
-        let count : length those ≡ blocks = length-blocks_from (source_of demo) code.rate blocks in
-        length-put (carried-some faithful code 0 those calls.on_links (omega (arith, count)) are)
+        let count : length those ≡ blocks = length-blocks_from (source_of demo) code.rate 0 blocks in
+        length-put (carried-some faithful code 0 0 those calls.on_links (omega (arith, count)) are)
         ∙ length-traffic code 0 (record { first = 0; blocks = those })
         ∙ ap (λ n. n * (length (live_links_of code 0) * pieces)) count
 

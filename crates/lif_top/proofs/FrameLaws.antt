@@ -1,10 +1,10 @@
 -- How many frames are put: one for each key of the traffic.
-use Rattle.std.specs.Prelude.{◌≡◌, ◌<◌, ◌≤◌, ◌+◌, ◌*◌, ℕ, zero, suc, Bool, true, false, cond, count_by, filter, flat_map, IsPermutation, List, [], ◌∷◌, ◌++◌, length, map, Option, Some, slice_get}
+use Rattle.std.specs.Prelude.{◌≡◌, ◌<◌, ◌≤◌, ◌+◌, ◌*◌, ℕ, suc, Bool, true, false, cond, count_by, filter, flat_map, IsPermutation, List, [], ◌∷◌, length, map, Some, slice_get}
 use Rattle.std.specs.List.{list_any, range_with_len}
 use Rattle.std.proofs.Common.{refl, sym, ap, ◌∙◌, arith, inl, inr}
 use Rattle.std.proofs.lemmas.Bool.{cases_Bool}
 use Rattle.std.proofs.lemmas.List.{length-append, length-map}
-use Rattle.std.proofs.lemmas.List.FromFn.{length-map-range_with_len, length-range_with_len}
+use Rattle.std.proofs.lemmas.List.FromFn.{length-range_with_len}
 use Rattle.std.proofs.lemmas.List.Sorted.{length_permutation}
 use Rattle.std.proofs.lemmas.List.Sums.{count_by-le-length, length-filter, sum_by-cons}
 use Rattle.generation_frame.specs.Blocks.{pieces}
@@ -17,7 +17,7 @@ use Rattle.node_stations.specs.Putting.{flight_of}
 use Rattle.relay_core.proofs.ListLaws.{count-none, same_counts}
 use Rattle.relay_core.proofs.PacketLaws.{itself, same_key, times-has, times-none, times_of-map}
 use Rattle.relay_core.proofs.TrafficLaws.{among-is}
-use Rattle.relay_core.specs.Core.{has_key, times_of}
+use Rattle.relay_core.specs.Core.{has_key}
 use Rattle.relay_runner.specs.Carried.{IsCarried}
 
 module _ {faithful : Bool} {code : Code} {pattern : ℕ} {window : Window} {moves : List Move} (is : IsCarried faithful code pattern window moves) where

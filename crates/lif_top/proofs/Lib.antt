@@ -1,10 +1,10 @@
 pub mod CarriedLaws
-pub mod CarriedPieceLaws
 pub mod CommandLaws
 pub mod DeliveryLaws
 pub mod DemoPerforms
 pub mod DemoRuns
 pub mod FrameLaws
+pub mod GatherLaws
 pub mod GivenLaws
 pub mod PathLaws
 pub mod Pieces
@@ -12,6 +12,9 @@ pub mod Promising
 pub mod SendCalls
 pub mod SendLeaving
 pub mod SendPerforms
+pub mod Splits
+pub mod StreamingLaws
 pub mod TallyLaws
 pub mod Turning
+pub mod WindowLaws
 pub mod TurnLaws

@@ -1,5 +1,5 @@
 -- What `send` leaves, by the calls after an accepted code was read.
-use Rattle.std.specs.Prelude.{◌≡◌, ◌⊎◌, ◌≤◌, ◌<◌, ◌||◌, ◌*◌, ◌/◌, ◌^◌, ℕ, Bool, true, false, cond, if◌then◌else◌, min, nat_lt, List, [], ◌∷◌, ◌++◌, IsSome, Option, None, Some, Ok, length, map, position, take, unwrap_or, Contains}
+use Rattle.std.specs.Prelude.{◌≡◌, ◌⊎◌, ◌<◌, ◌||◌, ◌*◌, ◌/◌, ◌^◌, ℕ, Bool, true, false, cond, if◌then◌else◌, min, nat_lt, List, [], ◌∷◌, ◌++◌, IsSome, Option, None, Some, Ok, length, position, take, unwrap_or, Contains}
 use Rattle.std.specs.List.{AllByRecursion, concat, list_any, position_or_len}
 use Rattle.std.specs.Str.{bytes_eq}
 use Rattle.std.proofs.Common.{refl, sym, ap, subst, ◌∙◌, inl, inr, ⊎_elim, arith}
@@ -8,7 +8,7 @@ use Rattle.std.proofs.lemmas.Bool.{cases_lt, false≢true, ltb-true, or_left, or
 use Rattle.std.proofs.lemmas.List.{append-nil, length-map, length-take, take_all, take-take}
 use Rattle.std.proofs.lemmas.List.Folds.{list_any-append}
 use Rattle.std.proofs.lemmas.Slice.Eq.{bytes_eq-Decides}
-use Rattle.generation_frame.specs.Blocks.{block_count, capacity, counted_bytes, piece_of, pieces_before, pieces_of}
+use Rattle.generation_frame.specs.Blocks.{block_count, capacity, counted_bytes, piece_of, pieces_before}
 use Rattle.generation_frame.proofs.BlockLaws.{counted-block}
 use Rattle.generation_frame.proofs.PieceLaws.{concat-pieces_before, concat-pieces_of, length-piece_of}
 use Rattle.generation_frame.specs.declared.frame.Packet.{Packet}
@@ -17,13 +17,13 @@ use Rattle.lif_outside.proofs.DeedLaws.{Accounted}
 use Rattle.lif_outside.specs.Events.{Event, Follow, HappenAt, append_failed}
 use Rattle.lif_outside.specs.EventLaws.{KeepsPath, happen_keeping}
 use Rattle.lif_outside.specs.Files.{AreDistinct, ChangesOnly, Files, Holds, HoldsPrefix, IsSameOrEmpty}
-use Rattle.lif_outside.specs.Moves.{FollowMoves, InFlight, Move, is_fault, is_open, opened, took_none}
+use Rattle.lif_outside.specs.Moves.{FollowMoves, InFlight, Move, is_fault, opened}
 use Rattle.lif_outside.proofs.OpenLaws.{quiet-after, seed-after}
 use Rattle.lif_outside.specs.Runs.{AreAppendsTo, ReadsPastLimit, ReadsToFault, ReadsWhole, StopsWithin, bytes_appended, bytes_read, creates_of}
 use Rattle.lif_outside.proofs.RunLaws.{appends_held, appends_keep, fault_there, long_held, reads_begin, whole_held}
 use Rattle.lif_outside.specs.Sequences.{Are, IsFrontOf}
 use Rattle.lif_outside.proofs.StreamLaws.{fault_begins, reads_among, reads_happen, stream_keeps, whole_begins, whole_ended, whole_gave, writes_among, writes_happen}
-use Rattle.lif_outside.specs.Streams.{have_ended, reads_in, writes_in}
+use Rattle.lif_outside.specs.Streams.{reads_in, writes_in}
 use Rattle.lif_outside.specs.Told.{Becomes, Told}
 use Rattle.lif_outside.specs.ToldLaws.{becomes_weaker}
 use Rattle.lif_outside.proofs.TurnLaws.{appends-fault, appends-front, appends-stopped, bytes_appended-appends_to, creates_of-empty, creates_of-fault, creates_of-keep, creates_of-stopped, front_keeps, stops_keep}
@@ -42,10 +42,10 @@ use Rattle.node_states.specs.Decoded.{decoded_of}
 use Rattle.node_stations.specs.Opening.{demand_of}
 use Rattle.lif_top.proofs.CarriedLaws.{carried-decoded, carried-some, length-blocks_from}
 use Rattle.lif_top.proofs.TurnLaws.{turns-are, turns-of_pieces}
-use Rattle.lif_top.specs.Send.Carried.{AreCarried, Breaks, CarriesFirst, blocks_from}
+use Rattle.lif_top.specs.Send.Carried.{blocks_from}
 use Rattle.lif_top.specs.Paths.{output_path}
 use Rattle.lif_top.specs.Send.Changes.{ChangesTo, HasCode, LeavesPart, LeavesSource, LeavesUnwritten}
-use Rattle.lif_top.specs.Send.Given.{IsClear, outputs_of, pattern_in, pattern_of}
+use Rattle.lif_top.specs.Send.Given.{IsClear, outputs_of, pattern_in}
 use Rattle.lif_top.specs.Send.Runs.{AfterCreates, AtRest, Broken, Carries, RunsCode, Sent, StopsAtCreate, blocks_brought, deliveries, room_for}
 
 -- the front of a front is a front
@@ -243,8 +243,8 @@ module _ (send : Send) (code : Code) where
       carries : IsCarried faithful code (pattern_in send code) (record { first = 0; blocks = blocks_from (bytes_read (reads_of ByReads Are AtRest calls is.delivered all_keeps)) code.rate 0 is.delivered.carried })
           is.delivered.on_links.holds_later.first
       carries =
-          carried-some faithful code (pattern_in send code) _ is.delivered.on_links.holds_later.first
-          (omega (arith, length-blocks_from (bytes_read (reads_of ByReads Are AtRest calls is.delivered all_keeps)) code.rate is.delivered.carried, is.all))
+          carried-some faithful code (pattern_in send code) 0 _ is.delivered.on_links.holds_later.first
+          (omega (arith, length-blocks_from (bytes_read (reads_of ByReads Are AtRest calls is.delivered all_keeps)) code.rate 0 is.delivered.carried, is.all))
           is.delivered.on_links.holds_later.carries
 
       made-are : calls.on_links ≡ opened send.seed (room_for code) ∷ is.delivered.on_links.holds_later.first

@@ -84,7 +84,7 @@ module _ (faithful : Bool) (send : Send) where
         (front_unfailed (outputs_of send code) (due P IsFrontOf R calls is) (writes_in is.on_store.later) (due_are P IsFrontOf R calls is) is.on_store.holds_later.writes)
 
     -- and which of those on the links
-    carried-well : (pattern : ℕ) (blocks : List (List ℕ)) (made : List Move) → AreCarried faithful code pattern blocks made → list_any moves.is_fault made ≡ false
+    carried-well : (pattern : ℕ) (blocks : List (List ℕ)) (made : List Move) → AreCarried faithful code pattern 0 blocks made → list_any moves.is_fault made ≡ false
     carried-well pattern [] made none = ap (list_any moves.is_fault) none
     carried-well pattern (block ∷ blocks) made carries = carries.well
 

@@ -1,5 +1,5 @@
 -- Sinks of which only the sum of their bytes is kept: no call fails, and the sum is that of all that the sinks get.
-use Rattle.std.specs.Prelude.{◌≡◌, ◌<◌, ◌≤◌, ◌+◌, ◌*◌, ◌%◌, ◌^◌, ℕ, zero, suc, Bool, true, false, cond, filter, flat_map, nat_lt, Contains, List, [], ◌∷◌, ◌++◌, length, map, sum, sum_by}
+use Rattle.std.specs.Prelude.{◌≡◌, ◌<◌, ◌+◌, ◌*◌, ℕ, zero, suc, Bool, true, false, cond, filter, flat_map, nat_lt, List, [], ◌∷◌, ◌++◌, length, map, sum, sum_by}
 use Rattle.std.specs.List.{concat, range_with_len}
 use Rattle.std.proofs.Common.{refl, sym, ap, ◌∙◌, arith}
 use Rattle.std.proofs.lemmas.Bool.{ltb-false}

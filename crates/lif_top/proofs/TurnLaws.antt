@@ -22,7 +22,8 @@ use Rattle.lif_outside.specs.declared.Failed.{Failed}
 use Rattle.node_program.specs.declared.code.Code.{Code}
 use Rattle.node_states.specs.Decoded.{decoded_of}
 use Rattle.node_stations.specs.Opening.{demand_of}
-use Rattle.lif_top.specs.Send.Turns.{has_bytes, part_at, parts_from, turn_at, turns_before}
+use Rattle.relay_runner.proofs.JoinLaws.{range-append}
+use Rattle.lif_top.specs.Send.Turns.{has_bytes, part_at, parts_from, turn_at, turns_before, turns_from}
 
 -- the append of a part, and those of the parts of one turn
 abbrev part_call : Written → Event
@@ -51,13 +52,44 @@ module _ (paths : List (List ℕ)) (code : Code) (pattern : ℕ) where
       (same_made (part_at paths code pattern one generation) (part_at paths code pattern other generation) (length paths) ([], [])
       (λ place within. ap (λ block. (slice_index_or paths place [], counted_bytes block)) (alike place within)))
 
-  pub turns-alike : (one other : List Packet) (generations : ℕ) → ((generation : ℕ) → generation < generations → Alike one other generation)
-      → turns_before paths code pattern one generations ≡ turns_before paths code pattern other generations
-  turns-alike one other generations alike =
-      same_made (turn_at paths code pattern one) (turn_at paths code pattern other) generations []
-      (λ generation below. turn-alike one other generation (alike generation below))
+  pub turns-alike : (one other : List Packet) (first count : ℕ) → ((generation : ℕ) → first ≤ generation → generation < first + count → Alike one other generation)
+      → turns_from paths code pattern one first count ≡ turns_from paths code pattern other first count
+  turns-alike one other first zero alike = refl
+  turns-alike one other first (suc count) alike =
+      ap (λ turn. turn ∷ turns_from paths code pattern one (first + 1) count) (turn-alike one other first (alike first (omega arith) (omega arith)))
+      ∙ ap (λ rest. turn_at paths code pattern other first ∷ rest)
+      (turns-alike one other (first + 1) count (λ generation begun below. alike generation (omega arith) (omega arith)))
 
   module _ (came : List Packet) where
+    -- some turns, and then more
+    pub turns-append : (first count more : ℕ)
+        → appends_of (turns_from paths code pattern came first (count + more))
+        ≡ appends_of (turns_from paths code pattern came first count) ++ appends_of (turns_from paths code pattern came (first + count) more)
+    turns-append first count more =
+        ap appends_of (ap (map (turn_at paths code pattern came)) (range-append first count more)
+        ∙ map-append (turn_at paths code pattern came) (range_with_len first count) (range_with_len (first + count) more))
+        ∙ appends_of-append (turns_from paths code pattern came first count) (turns_from paths code pattern came (first + count) more)
+
+    -- some turns, and then the next one
+    pub turns-next : (first count : ℕ)
+        → appends_of (turns_from paths code pattern came first count) ++ appends_of (turn_at paths code pattern came (first + count) ∷ [])
+        ≡ appends_of (turns_from paths code pattern came first (count + 1))
+    turns-next first count = sym (turns-append first count 1)
+
+    -- and where the appends of that one stop
+    pub turns-stopped : (first count place : ℕ) → place < count → (events : List Event) → StopsWithin (appends_of (turn_at paths code pattern came (first + place) ∷ [])) events
+        → StopsWithin (appends_of (turns_from paths code pattern came first count)) (appends_of (turns_from paths code pattern came first place) ++ events)
+    turns-stopped first count place within events stop =
+        let rest = count - (place + 1) in
+        let all : place + (1 + rest) ≡ count = omega arith in
+        let front = appends_of (turns_from paths code pattern came first place) in
+        let here = appends_of (turn_at paths code pattern came (first + place) ∷ []) in
+        let behind = appends_of (turns_from paths code pattern came (first + place + 1) rest) in
+        let whole : appends_of (turns_from paths code pattern came first count) ≡ front ++ (here ++ behind) =
+        ap (λ n. appends_of (turns_from paths code pattern came first n)) (sym all) ∙ turns-append first place (1 + rest)
+        ∙ ap (λ later. front ++ later) (turns-append (first + place) 1 rest) in
+        subst (λ these. StopsWithin these (front ++ events)) (sym whole) (stops_behind front _ events (stops_first here behind events stop))
+
     -- one turn more
     pub turns-more : (generations : ℕ)
         → appends_of (turns_before paths code pattern came (generations + 1))

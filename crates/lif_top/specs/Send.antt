@@ -8,3 +8,4 @@ pub mod Changes
 pub mod Due
 pub mod Given
 pub mod Ready
+pub mod Streaming

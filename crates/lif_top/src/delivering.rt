@@ -1,21 +1,43 @@
-//! A source that is carried over links to the sinks' files, generation by generation.
-ghost use Rattle.std.specs.Prelude.{◌≡◌, ◌≤◌, ◌<◌, ◌*◌, ◌^◌, ◌∷◌, [], List, ℕ, Contains, length, map, string_bytes, IfErr, IfOk, OnOk, OnErr, vec_len};
-ghost use Rattle.generation_frame.specs.Blocks.{block_count, capacity};
+//! A source that is carried over links to the sinks' files, window by window.
+ghost use Rattle.std.specs.Prelude.{◌≡◌, ◌≤◌, ◌<◌, ◌+◌, ◌-◌, ◌*◌, ◌/◌, ◌^◌, ◌∷◌, ◌++◌, [], List, ℕ, Contains, length, map, slice_range, string_bytes, take, IfErr, IfOk, OnOk, OnErr, vec_len};
+ghost use Rattle.std.specs.List.{concat};
+ghost use Rattle.generation_frame.specs.Blocks.{block_count, capacity, most_rows, row_bytes};
 ghost use Rattle.lif_outside.specs.Calls.{KeepsStore, MakesBoth, MakesCalls};
 ghost use Rattle.lif_outside.specs.Moves.{Move};
 ghost use Rattle.lif_outside.specs.Runs.{StopsWithin, appends_of, creates_of};
 ghost use Rattle.lif_outside.specs.Sequences.{Are};
-ghost use Rattle.lif_top.specs.Send.Delivering.{CanCarry, DeliversPiece, DeliversSome, HasMoved, Interrupts, InterruptsPiece};
-ghost use Rattle.top_base.specs.Words.{source_limit};
+ghost use Rattle.lif_top.specs.Send.Carried.{blocks_from};
+ghost use Rattle.lif_top.specs.Send.Delivering.{CanCarry, DeliversBlocks, DeliversSome, HasGoneOn, HasMoved, Interrupts, InterruptsBlocks, InterruptsBytes, IsBehind};
 ghost use Rattle.lif_top.specs.Send.Ready.{AreCounts, paths_of};
-ghost use Rattle.lif_top.specs.Send.Turns.{parts_from, turn_at};
+ghost use Rattle.lif_top.specs.Send.Turns.{parts_from, turn_at, turns_from};
 ghost use Rattle.relay_runner.specs.Carried.{HasCarriedBy, packets_given};
 ghost use Rattle.relay_runner.specs.Running.{HasCarried};
 
-use crate::delivery::{Delivery, DeliveryFault, SentCounts};
-use generation_frame::{cap, counted, cut};
+use crate::delivery::{Delivery, DeliveryFault, SentCounts, WINDOW};
+use generation_frame::{ROW, cap, counted, cut};
 use gf_tables::Field;
 use lif_outside::{Failed, Links, Store};
+
+// Cuts bytes into so many blocks of a rate, which stand one after another from the beginning of the room on.
+fn cut_blocks(bytes: &[u8], rate: u32, count: usize, blocks: &mut [u8])
+    requires some { 1 ≤ rate }
+    requires low { rate ≤ most_rows }
+    requires few { count ≤ 4 }
+    requires room { count * (rate * row_bytes) ≤ length blocks.old }
+    ensures { take (count * (rate * row_bytes)) blocks.new
+        ≡ concat (blocks_from bytes.now rate 0 count) }
+{
+    let capacity = cap(rate) as usize;
+    let size = rate as usize * ROW;
+    for place in 0..count {
+        let start = bytes.len().min(place * capacity);
+        let end = bytes.len().min(start + capacity);
+        cut(
+            &bytes[start..end],
+            &mut blocks[place * size..place * size + size],
+        );
+    }
+}
 
 impl<'c, F: Field> Delivery<'c, F> {
     /// Creates each sink's file, in order.
@@ -31,26 +53,35 @@ impl<'c, F: Field> Delivery<'c, F> {
         Ok(())
     }
 
-    // Adds to a sink's file the bytes that the block counts which it decodes, where there are any.
-    fn append_decoded<S: Store>(&mut self, store: &mut S, sink: usize) -> Result<(), Failed>
+    // Adds to a sink's file the bytes that a block counts which it decodes, where there are any. The block is given by its
+    // place in the window.
+    fn append_decoded<S: Store>(
+        &mut self,
+        store: &mut S,
+        sink: usize,
+        place: usize,
+    ) -> Result<(), Failed>
         requires sink { sink < vec_len self.old.outputs }
+        requires place { place < self.old.runner.count }
+        requires few { self.old.runner.count ≤ 4 }
         requires carried { HasCarried self.old.runner }
-        requires one { self.old.runner.count ≡ 1 }
         requires made { (path : List ℕ) → Contains (paths_of self.old) path
             → S.made store.old path }
         ensures runner { self.new.runner ≡ self.old.runner }
         ensures outputs { self.new.outputs ≡ self.old.outputs }
+        ensures gathered { self.new.gathered ≡ self.old.gathered }
         ensures kept { KeepsStore S.Store store.old store.new }
         ensures appended { OnOk result ((moves : List Move) → HasCarriedBy self.old.runner moves
             → MakesCalls S.Store store.old store.new (Are (appends_of (parts_from
             (paths_of self.old) self.old.runner.code self.old.runner.pattern
-            (packets_given moves) self.old.runner.first sink 1 ∷ [])))) }
+            (packets_given moves) (self.old.runner.first + place) sink 1 ∷ [])))) }
         ensures failed { OnErr result ((moves : List Move) → HasCarriedBy self.old.runner moves
             → MakesCalls S.Store store.old store.new (StopsWithin (appends_of (parts_from
             (paths_of self.old) self.old.runner.code self.old.runner.pattern
-            (packets_given moves) self.old.runner.first sink 1 ∷ [])))) }
+            (packets_given moves) (self.old.runner.first + place) sink 1 ∷ [])))) }
     {
-        self.runner.block(sink as u32, 0, &mut self.decoded);
+        self.runner
+            .block(sink as u32, place as u32, &mut self.decoded);
         let received = counted(&self.decoded);
         if received.is_empty() {
             return Ok(());
@@ -58,73 +89,255 @@ impl<'c, F: Field> Delivery<'c, F> {
         store.append(self.outputs[sink].as_str(), received)
     }
 
-    // Adds to each sink's file what it decodes of the block that was carried.
-    fn append_all<S: Store>(&mut self, store: &mut S) -> Result<(), Failed>
+    // Adds to each sink's file what it decodes of a block that was carried.
+    fn append_block<S: Store>(&mut self, store: &mut S, place: usize) -> Result<(), Failed>
+        requires place { place < self.old.runner.count }
+        requires few { self.old.runner.count ≤ 4 }
         requires carried { HasCarried self.old.runner }
-        requires one { self.old.runner.count ≡ 1 }
         requires made { (path : List ℕ) → Contains (paths_of self.old) path
             → S.made store.old path }
         ensures runner { self.new.runner ≡ self.old.runner }
         ensures outputs { self.new.outputs ≡ self.old.outputs }
+        ensures gathered { self.new.gathered ≡ self.old.gathered }
+        ensures still_made { (path : List ℕ) → Contains (paths_of self.old) path
+            → S.made store.new path }
         ensures appended { OnOk result ((moves : List Move) → HasCarriedBy self.old.runner moves
             → MakesCalls S.Store store.old store.new (Are (appends_of (turn_at
             (paths_of self.old) self.old.runner.code self.old.runner.pattern
-            (packets_given moves) self.old.runner.first ∷ [])))) }
+            (packets_given moves) (self.old.runner.first + place) ∷ [])))) }
         ensures failed { OnErr result ((moves : List Move) → HasCarriedBy self.old.runner moves
             → MakesCalls S.Store store.old store.new (StopsWithin (appends_of (turn_at
             (paths_of self.old) self.old.runner.code self.old.runner.pattern
-            (packets_given moves) self.old.runner.first ∷ [])))) }
+            (packets_given moves) (self.old.runner.first + place) ∷ [])))) }
     {
         for sink in 0..self.outputs.len() {
-            self.append_decoded(store, sink)?;
+            self.append_decoded(store, sink, place)?;
         }
         Ok(())
     }
 
-    // Carries a piece of the source over the links, by way of its block, and adds what comes of it to each sink's file.
-    fn carry_piece<S: Store, K: Links>(
+    // Adds to each sink's file what it decodes of the blocks that were carried, block by block.
+    fn append_window<S: Store>(&mut self, store: &mut S, count: usize) -> Result<(), Failed>
+        requires all { count ≡ self.old.runner.count }
+        requires few { count ≤ 4 }
+        requires carried { HasCarried self.old.runner }
+        requires made { (path : List ℕ) → Contains (paths_of self.old) path
+            → S.made store.old path }
+        ensures runner { self.new.runner ≡ self.old.runner }
+        ensures outputs { self.new.outputs ≡ self.old.outputs }
+        ensures gathered { self.new.gathered ≡ self.old.gathered }
+        ensures appended { OnOk result ((moves : List Move) → HasCarriedBy self.old.runner moves
+            → MakesCalls S.Store store.old store.new (Are (appends_of (turns_from
+            (paths_of self.old) self.old.runner.code self.old.runner.pattern
+            (packets_given moves) self.old.runner.first count)))) }
+        ensures failed { OnErr result ((moves : List Move) → HasCarriedBy self.old.runner moves
+            → MakesCalls S.Store store.old store.new (StopsWithin (appends_of (turns_from
+            (paths_of self.old) self.old.runner.code self.old.runner.pattern
+            (packets_given moves) self.old.runner.first count)))) }
+    {
+        for place in 0..count {
+            self.append_block(store, place)?;
+        }
+        Ok(())
+    }
+
+    // Carries what was gathered over the links, as so many blocks, and adds what comes of them to each sink's file.
+    fn carry_gathered<S: Store, K: Links>(
         &mut self,
         store: &mut S,
         links: &mut K,
-        piece: &[u8],
+        count: usize,
     ) -> Result<(), DeliveryFault>
-        requires fits { length piece.now ≤ capacity self.old.runner.code.rate }
+        requires some { 1 ≤ count }
+        requires few { count ≤ 4 }
         requires can { CanCarry self.old.runner (K.flying links.old) (K.room links.old) }
-        requires numbered { self.old.runner.next < 2 ^ 32 }
+        requires numbered { self.old.runner.next + count ≤ 2 ^ 32 }
         requires made { (path : List ℕ) → Contains (paths_of self.old) path
             → S.made store.old path }
         ensures outputs { self.new.outputs ≡ self.old.outputs }
-        ensures moved { OnOk result (HasMoved self.old.runner self.new.runner) }
+        ensures moved { OnOk result (HasMoved count self.old.runner self.new.runner) }
         ensures can { OnOk result
             (CanCarry self.new.runner (K.flying links.new) (K.room links.new)) }
+        ensures nothing { OnOk result (self.new.gathered.items ≡ []) }
         ensures delivered { OnOk result
             (MakesBoth S.Store K.Links store.old store.new links.old links.new
-            (DeliversPiece (K.faithful links.old) self.old.runner.code self.old.runner.pattern
-            (paths_of self.old) self.old.runner.next piece.now Are)) }
+            (DeliversBlocks (K.faithful links.old) self.old.runner.code self.old.runner.pattern
+            (paths_of self.old) self.old.runner.next
+            (blocks_from self.old.gathered.items self.old.runner.code.rate 0 count) Are)) }
         ensures interrupted { IfErr result (λ fault.
             MakesBoth S.Store K.Links store.old store.new links.old links.new
-            (InterruptsPiece (K.faithful links.old) self.old.runner.code self.old.runner.pattern
-            (paths_of self.old) self.old.runner.next piece.now fault)) }
+            (InterruptsBlocks (K.faithful links.old) self.old.runner.code self.old.runner.pattern
+            (paths_of self.old) self.old.runner.next
+            (blocks_from self.old.gathered.items self.old.runner.code.rate 0 count) fault)) }
     {
-        cut(piece, &mut self.block);
-        let Ok(()) = self.runner.carry(&self.block, links) else {
+        cut_blocks(&self.gathered, self.rate, count, &mut self.blocks);
+        self.gathered.clear();
+        let window = &self.blocks[..count * (self.rate as usize * ROW)];
+        let Ok(()) = self.runner.carry(window, links) else {
             return Err(DeliveryFault::Links);
         };
-        match self.append_all(store) {
+        match self.append_window(store, count) {
             Ok(()) => Ok(()),
             Err(_) => Err(DeliveryFault::Write),
         }
     }
 
-    /// Carries a source over the links, generation by generation, to the sinks' files, in each generation sink by sink.
+    // Gathers as many bytes as a window still has room for, from a place on, and answers the place behind them.
+    fn fill(&mut self, bytes: &[u8], from: usize) -> usize
+        requires from { from < length bytes.now }
+        requires room { vec_len self.old.gathered < 4 * capacity self.old.runner.code.rate }
+        ensures runner { self.new.runner ≡ self.old.runner }
+        ensures outputs { self.new.outputs ≡ self.old.outputs }
+        ensures more { from < result }
+        ensures within { result ≤ length bytes.now }
+        ensures gathered { self.new.gathered.items
+            ≡ self.old.gathered.items ++ slice_range bytes.now from result }
+    {
+        let room = WINDOW * cap(self.rate) as usize - self.gathered.len();
+        let end = bytes.len().min(from + room);
+        let Ok(()) = self.gathered.extend_from_slice(&bytes[from..end]) else {
+            unreachable!()
+        };
+        end
+    }
+
+    // Carries what was gathered, where that fills a window.
+    fn carry_full<S: Store, K: Links>(
+        &mut self,
+        store: &mut S,
+        links: &mut K,
+    ) -> Result<(), DeliveryFault>
+        requires can { CanCarry self.old.runner (K.flying links.old) (K.room links.old) }
+        requires numbered { self.old.runner.next + 4 ≤ 2 ^ 32 }
+        requires made { (path : List ℕ) → Contains (paths_of self.old) path
+            → S.made store.old path }
+        ensures outputs { self.new.outputs ≡ self.old.outputs }
+        ensures gone_on { OnOk result (HasGoneOn self.old.runner self.new.runner) }
+        ensures can { OnOk result
+            (CanCarry self.new.runner (K.flying links.new) (K.room links.new)) }
+        ensures room { OnOk result
+            (vec_len self.new.gathered < 4 * capacity self.old.runner.code.rate) }
+        ensures gathered { OnOk result (IsBehind self.old.runner.code.rate
+            (self.new.runner.next - self.old.runner.next)
+            self.old.gathered.items self.new.gathered.items) }
+        ensures delivered { OnOk result
+            (MakesBoth S.Store K.Links store.old store.new links.old links.new
+            (DeliversBlocks (K.faithful links.old) self.old.runner.code self.old.runner.pattern
+            (paths_of self.old) self.old.runner.next
+            (blocks_from self.old.gathered.items self.old.runner.code.rate 0
+            (self.new.runner.next - self.old.runner.next)) Are)) }
+        ensures full { OnErr result
+            (4 * capacity self.old.runner.code.rate ≤ length self.old.gathered.items) }
+        ensures interrupted { IfErr result (λ fault.
+            MakesBoth S.Store K.Links store.old store.new links.old links.new
+            (InterruptsBlocks (K.faithful links.old) self.old.runner.code self.old.runner.pattern
+            (paths_of self.old) self.old.runner.next
+            (blocks_from self.old.gathered.items self.old.runner.code.rate 0 4) fault)) }
+    {
+        if self.gathered.len() < WINDOW * cap(self.rate) as usize {
+            return Ok(());
+        }
+        self.carry_gathered(store, links, WINDOW)
+    }
+
+    /// Gathers bytes of the source behind those that were gathered, and carries each window of whole blocks that they
+    /// fill.
+    pub fn gather<S: Store, K: Links>(
+        &mut self,
+        store: &mut S,
+        links: &mut K,
+        bytes: &[u8],
+    ) -> Result<(), DeliveryFault>
+        requires room { vec_len self.old.gathered < 4 * capacity self.old.runner.code.rate }
+        requires short { self.old.runner.next * capacity self.old.runner.code.rate
+            + vec_len self.old.gathered + length bytes.now ≤ 2 ^ 41 }
+        requires can { CanCarry self.old.runner (K.flying links.old) (K.room links.old) }
+        requires made { (path : List ℕ) → Contains (paths_of self.old) path
+            → S.made store.old path }
+        ensures outputs { self.new.outputs ≡ self.old.outputs }
+        ensures gone_on { OnOk result (HasGoneOn self.old.runner self.new.runner) }
+        ensures can { OnOk result
+            (CanCarry self.new.runner (K.flying links.new) (K.room links.new)) }
+        ensures room { OnOk result
+            (vec_len self.new.gathered < 4 * capacity self.old.runner.code.rate) }
+        ensures gathered { OnOk result (IsBehind self.old.runner.code.rate
+            (self.new.runner.next - self.old.runner.next)
+            (self.old.gathered.items ++ bytes.now) self.new.gathered.items) }
+        ensures delivered { OnOk result
+            (MakesBoth S.Store K.Links store.old store.new links.old links.new
+            (DeliversBlocks (K.faithful links.old) self.old.runner.code self.old.runner.pattern
+            (paths_of self.old) self.old.runner.next
+            (blocks_from (self.old.gathered.items ++ bytes.now) self.old.runner.code.rate 0
+            (self.new.runner.next - self.old.runner.next)) Are)) }
+        ensures interrupted { IfErr result (λ fault.
+            MakesBoth S.Store K.Links store.old store.new links.old links.new
+            (InterruptsBytes (K.faithful links.old) self.old.runner.code self.old.runner.pattern
+            (paths_of self.old) self.old.runner.next (self.old.gathered.items ++ bytes.now)
+            (length (self.old.gathered.items ++ bytes.now) / capacity self.old.runner.code.rate)
+            fault)) }
+    {
+        let mut place = 0;
+        while place < bytes.len() {
+            place = self.fill(bytes, place);
+            self.carry_full(store, links)?;
+        }
+        Ok(())
+    }
+
+    /// Carries what was gathered, which is the end of the source, with a block that isn't full.
+    pub fn carry_last<S: Store, K: Links>(
+        &mut self,
+        store: &mut S,
+        links: &mut K,
+    ) -> Result<(), DeliveryFault>
+        requires room { vec_len self.old.gathered < 4 * capacity self.old.runner.code.rate }
+        requires short { self.old.runner.next * capacity self.old.runner.code.rate
+            + vec_len self.old.gathered ≤ 2 ^ 41 }
+        requires can { CanCarry self.old.runner (K.flying links.old) (K.room links.old) }
+        requires made { (path : List ℕ) → Contains (paths_of self.old) path
+            → S.made store.old path }
+        ensures outputs { self.new.outputs ≡ self.old.outputs }
+        ensures code { OnOk result (self.new.runner.code ≡ self.old.runner.code) }
+        ensures delivered { OnOk result
+            (MakesBoth S.Store K.Links store.old store.new links.old links.new
+            (DeliversBlocks (K.faithful links.old) self.old.runner.code self.old.runner.pattern
+            (paths_of self.old) self.old.runner.next
+            (blocks_from self.old.gathered.items self.old.runner.code.rate 0
+            (block_count self.old.gathered.items self.old.runner.code.rate)) Are)) }
+        ensures interrupted { IfErr result (λ fault.
+            MakesBoth S.Store K.Links store.old store.new links.old links.new
+            (InterruptsBlocks (K.faithful links.old) self.old.runner.code self.old.runner.pattern
+            (paths_of self.old) self.old.runner.next
+            (blocks_from self.old.gathered.items self.old.runner.code.rate 0
+            (block_count self.old.gathered.items self.old.runner.code.rate)) fault)) }
+    {
+        let count = self.gathered.len() / cap(self.rate) as usize + 1;
+        self.carry_gathered(store, links, count)
+    }
+
+    /// How much was sent of a source of so many bytes.
+    pub fn counts(&self, bytes: u64) -> SentCounts
+        requires { bytes ≤ 2 ^ 41 }
+        ensures { (source : List ℕ) → length source ≡ bytes
+            → AreCounts self.now.runner.code source result }
+    {
+        SentCounts {
+            bytes,
+            generations: bytes / u64::from(cap(self.rate)) + 1,
+            sinks: self.outputs.len() as u64,
+        }
+    }
+
+    /// Carries a source over the links, window by window, to the sinks' files, in each generation sink by sink.
     pub fn carry_source<S: Store, K: Links>(
         &mut self,
         store: &mut S,
         links: &mut K,
         source: &[u8],
     ) -> Result<SentCounts, DeliveryFault>
-        requires short { length source.now ≤ source_limit }
+        requires short { length source.now ≤ 2 ^ 41 }
         requires from_start { self.old.runner.next ≡ 0 }
+        requires nothing { self.old.gathered.items ≡ [] }
         requires can { CanCarry self.old.runner (K.flying links.old) (K.room links.old) }
         requires made { (path : List ℕ) → Contains (paths_of self.old) path
             → S.made store.old path }
@@ -138,17 +351,8 @@ impl<'c, F: Field> Delivery<'c, F> {
             (Interrupts (K.faithful links.old) self.old.runner.code self.old.runner.pattern
             (paths_of self.old) source.now fault)) }
     {
-        let capacity = cap(self.rate) as usize;
-        let generations = source.len() / capacity + 1;
-        for generation in 0..generations {
-            let start = generation * capacity;
-            let end = source.len().min(start + capacity);
-            self.carry_piece(store, links, &source[start..end])?;
-        }
-        Ok(SentCounts {
-            bytes: source.len() as u64,
-            generations: generations as u64,
-            sinks: self.outputs.len() as u64,
-        })
+        self.gather(store, links, source)?;
+        self.carry_last(store, links)?;
+        Ok(self.counts(source.len() as u64))
     }
 }

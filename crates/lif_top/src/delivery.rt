@@ -1,17 +1,20 @@
 //! A code at work over links, and the files of its sinks.
-ghost use Rattle.std.specs.Prelude.{◌≡◌, ◌*◌, ◌<◌, ◌∷◌, [], IfOk, OnErr, OnOk, false, length, vec_len};
-ghost use Rattle.generation_frame.specs.Blocks.{row_bytes};
+ghost use Rattle.std.specs.Prelude.{◌≡◌, ◌*◌, ◌<◌, ◌≤◌, ◌∷◌, [], IfOk, OnErr, OnOk, false, length, vec_capacity, vec_len};
+ghost use Rattle.generation_frame.specs.Blocks.{capacity, row_bytes};
 ghost use Rattle.gf_tables.specs.Kind.{IsOfKind};
 ghost use Rattle.lif_outside.specs.Moves.{opened};
 ghost use Rattle.relay_runner.specs.Runner.{IsRefused};
 ghost use Rattle.lif_top.specs.Send.Runs.{room_for};
 
 use code_checker::Checked;
-use generation_frame::ROW;
+use generation_frame::{ROW, cap};
 use gf_tables::Field;
 use lif_outside::Links;
 use relay_runner::Runner;
 use std::alloc::{AllocError, Global};
+
+/// How many blocks are carried at a time, at most.
+pub const WINDOW: usize = 4;
 
 /// How much was sent.
 #[derive(Drop)]
@@ -42,13 +45,17 @@ pub struct Delivery<'c, F> {
     pub runner: Runner<'c, F>,
     /// The path of each sink's file.
     pub outputs: Vec<String>,
-    /// Room for a block of the source.
-    pub block: Vec<u8>,
-    /// Room for the block as a sink decodes it.
+    /// What was gathered of the source and isn't carried yet: as much as the blocks of a window have room for, at most.
+    pub gathered: Vec<u8>,
+    /// Room for the blocks of a window.
+    pub blocks: Vec<u8>,
+    /// Room for a block as a sink decodes it.
     pub decoded: Vec<u8>,
     ghost rate_of: { rate ≡ runner.code.rate },
     ghost sinks: { vec_len outputs ≡ length runner.code.net.sinks },
-    ghost block_length: { vec_len block ≡ runner.code.rate * row_bytes },
+    ghost few: { vec_len gathered ≤ 4 * capacity runner.code.rate },
+    ghost room: { 4 * capacity runner.code.rate ≤ vec_capacity gathered },
+    ghost blocks_length: { vec_len blocks ≡ 4 * (runner.code.rate * row_bytes) },
     ghost decoded_length: { vec_len decoded ≡ runner.code.rate * row_bytes },
 }
 
@@ -72,6 +79,7 @@ impl<'c, F: Field> Delivery<'c, F> {
         ensures from_start { IfOk result (λ delivery. delivery.runner.next ≡ 0) }
         ensures works { IfOk result (λ delivery. delivery.runner.has_failed ≡ false) }
         ensures outputs { IfOk result (λ delivery. delivery.outputs ≡ outputs) }
+        ensures nothing { IfOk result (λ delivery. delivery.gathered.items ≡ []) }
         ensures opened { OnOk result
             (K.moves (opened seed (room_for code.now) ∷ []) links.old links.new) }
         ensures refused { OnErr result
@@ -79,14 +87,16 @@ impl<'c, F: Field> Delivery<'c, F> {
     {
         let rate = code.code().rate;
         let block_bytes = rate as usize * ROW;
-        let block = vec![in alloc; 0u8; block_bytes]?;
+        let gathered = Vec::with_capacity(alloc, WINDOW * cap(rate) as usize)?;
+        let blocks = vec![in alloc; 0u8; WINDOW * block_bytes]?;
         let decoded = vec![in alloc; 0u8; block_bytes]?;
         let runner = Runner::open(alloc, code, pattern, seed, links)?;
         Ok(Delivery {
             rate,
             runner,
             outputs,
-            block,
+            gathered,
+            blocks,
             decoded,
         })
     }

@@ -8,6 +8,7 @@ mod paths;
 mod preparing;
 mod program;
 mod sending;
+mod streaming;
 mod tally;
 
 pub use code_file::CodeRefusal;

@@ -5,52 +5,51 @@ ghost use Rattle.lif_outside.specs.Calls.{MakesBoth};
 ghost use Rattle.top_base.specs.Given.{given_in};
 ghost use Rattle.top_base.specs.Performs.{RunsOn};
 ghost use Rattle.lif_top.specs.Send.Command.{send_command};
-ghost use Rattle.lif_top.specs.Send.Delivering.{CanCarry, outcome_of};
+ghost use Rattle.lif_top.specs.Send.Delivering.{CanCarry};
 ghost use Rattle.lif_top.specs.Send.Ready.{IsReady};
 ghost use Rattle.lif_top.specs.Send.Runs.{RunsCode, Sends, behind_open};
+ghost use Rattle.lif_top.specs.Send.Streaming.{outcome_of};
 
-use crate::delivery::DeliveryFault;
-use crate::preparing::{Prepared, prepare};
+use crate::delivery::{Delivery, DeliveryFault};
+use crate::preparing::prepare;
+use crate::streaming::StreamFault;
 use code_checker::Checked;
 use gf_tables::{Field, FieldKind, Gf8, Gf16};
 use lif_outside::{Gate, Links, Store};
 use std::alloc::Global;
 use std::thread::Threads;
-use top_base::{Line, Outcome, SOURCE_LIMIT, SendWords, Status, read_accepted, read_whole};
+use top_base::{FileRefusal, Line, Outcome, SOURCE_LIMIT, SendWords, Status, read_accepted};
 
-// What a delivery that ended early makes of the command.
-fn interrupted<'a>(fault: DeliveryFault) -> Outcome<'a>
+// What a source that wasn't sent to its end makes of the command.
+fn interrupted<'a>(fault: StreamFault) -> Outcome<'a>
     ensures { result ≡ outcome_of fault }
 {
     match fault {
-        DeliveryFault::Links => Outcome::link_fault(),
-        DeliveryFault::Write => Outcome::write_fault(),
+        StreamFault::Read => FileRefusal::Fault.into(),
+        StreamFault::TooLong => FileRefusal::TooLong.into(),
+        StreamFault::Sinks(DeliveryFault::Links) => Outcome::link_fault(),
+        StreamFault::Sinks(DeliveryFault::Write) => Outcome::write_fault(),
     }
 }
 
-// Creates the sinks' files, over links that were opened, and carries the source to them.
+// Creates the sinks' files, over links that were opened, and streams the source to them.
 fn deliver<'a, F: Field, S: Store, K: Links>(
     words: &SendWords<'a>,
     code: &Checked,
-    ready: Prepared<'_, F>,
+    mut delivery: Delivery<'_, F>,
     store: &mut S,
     links: &mut K,
 ) -> Outcome<'a>
-    requires ready { IsReady (given_in words.now) code.now ready }
-    requires can { CanCarry ready.delivery.runner (K.flying links.old) (K.room links.old) }
+    requires ready { IsReady (given_in words.now) code.now delivery }
+    requires can { CanCarry delivery.runner (K.flying links.old) (K.room links.old) }
     ensures { MakesBoth S.Store K.Links store.old store.new links.old links.new
         (λ calls. RunsCode (K.faithful links.old) (given_in words.now) code.now
         result.status result.line (behind_open (given_in words.now) code.now calls)) }
 {
-    let Prepared { mut delivery, room } = ready;
     let Ok(()) = delivery.create_outputs(store) else {
         return Outcome::write_fault();
     };
-    let source = match read_whole(store, words.source, SOURCE_LIMIT, room) {
-        Ok(source) => source,
-        Err(refusal) => return refusal.into(),
-    };
-    match delivery.carry_source(store, links, &source) {
+    match delivery.stream(store, links, words.source, SOURCE_LIMIT as u64) {
         Ok(counts) => Outcome {
             status: Status::Done,
             line: Line::sent(counts.bytes, counts.generations, counts.sinks),
@@ -73,7 +72,7 @@ fn send_over<'a, F: Field, S: Store, K: Links>(
         (Sends (K.faithful links.old) (given_in words.now) code.now result) }
 {
     match prepare::<F, K>(alloc, words, code, links) {
-        Ok(ready) => deliver(words, code, ready, store, links),
+        Ok(delivery) => deliver(words, code, delivery, store, links),
         Err(refused) => refused,
     }
 }

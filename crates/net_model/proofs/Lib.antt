@@ -6,3 +6,4 @@ pub mod FlowLaws
 pub mod RenumberingLaws
 pub mod RenumberedParts
 pub mod RisingLaws
+pub mod FailedLaws

@@ -1,7 +1,7 @@
 //! Networks.
 ghost use Rattle.net_model.specs.Network.{IsNetwork};
 
-use crate::renumbering::renumbered;
+use crate::renumbering::{mark, renumbered};
 use crate::{LinkTable, NameList, NodeList, PatternList};
 use std::alloc::{AllocError, Global};
 
@@ -32,7 +32,7 @@ pub struct Net {
 }
 
 impl Net {
-    ghost use Rattle.std.specs.Prelude.{◌≡◌, ◌<◌, IfOk, length};
+    ghost use Rattle.std.specs.Prelude.{◌≡◌, ◌<◌, ℕ, IfOk, false, length, slice_index_or, vec_len};
     ghost use Rattle.net_model.specs.Failed.{is_failed_in};
     ghost use Rattle.net_model.specs.Renumbering.{HasEachOnce, IsRenumbered};
     ghost use Rattle.net_model.specs.Walks.{head_of, leaves_source, tail_of};
@@ -98,6 +98,19 @@ impl Net {
     {
         let failed = &self.patterns.at(pattern as usize).links;
         failed.as_slice().iter().any(|one| *one == link)
+    }
+
+    /// For each link, whether it fails in a pattern. Each link of the pattern is looked at once.
+    pub fn failed_table(&self, alloc: Global, pattern: u32) -> Result<Vec<bool>, AllocError>
+        requires { pattern < length self.now.patterns }
+        ensures count { IfOk result (λ failed. vec_len failed ≡ length self.now.links) }
+        ensures entries { IfOk result (λ failed. (link : ℕ)
+            → slice_index_or failed.items link false ≡ is_failed_in self.now.patterns pattern link) }
+    {
+        let mut failed = vec![in alloc; false; self.links.len()]?;
+        let pattern = self.patterns.at(pattern as usize);
+        mark(&mut failed, pattern.links.as_slice(), true);
+        Ok(failed)
     }
 
     /// The network whose link `i` is the link `order[i]` of this one. The patterns have the new numbers of

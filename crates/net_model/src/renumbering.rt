@@ -63,8 +63,8 @@ fn ordered_links(alloc: Global, links: &[Link], order: &[u32]) -> Result<LinkTab
     Ok(LinkTable::of(ordered))
 }
 
-// Marks links, or takes their marks away.
-fn mark(marks: &mut [bool], links: &[u32], is_marked: bool)
+/// Marks links, or takes their marks away.
+pub(crate) fn mark(marks: &mut [bool], links: &[u32], is_marked: bool)
     requires { IsTrue (list_all (λ link. nat_lt link (length marks.old)) links.now) }
     ensures { AreMarked links.now is_marked marks.old marks.new }
 {

@@ -1,10 +1,10 @@
 -- How the live links at each node are listed, one after another.
-use Rattle.std.specs.Prelude.{◌≡◌, ℕ, ◌+◌, ◌<◌, ◌≤◌, ◌==◌, ◌&&◌, Bool, true, false, cond, List, [], ◌∷◌, ◌++◌, Vec, length, replicate, slice_index_or, slice_set}
+use Rattle.std.specs.Prelude.{◌≡◌, ℕ, ◌+◌, ◌<◌, ◌≤◌, ◌==◌, ◌&&◌, Bool, true, false, cond, List, [], ◌∷◌, ◌++◌, Vec, length, slice_index_or, slice_set}
 use Rattle.std.specs.Global.{Global}
 use Rattle.std.specs.List.{range_with_len}
 use Rattle.std.proofs.Common.{refl, sym, ◌∙◌, ap, subst, arith, get_or, inl, inr}
 use Rattle.std.proofs.lemmas.Bool.{cases_eq, eq-eqb, ne_eqb}
-use Rattle.std.proofs.lemmas.List.{append-nil, get_or-map, get_or-replicate, get_or-set_other, get_or-set_same, length-map, length-replicate, length-set, map-set}
+use Rattle.std.proofs.lemmas.List.{append-nil, get_or-map, get_or-set_other, get_or-set_same, length-map, length-set, map-set}
 use Rattle.std.proofs.lemmas.List.FromFn.{length-range_with_len}
 use Rattle.list_laws.proofs.Ranges.{filter-range_more}
 use Rattle.node_plans.proofs.ListLaws.{length-filter-le}
@@ -19,15 +19,6 @@ length-ending_at live end bound node =
 ending_at-more : (live : List Bool) (end : ℕ → ℕ) (bound node : ℕ)
     → ending_at live end (bound + 1) node ≡ ending_at live end bound node ++ cond (is_live_by live bound && (end bound == node)) (bound ∷ []) []
 ending_at-more live end bound node = filter-range_more (λ link. is_live_by live link && (end link == node)) bound
-
--- before the first link nothing is listed
-pub AreEnds-none : (live : List Bool) (end : ℕ → ℕ) (nodes : ℕ) (lists : List (List ℕ)) → lists ≡ replicate nodes [] → AreEnds live end nodes 0 lists
-AreEnds-none live end nodes lists none =
-    let None : List (List ℕ) → Type 0 = λ lists. AreEnds live end nodes 0 lists in
-    subst None (sym none) (record {
-      count = length-replicate nodes [];
-      each = λ node within. get_or-replicate nodes node [] [] within;
-    })
 
 -- a link that isn't live isn't listed
 pub AreEnds-dead : (live : List Bool) (end : ℕ → ℕ) (nodes bound : ℕ) (lists : List (List ℕ)) → AreEnds live end nodes bound lists

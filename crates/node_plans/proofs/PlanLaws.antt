@@ -1,12 +1,11 @@
 -- The plan of a node is a plan, and its sums are sums of its inputs.
-use Rattle.std.specs.Prelude.{◌≡◌, ℕ, ◌<◌, ◌==◌, ◌&&◌, Bool, true, IsTrue, Some, List, [], All, Contains, filter, length, map, slice_get}
+use Rattle.std.specs.Prelude.{◌≡◌, ℕ, ◌<◌, ◌==◌, ◌&&◌, Bool, true, IsTrue, List, [], All, Contains, filter, length, map}
 use Rattle.std.specs.List.{position_or_len, range_with_len}
 use Rattle.std.proofs.Common.{refl, sym, ◌∙◌, ap, arith, get_or, inl, inr}
 use Rattle.std.proofs.lemmas.Bool.{and_from, and_parts, cases_Bool, eq-eqb, eqb-true, false_from_ne_true}
 use Rattle.std.proofs.lemmas.List.{get_or-map, length-map}
 use Rattle.std.proofs.lemmas.List.Elements.{All-filter, All-map, All-weaker}
 use Rattle.std.proofs.lemmas.List.FromFn.{length-range_with_len}
-use Rattle.std.proofs.lemmas.Option.{slice_get-get_or}
 use Rattle.gf_tables.specs.Product.{size_of}
 use Rattle.due_sums.specs.Waiting.{AreSums}
 use Rattle.net_model.proofs.RenumberedParts.{is_rising-filter_range}
@@ -65,14 +64,6 @@ outs-each code pattern node k d within =
 pub out_place-below : (code : Code) (pattern link : ℕ) → is_live_in code pattern link ≡ true
     → out_place (plan_of code pattern (tail_of code.net.links link)) link < length (outs_of code pattern (tail_of code.net.links link))
 out_place-below code pattern link live = position-ending-below code pattern (tail_of code.net.links) link live
-
-pub slice_get-out_place : (code : Code) (pattern link : ℕ) → is_live_in code pattern link ≡ true
-    → slice_get (outs_of code pattern (tail_of code.net.links link)) (out_place (plan_of code pattern (tail_of code.net.links link)) link) ≡ Some link
-slice_get-out_place code pattern link live =
-    let outs = outs_of code pattern (tail_of code.net.links link) in
-    let place = out_place (plan_of code pattern (tail_of code.net.links link)) link in
-    let below = out_place-below code pattern link live in
-    slice_get-get_or outs place 0 below ∙ ap Some (place_in-found outs link 0 below)
 
 -- and so do its operands
 pub operands_of-live : (code : Code) (pattern link : ℕ) → is_live_in code pattern link ≡ true

@@ -50,8 +50,8 @@ impl Wiring {
     ghost use Rattle.node_plans.specs.Plans.{IsPlan, input_count, plan_of, sums_of};
     ghost use Rattle.node_plans.specs.Wired.{HasPlaces, IsWiringOf};
 
-    /// The wiring of a code under a pattern. Nodes, links, operands and sinks are gone over once, and
-    /// each link is looked up among those that fail in the pattern.
+    /// The wiring of a code under a pattern. Nodes, links, operands, sinks and the links of the pattern
+    /// are gone over once.
     pub fn of(alloc: Global, code: &Code, pattern: u32) -> Result<Wiring, AllocError>
         requires { pattern < length code.now.net.patterns }
         ensures { IfOk result (IsWiringOf code.now pattern) }

@@ -125,9 +125,3 @@ pub run-more : (code : Code) (pattern : ℕ) (run : List Delivery) (delivery : D
     → IsRun code pattern run old mid → IsStep code pattern delivery mid new → IsRun code pattern (run ++ delivery ∷ []) old new
 run-more code pattern [] delivery old mid new is step = (new, subst (λ (start : RelayState). IsStep code pattern delivery start new) is step, refl)
 run-more code pattern (first ∷ run) delivery old mid new is step = (is.0, is.1, run-more code pattern run delivery is.0 mid new is.2 step)
-
--- a step from a state that a run reaches leads to one
-pub step-reaches : (code : Code) (pattern : ℕ) (window : Window) (run : List Delivery) (delivery : Delivery) (old new : RelayState) → All (IsBlockOf code) window.blocks
-    → IsRun code pattern run (opening code pattern window) old → IsStep code pattern delivery old new → Reaches code pattern window (run ++ delivery ∷ []) new
-step-reaches code pattern window run delivery old new blocks is step =
-    run-reaches code pattern window (run ++ delivery ∷ []) new blocks (run-more code pattern run delivery (opening code pattern window) old new is step)

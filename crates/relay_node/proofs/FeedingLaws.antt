@@ -1,6 +1,6 @@
 -- Rows that are taken in, piece by piece.
 use Rattle.std.specs.Prelude.{◌≡◌, ◌≢◌, ◌<◌, ◌≤◌, ◌+◌, ℕ, true, false, List, length}
-use Rattle.std.proofs.Common.{refl, sym, subst, ◌∙◌, ap, arith, inl, inr}
+use Rattle.std.proofs.Common.{sym, subst, ◌∙◌, ap, arith, inl, inr}
 use Rattle.std.proofs.lemmas.Bool.{cases_lt}
 use Rattle.coded_traffic.specs.CodeBlocks.{row_of}
 use Rattle.due_sums.specs.Waiting.{Gains, IsSameWork, Waiting, has_input, input_at}
@@ -12,17 +12,6 @@ same_work old mid new one two = record { inputs = two.inputs ∙ one.inputs; sum
 
 same_input : (old mid new : Waiting) (g i p : ℕ) → IsSame old mid g i p → IsSame mid new g i p → IsSame old new g i p
 same_input old mid new g i p one two = record { has = two.has ∙ one.has; bytes = two.bytes ∙ one.bytes }
-
--- no piece is taken yet
-pub pieces-none : (generation input : ℕ) (row : List ℕ) (sums : Waiting) → ArePiecesTaken generation input 0 row sums sums
-pieces-none generation input row sums =
-    record {
-      work = record { inputs = refl; sums = refl; generations = refl };
-      came = λ p below. absurd (omega (arith, below));
-      bytes = λ p below. absurd (omega (arith, below));
-      others = λ g i p within low apart. record { has = refl; bytes = refl };
-      given = λ g s p within low. refl;
-    }
 
 module _ (generation input piece : ℕ) (row payload : List ℕ) (old mid new : Waiting) (low : piece < pieces) (within : input < old.inputs)
     (taken : ArePiecesTaken generation input piece row old mid) (gains : Gains generation input piece payload mid new) where
@@ -65,17 +54,6 @@ module _ (generation input piece : ℕ) (row payload : List ℕ) (old mid new : 
   -- the pieces behind it have not come
   pub none-next : ((p : ℕ) → piece ≤ p → p < pieces → has_input mid generation input p ≡ false) → (p : ℕ) → piece + 1 ≤ p → p < pieces → has_input new generation input p ≡ false
   none-next none p behind small = (other_piece p small (omega (arith, behind))).has ∙ none p (omega (arith, behind)) small
-
--- no row is taken yet
-pub rows-none : (generation : ℕ) (block : List ℕ) (sums : Waiting) → AreRowsTaken generation 0 block sums sums
-rows-none generation block sums =
-    record {
-      work = record { inputs = refl; sums = refl; generations = refl };
-      came = λ row p below. absurd (omega (arith, below));
-      bytes = λ row p below. absurd (omega (arith, below));
-      others = λ g i p within low apart. record { has = refl; bytes = refl };
-      given = λ g s p within low. refl;
-    }
 
 module _ (generation count : ℕ) (block : List ℕ) (old mid new : Waiting) (within : count < old.inputs)
     (taken : AreRowsTaken generation count block old mid) (row_taken : ArePiecesTaken generation count pieces (row_of block count) mid new) where

@@ -1,16 +1,14 @@
 -- What came of the traffic of a block, through an accepted code, decodes to the block.
-use Rattle.std.specs.Prelude.{◌≡◌, ◌<◌, ◌*◌, ℕ, Bool, true, List, [], length, map, if◌then◌else◌}
+use Rattle.std.specs.Prelude.{◌≡◌, ◌<◌, ℕ, Bool, true, List, [], map, if◌then◌else◌}
 use Rattle.std.specs.List.{concat}
 use Rattle.std.proofs.Common.{◌∙◌, ap, inl, inr, refl, sym}
 use Rattle.std.proofs.lemmas.Bool.{cases_Bool}
 use Rattle.coded_traffic.proofs.BlockLaws.{IsBlock-block_elements, bytes_of-block_elements, width_of-block_elements}
-use Rattle.coded_traffic.proofs.RowLaws.{row_bytes-row_width}
 use Rattle.coded_traffic.specs.CodeBlocks.{IsBlockOf, block_elements, row_width}
 use Rattle.coded_traffic.specs.Traffic.{payload_in}
-use Rattle.generation_frame.specs.Blocks.{piece_bytes, piece_of_row, pieces, row_bytes}
+use Rattle.generation_frame.specs.Blocks.{piece_bytes, piece_of_row, pieces}
 use Rattle.generation_frame.specs.declared.frame.Packet.{Packet}
-use Rattle.gf_tables.specs.Product.{bytes_of_element}
-use Rattle.linear_algebra.proofs.ElementsLaws.{elements_of-bytes_of_row, length-bytes_of_row}
+use Rattle.linear_algebra.proofs.ElementsLaws.{elements_of-bytes_of_row}
 use Rattle.linear_algebra.proofs.EntryLaws.{concat-rows_of}
 use Rattle.linear_algebra.specs.Elements.{bytes_of_row, elements_of}
 use Rattle.linear_algebra.specs.Matrices.{matrix_times}
@@ -19,13 +17,14 @@ use Rattle.list_laws.proofs.Maps.{same_made}
 use Rattle.net_model.specs.Demands.{demand_count, pattern_of_demand}
 use Rattle.net_model.specs.Failed.{failed_links}
 use Rattle.node_program.proofs.DecodingLaws.{decoder_of_demand}
-use Rattle.node_program.proofs.ValueLaws.{IsRow-value, value-dead}
+use Rattle.node_program.proofs.ValueLaws.{value-dead}
 use Rattle.node_program.specs.CodeValue.{is_live_in, value_in}
 use Rattle.node_program.specs.Decoding.{IsAccepted, decoding_of}
 use Rattle.node_program.specs.Value.{width_of}
 use Rattle.node_program.specs.declared.code.Code.{Code}
 use Rattle.node_states.specs.Decoded.{decoded_of, row_of, value_of}
 use Rattle.relay_core.specs.Core.{payload_of}
+use Rattle.sink_decoder.proofs.TrafficLaws.{length-value}
 use Rattle.sink_decoder.specs.Receiving.{entries_of, links_of}
 
 -- the pieces of live links that came in a generation are those of a block
@@ -39,14 +38,6 @@ module _ (code : Code) (pattern : ℕ) (block : List ℕ) (is : IsBlockOf code b
   abbrev value : ℕ → List ℕ
   value link = value_in code pattern (block_elements code block) link
 
-  -- its bytes are a row
-  length-value : (link : ℕ) → length (bytes_of_row code.field (value link)) ≡ row_bytes
-  length-value link =
-      let row = IsRow-value code.code.draft (IsBlock-block_elements code block is) (failed_links code.net.patterns pattern) link in
-      length-bytes_of_row code.field (value link)
-      ∙ ap (λ (n : ℕ). bytes_of_element code.field * n) (row.width ∙ width_of-block_elements code block is)
-      ∙ sym (row_bytes-row_width code.field)
-
   module _ (came : List Packet) (generation : ℕ) (are : CameOf code pattern block came generation) where
     -- the row that came on a live link is that of its value
     row_of-came : (link : ℕ) → is_live_in code pattern link ≡ true → row_of came generation link ≡ bytes_of_row code.field (value link)
@@ -55,7 +46,7 @@ module _ (code : Code) (pattern : ℕ) (block : List ℕ) (is : IsBlockOf code b
         ap (λ (parts : List (List ℕ)). concat parts)
         (same_made (λ piece. payload_of came (record { link = link; generation = generation; piece = piece })) (piece_of_row row) pieces []
         (λ piece low. are link piece live low))
-        ∙ concat-rows_of pieces piece_bytes row (length-value link)
+        ∙ concat-rows_of pieces piece_bytes row (length-value code pattern block is link)
 
     -- and what counts for a link is its value
     value_of-came : (link : ℕ) → value_of code pattern came generation link ≡ value link

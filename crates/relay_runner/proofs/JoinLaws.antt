@@ -33,11 +33,12 @@ use Rattle.node_states.proofs.DecodedLaws.{decoded-same}
 use Rattle.node_states.specs.Decoded.{decoded_of}
 use Rattle.node_stations.specs.Opening.{demand_of}
 use Rattle.node_stations.specs.Putting.{flight_of}
+use Rattle.run_states.proofs.GivenLaws.{payload-none}
 use Rattle.run_states.specs.Showing.{packets_in}
 use Rattle.relay_runner.specs.Carried.{IsCarried, packets_given}
 
 -- a range, and then what follows it
-range-append : (a n m : ℕ) → range_with_len a (n + m) ≡ range_with_len a n ++ range_with_len (a + n) m
+pub range-append : (a n m : ℕ) → range_with_len a (n + m) ≡ range_with_len a n ++ range_with_len (a + n) m
 range-append a zero m =
     let count : zero + m ≡ m = omega arith in
     let start : a ≡ a + zero = omega arith in
@@ -62,19 +63,11 @@ payload_of-later (packet ∷ packets) others key none =
     let apart : is_same_key (key_of packet) key ≡ false = parts.0 in
     rw apart (payload_of-later packets others key parts.1)
 
--- a key that packets don't have has no payload there
-payload_of-none : (packets : List Packet) (key : Key) → has_key key packets ≡ false → payload_of packets key ≡ []
-payload_of-none [] key none = refl
-payload_of-none (packet ∷ packets) key none =
-    let parts = or_parts (is_same_key (key_of packet) key) (has_key key packets) none in
-    let apart : is_same_key (key_of packet) key ≡ false = parts.0 in
-    rw apart (payload_of-none packets key parts.1)
-
--- so others that don't have the key add nothing
+-- others that don't have the key add nothing
 payload_of-alone : (packets others : List Packet) (key : Key) → has_key key others ≡ false → payload_of (packets ++ others) key ≡ payload_of packets key
 payload_of-alone packets others key none = elim (cases_Bool (has_key key packets)) [
   | inl has ↦ payload_of-first packets others key has
-  | inr neither ↦ payload_of-later packets others key neither ∙ payload_of-none others key none ∙ sym (payload_of-none packets key neither)
+  | inr neither ↦ payload_of-later packets others key neither ∙ payload-none key others none ∙ sym (payload-none key packets neither)
 ]
 
 -- the packets given by calls, and then by more

@@ -23,7 +23,7 @@ use Rattle.run_states.specs.Showing.{packets_in}
 
 module _ (key : Key) where
   -- of a key that doesn't stand among packets no payload is found
-  payload-none : (packets : List Packet) → has_key key packets ≡ false → payload_of packets key ≡ []
+  pub payload-none : (packets : List Packet) → has_key key packets ≡ false → payload_of packets key ≡ []
   payload-none [] none = refl
   payload-none (packet ∷ packets) none = elim (cases_Bool (is_same_key (key_of packet) key)) [
     | inl same ↦ absurd (false≢true (sym none ∙ or_left (is_same_key (key_of packet) key) (has_key key packets) same))

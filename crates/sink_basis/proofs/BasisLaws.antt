@@ -35,6 +35,12 @@ identity-column nought one m size j made below =
     get_or-column_of nought m.rows k j inside ∙ ap (λ row. get_or row j nought) (identity-row nought one m size k made within) ∙ get_or-unit_of nought one size k j below
     ∙ identity_entry-comm nought one k j)
 
+-- a row that is put into a matrix of elements has elements
+pub put-elements : {A : Type 0} (P : A → Type 0) (m new : Grid A) (i : ℕ) (row : List A) → new ≡ with_row m i row → IsMatrix P new → i < length m.rows → All P row
+put-elements {A} P m new i row is kept below =
+    let tall : i < length new.rows = omega (arith, ap (λ (n : Grid A). length n.rows) is, length-set m.rows i row) in
+    subst (All P) (ap (λ (n : Grid A). row_of n i) is ∙ row_of-with_row m i row below) (row_of-elements new i kept tall)
+
 module _ {A : Type 0} {P : A → Type 0} {nought one : A} {add mul : A → A → A} {inv : A → A} (F : IsField P nought one add mul inv) where
   -- the unit vectors are a basis, with themselves as its inverse vectors
   pub identity-IsBasis : (vectors inverses : Grid A) (size : ℕ) → vectors.columns ≡ size → inverses.columns ≡ size → vectors.rows ≡ identity_of nought one size → inverses.rows ≡ identity_of nought one size

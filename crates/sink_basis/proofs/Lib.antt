@@ -1,2 +1,3 @@
 pub mod BasisLaws
 pub mod IdentitySteps
+pub mod InvertedLaws

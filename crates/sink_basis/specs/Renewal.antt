@@ -1,6 +1,7 @@
--- The inverse vectors of a basis after one of its vectors was replaced (Jaggi et al. 2005).
+-- The inverse vectors of a basis after one of its vectors was replaced (Jaggi et al. 2005): by one pass over the old ones,
+-- and as the columns of the inverse of the vectors.
 use Rattle.std.specs.Prelude.{◌≡◌, ◌≢◌, ◌≤◌, ◌<◌, ℕ, List, length}
-use Rattle.field_vectors.specs.Elements.{dot_of, plus_multiple, multiple_of}
+use Rattle.field_vectors.specs.Elements.{column_of, dot_of, plus_multiple, multiple_of}
 use Rattle.field_vectors.specs.Grid.{Grid, IsMatrix, row_of}
 
 -- Each row below the limit, other than the path's, has in addition its product with the vector times the path's row.
@@ -20,3 +21,10 @@ pub record IsRenewed {A : Type 0} (is_element : A → Type 0) (zero : A) (add mu
   pub kept : IsMatrix is_element new
   pub own : row_of new path ≡ multiple_of mul (inv (dot_of zero add mul vector (row_of old path))) (row_of old path)
   pub other : (k : ℕ) → k < length old.rows → k ≢ path → row_of new k ≡ plus_multiple add mul (row_of old k) (dot_of zero add mul vector (row_of old k)) (row_of new path)
+
+-- The rows of a matrix are the columns of another.
+pub record IsTransposed {A : Type 0} (is_element : A → Type 0) (zero : A) (old new : Grid A) : Type 0 where
+  pub columns : new.columns ≡ length old.rows
+  pub height : length new.rows ≡ old.columns
+  pub kept : IsMatrix is_element new
+  pub row : (k : ℕ) → k < old.columns → row_of new k ≡ column_of zero k old.rows

@@ -6,14 +6,14 @@ ghost use Rattle.field_vectors.specs.Grid.{AreMatrices, row_of, with_row};
 ghost use Rattle.net_model.specs.Limits.{highest_rate};
 ghost use Rattle.sink_basis.specs.Basis.{IsBasis, IsNumbered};
 
+use crate::inverting::{inverses_of, replaced};
 use crate::renewal::{identity, no_links, renew_inverses};
 use counted_steps::Steps;
 use field_vectors::Matrix;
 use gf_tables::Field;
 use item_list::ItemList;
 use std::alloc::{AllocError, Global};
-use std::marker::Brand;
-use std::sync::ledger::{Blank, Ledger};
+use std::sync::ledger::Ledger;
 
 /// For each path the last link that was visited on it, or none.
 pub type Frontier = ItemList<Option<u32>>;
@@ -49,8 +49,27 @@ impl<F: Field> Basis<F> {
         })
     }
 
-    /// Makes `link` the frontier link of the path, and `vector` its vector. All other links and vectors stay. The
-    /// product of the vector and the path's inverse must not be zero.
+    /// Makes `link` the frontier link of the path, and `vector` its vector, by one pass over the inverse vectors
+    /// (Jaggi et al. 2005). All other links and vectors stay. It takes no memory, and counts at most three steps for
+    /// each entry of a matrix. The product of the vector and the path's inverse must not be zero.
+    pub fn advance<L: Ledger>(&mut self, path: u32, link: u32, vector: &[F], steps: &mut Steps<L>)
+        requires path { path < length self.old.frontier }
+        requires width { length vector.now ≡ length self.old.frontier }
+        requires nonzero { dot_of F.zero F.add F.mul vector.now (row_of self.old.inverses path)
+            ≢ F.zero }
+        ensures frontier { self.new.frontier ≡ slice_set self.old.frontier path (Some link) }
+        ensures vectors { self.new.vectors ≡ with_row self.old.vectors path vector.now }
+        ensures ticks { let h = length self.old.frontier
+            in RoseByAtMost (3 * h * h) steps.old steps.new }
+    {
+        renew_inverses(&mut self.inverses, path, vector, steps);
+        self.vectors.put_row(path, vector);
+        self.frontier.set(path as usize, Some(link));
+    }
+
+    /// Makes `link` the frontier link of the path, and `vector` its vector, and finds the inverse vectors anew, by the
+    /// inverse of the vectors. All other links and vectors stay. The product of the vector and the path's inverse must
+    /// not be zero. Where there is too little memory, all is as before.
     pub fn renew(
         &mut self,
         alloc: Global,
@@ -70,38 +89,11 @@ impl<F: Field> Basis<F> {
         ensures refused_vectors { OnErr result (self.new.vectors ≡ self.old.vectors) }
         ensures refused_inverses { OnErr result (self.new.inverses ≡ self.old.inverses) }
     {
-        self.renew_from::<Brand>(path, link, vector, Blank::new(1));
-        Ok(())
-    }
-
-    // The renewal, with a counter of its own.
-    fn renew_from<L: Ledger>(&mut self, path: u32, link: u32, vector: &[F], blank: Blank)
-        requires name { blank.name ≡ L.name }
-        requires parts { blank.parts ≡ L.parts }
-        requires some_part { 0 < blank.parts }
-        requires path { path < length self.old.frontier }
-        requires width { length vector.now ≡ length self.old.frontier }
-        requires nonzero { dot_of F.zero F.add F.mul vector.now (row_of self.old.inverses path)
-            ≢ F.zero }
-        ensures frontier { self.new.frontier ≡ slice_set self.old.frontier path (Some link) }
-        ensures vectors { self.new.vectors ≡ with_row self.old.vectors path vector.now }
-    {
-        self.replace(path, link, vector, &mut Steps::<L>::start(blank));
-    }
-
-    // The renewal. It counts at most three steps for each entry of a matrix.
-    fn replace<L: Ledger>(&mut self, path: u32, link: u32, vector: &[F], steps: &mut Steps<L>)
-        requires path { path < length self.old.frontier }
-        requires width { length vector.now ≡ length self.old.frontier }
-        requires nonzero { dot_of F.zero F.add F.mul vector.now (row_of self.old.inverses path)
-            ≢ F.zero }
-        ensures frontier { self.new.frontier ≡ slice_set self.old.frontier path (Some link) }
-        ensures vectors { self.new.vectors ≡ with_row self.old.vectors path vector.now }
-        ensures ticks { let h = length self.old.frontier
-            in RoseByAtMost (3 * h * h) steps.old steps.new }
-    {
-        renew_inverses(&mut self.inverses, path, vector, steps);
-        self.vectors.put_row(path, vector);
+        let vectors = replaced(alloc, &self.vectors, path, vector)?;
+        let inverses = inverses_of(alloc, &vectors)?;
+        self.vectors = vectors;
+        self.inverses = inverses;
         self.frontier.set(path as usize, Some(link));
+        Ok(())
     }
 }

@@ -2,6 +2,7 @@
 #![tactic(auto)]
 
 mod basis;
+mod inverting;
 mod renewal;
 
 pub use basis::{Basis, Frontier};

@@ -3,8 +3,8 @@ use Rattle.std.specs.Prelude.{◌≡◌, ◌≢◌, ◌<◌, ◌≤◌, ◌-◌,
 use Rattle.std.proofs.Common.{arith, refl, sym, ap, ◌∙◌, get_or, get_or-set_other, get_or-set_same, inl, inr}
 use Rattle.std.proofs.Math.ListN.{set}
 use Rattle.std.proofs.lemmas.Bool.{cases_Bool, eqb-false, eqb-true}
-use Rattle.std.proofs.lemmas.List.{get_or-map, length-map, length-set}
-use Rattle.std.proofs.lemmas.List.Elements.{All-get_or, All-set}
+use Rattle.std.proofs.lemmas.List.{get_or-map, length-map}
+use Rattle.std.proofs.lemmas.List.Elements.{All-get_or}
 use Rattle.generation_frame.specs.Blocks.{pieces}
 use Rattle.held_rows.specs.Held as rows
 use Rattle.held_rows.specs.Held.{Held, Holds, is_held, payload_of, row_count}
@@ -43,21 +43,6 @@ IsReceiver-begun receiver first count came keeps few same =
           sym (get_or-map row_count came k d 0 within) ∙ ap (λ (counts : List ℕ). get_or counts k 0) same ∙ get_or-map row_count receiver.came k d 0 inside
           ∙ keeps.rows k d inside;
     }
-
--- the rows of one generation are others
-pub IsReceiver-set : (receiver : Receiver) (at : ℕ) (held : Held) → IsReceiver receiver → row_count held ≡ receiver.plan.rate
-    → IsReceiver (record receiver { came = set receiver.came at held })
-IsReceiver-set receiver at held keeps count = record {
-  low_rate = keeps.low_rate;
-  link_count = keeps.link_count;
-  rising = keeps.rising;
-  live_count = keeps.live_count;
-  entry_count = keeps.entry_count;
-  elements = keeps.elements;
-  few = keeps.few;
-  windows = length-set receiver.came at held ∙ keeps.windows;
-  rows = All-set (λ (one : Held). row_count one ≡ receiver.plan.rate) receiver.came at held count keeps.rows;
-}
 
 module _ (receiver : Receiver) (keeps : IsReceiver receiver) (generation link piece : ℕ) (payload : List ℕ) (now : Held) (begun : IsBegun receiver generation)
     (wanted : wants receiver.plan link ≡ true) (low : piece < pieces) (holds : Holds (place_of receiver.plan link) piece payload (came_of receiver generation) now) where

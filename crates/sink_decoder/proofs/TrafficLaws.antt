@@ -56,6 +56,15 @@ passes_second false second either is = absurd (by is)
     by : false ≡ true → ⊥
     by e = cc
 
+-- the bytes of a link's value are a row
+pub length-value : (code : Code) (pattern : ℕ) (block : List ℕ) → IsBlockOf code block → (link : ℕ)
+    → length (bytes_of_row code.field (value_in code pattern (block_elements code block) link)) ≡ row_bytes
+length-value code pattern block is link =
+    let row = IsRow-value code.code.draft (IsBlock-block_elements code block is) (failed_links code.net.patterns pattern) link in
+    length-bytes_of_row code.field (value_in code pattern (block_elements code block) link)
+    ∙ ap (λ (n : ℕ). bytes_of_element code.field * n) (row.width ∙ width_of-block_elements code block is)
+    ∙ sym (row_bytes-row_width code.field)
+
 module _ (code : Code) (demand : ℕ) (block : List ℕ) (is : IsBlockOf code block) (held : Held) where
   abbrev pattern : ℕ
   pattern = pattern_of_demand code.net demand
@@ -63,14 +72,6 @@ module _ (code : Code) (demand : ℕ) (block : List ℕ) (is : IsBlockOf code bl
   -- the value of a link
   abbrev value : ℕ → List ℕ
   value link = value_in code pattern (block_elements code block) link
-
-  -- the bytes of a value are a row
-  length-value : (link : ℕ) → length (bytes_of_row code.field (value link)) ≡ row_bytes
-  length-value link =
-      let row = IsRow-value code.code.draft (IsBlock-block_elements code block is) (failed_links code.net.patterns pattern) link in
-      length-bytes_of_row code.field (value link)
-      ∙ ap (λ (n : ℕ). bytes_of_element code.field * n) (row.width ∙ width_of-block_elements code block is)
-      ∙ sym (row_bytes-row_width code.field)
 
   module _ (decoder : Decoder) (found : slice_get code.decoders demand ≡ Some decoder) (rising : is_rising decoder.links ≡ true) (link_count : length decoder.links ≡ code.rate) where
     abbrev plan : SinkPlan
@@ -97,7 +98,7 @@ module _ (code : Code) (demand : ℕ) (block : List ℕ) (is : IsBlockOf code bl
       live_row live =
           let test = λ (place : ℕ). not (is_live_at plan place) || is_whole held place in
           let each : is_whole held place ≡ true = passes_second (is_live_at plan place) (is_whole held place) (at_below test (length decoder.links) place whole within) live in
-          row_of-pieces held place (bytes_of_row code.field (value link)) (length-value link)
+          row_of-pieces held place (bytes_of_row code.field (value link)) (length-value code pattern block is link)
           (λ piece low.
           let HeldAt : ℕ → Type 0 = λ p. is_held held p piece ≡ true in
           ap (λ p. payload_of held p piece) (sym at)

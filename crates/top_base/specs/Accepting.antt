@@ -6,6 +6,7 @@ use Rattle.code_checker.specs.Checking.{FailsFirst}
 use Rattle.code_file.specs.Items.{IsFileOf}
 use Rattle.code_file.specs.Limits.{code_limit}
 use Rattle.code_file.specs.Reading.{contents_of}
+use Rattle.cut_bound.specs.Cuts.{IsWithinCuts}
 use Rattle.node_program.specs.Decoding.{IsAccepted}
 use Rattle.node_program.specs.declared.code.Code.{Code}
 use Rattle.top_base.specs.Inputs.{HoldsInput, IsNoMemory, Reads}
@@ -14,10 +15,12 @@ use Rattle.top_base.specs.declared.outcome.Outcome.{Outcome}
 use Rattle.top_base.specs.declared.status.Status.{Status}
 use Rattle.top_base.specs.declared.status.Status.TheVariants.{CodeRefused, CheckFailed}
 
--- the bytes are the file of this code, and it is accepted
+-- The bytes are the file of this code, and it is accepted. So its rate is at most the number of links of each cut of each demand, which
+-- asks for nothing more: it holds of every accepted code.
 pub record IsCodeOf (bytes : List ℕ) (code : Code) : Type 0 where
   pub spelled : IsFileOf bytes code
   pub accepted : IsAccepted code
+  pub within_cuts : IsWithinCuts code.net code.rate
 
 -- the bytes are no code's file, with this status and line
 abbrev pub RefusesFile : List ℕ → Status → List ℕ → Type 0

@@ -1,6 +1,7 @@
 -- Whole files, read within a limit.
-use Rattle.std.specs.Prelude.{◌≡◌, ◌<◌, ◌≤◌, ◌+◌, ℕ, Bool, true, false, List, [], ◌∷◌, ◌++◌, length, Result, Ok, Err}
+use Rattle.std.specs.Prelude.{◌≡◌, ◌<◌, ◌≤◌, ◌+◌, ℕ, Bool, true, false, List, [], ◌∷◌, ◌++◌, length, take, Result, Ok, Err}
 use Rattle.lif_outside.specs.Events.{Event, read, read_failed}
+use Rattle.lif_outside.specs.declared.Failed.{Failed}
 use Rattle.lif_outside.specs.Runs.{ReadsToFault, ReadsPastLimit, ReadsSome}
 use Rattle.top_base.specs.declared.reading.FileRefusal.{FileRefusal}
 use Rattle.top_base.specs.declared.reading.FileRefusal.TheVariants as refused
@@ -19,6 +20,11 @@ abbrev pub StopsReading : List ℕ → ℕ → FileRefusal → List Event → Ty
 StopsReading path limit refused.Fault calls = ReadsToFault path limit calls
 StopsReading path limit refused.TooLong calls = ReadsPastLimit path limit calls
 StopsReading path limit refused.OutOfMemory calls = ReadsSome path limit calls
+
+-- One read of a path from a place on, into a chunk: so many bytes came, or it failed.
+abbrev pub ReadsNext : List ℕ → ℕ → List ℕ → Result ℕ Failed → List Event → Type 0
+ReadsNext path at chunk (Ok count) calls = (room : ℕ) × (0 < room) × (calls ≡ read path at room (take count chunk) ∷ [])
+ReadsNext path at chunk (Err failed) calls = (room : ℕ) × (calls ≡ read_failed path at room ∷ [])
 
 -- One read more behind the front of a file, and the front with what came. It answers whether anything came.
 abbrev pub ReadsMore : List ℕ → ℕ → List ℕ → List ℕ → Result Bool FileRefusal → List Event → Type 0

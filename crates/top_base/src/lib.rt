@@ -19,6 +19,6 @@ pub use lines::Line;
 pub use long_texts::{order_text, zero_rate_line};
 pub use networks::{Ordered, read_ordered};
 pub use outcome::{Outcome, conclude};
-pub use reading::{FileRefusal, read_whole};
+pub use reading::{FileRefusal, read_next, read_whole};
 pub use status::{NetWhy, Status};
 pub use words::{Command, CompileWords, SendWords, command_of};

@@ -2,9 +2,9 @@
 ghost use Rattle.std.specs.Prelude.{◌≡◌, ◌≤◌, ◌<◌, ◌+◌, ◌^◌, [], length, true, IfOk, IfErr, IsErrOf, vec_len, vec_capacity};
 ghost use Rattle.lif_outside.specs.Calls.{MakesCalls};
 ghost use Rattle.lif_outside.specs.Runs.{ReadsWhole};
-ghost use Rattle.top_base.specs.FileReading.{ReadsMore, StopsReading};
+ghost use Rattle.top_base.specs.FileReading.{ReadsMore, ReadsNext, StopsReading};
 
-use lif_outside::Store;
+use lif_outside::{Failed, Store};
 
 /// How many bytes are read at a time.
 const CHUNK: usize = 65536;
@@ -18,6 +18,27 @@ pub enum FileRefusal {
     TooLong,
     /// There was no memory.
     OutOfMemory,
+}
+
+/// Reads more of a file from a place on, at most to the byte past the limit, and answers how many bytes came. None come
+/// where the file ended there.
+pub fn read_next<S: Store>(
+    store: &mut S,
+    path: &str,
+    limit: u64,
+    at: u64,
+    chunk: &mut [u8],
+) -> Result<usize, Failed>
+    requires limit { limit < 2 ^ 41 }
+    requires within { at ≤ limit }
+    requires chunk { 0 < length chunk.old }
+    ensures reads { MakesCalls S.Store store.old store.new
+        (ReadsNext path.now at chunk.new result) }
+    ensures count { IfOk result (λ count. count ≤ length chunk.new) }
+    ensures past { IfOk result (λ count. at + count ≤ limit + 1) }
+{
+    let room = (chunk.len() as u64).min(limit + 1 - at) as usize;
+    store.read(path, at, &mut chunk[..room])
 }
 
 // Reads more of a file behind its front, and answers whether there was more. At most one byte past the limit
@@ -39,9 +60,7 @@ fn read_more<S: Store>(
     ensures memory { IsErrOf result FileRefusal.OutOfMemory → vec_capacity front.old < limit + 1 }
     ensures room { vec_capacity front.old ≤ vec_capacity front.new }
 {
-    let at = front.len();
-    let room = chunk.len().min(limit + 1 - at);
-    match store.read(path, at as u64, &mut chunk[..room]) {
+    match read_next(store, path, limit as u64, front.len() as u64, chunk) {
         Err(_) => Err(FileRefusal::Fault),
         Ok(0) => Ok(false),
         Ok(count) => match front.extend_from_slice(&chunk[..count]) {

@@ -1,5 +1,5 @@
 -- A combination network has a code: nothing but want of memory keeps it from being compiled.
-use Rattle.std.specs.Prelude.{◌≡◌, ◌⊎◌, ◌<◌, ◌≤◌, ℕ, Bool, true, false, nat_le, List, Option, None, Some, if◌then◌else◌}
+use Rattle.std.specs.Prelude.{◌≡◌, ◌⊎◌, ◌≤◌, ℕ, true, nat_le, List, None, Some, if◌then◌else◌}
 use Rattle.std.proofs.Common.{refl, sym, ap, subst, ◌∙◌, inl, inr, arith}
 use Rattle.std.proofs.lemmas.Bool.{cases_Bool, le-leb, leb-true}
 use Rattle.cut_witness.proofs.CertificateLaws.{IsRate-least_value}
@@ -16,10 +16,8 @@ use Rattle.net_maker.proofs.CombinationLaws.{combination-acyclic, combination-de
 use Rattle.net_maker.specs.Combination.{IsCombination}
 use Rattle.net_maker.specs.Fits.{Fits}
 use Rattle.net_model.specs.Demands.{demand_count}
-use Rattle.net_model.specs.declared.net.FieldChoice.{FieldChoice}
-use Rattle.net_model.specs.declared.net.FieldChoice.TheVariants.{Any, Eight, Sixteen}
+use Rattle.net_model.specs.declared.net.FieldChoice.TheVariants.{Eight, Sixteen}
 use Rattle.net_model.specs.declared.net.Net.{Net}
-use Rattle.node_program.specs.Code.{choice_of}
 use Rattle.node_program.specs.declared.code.Code.{Code}
 use Rattle.top_tools.specs.Combining.{HasRate, IsCombinationCode}
 use Rattle.top_tools.specs.Compile.Made.{IsServedBy}

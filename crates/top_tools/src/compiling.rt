@@ -7,6 +7,7 @@ ghost use Rattle.lif_outside.specs.Sequences.{Are};
 ghost use Rattle.lif_outside.specs.Writes.{writes_of};
 ghost use Rattle.net_model.specs.Walks.{IsAcyclic};
 ghost use Rattle.net_model.specs.declared.net.Net.{Net};
+ghost use Rattle.topo_order.specs.Order.{order_of};
 ghost use Rattle.top_base.specs.Given.{compile_given_in};
 ghost use Rattle.top_base.specs.Performs.{RunsOnStore};
 ghost use Rattle.top_tools.specs.Compile.Command.{Compiles, compile_command};
@@ -74,20 +75,22 @@ fn write<'a, S: Store>(words: &CompileWords<'a>, made: Made<'a>, store: &mut S) 
     }
 }
 
-// Compiles a network without a cycle, and writes its code and report.
+// Compiles a network without a cycle, whose order is at hand, and writes its code and report.
 fn compile_net<'a, S: Store, G: Gate + Sync, R: Threads + Sync>(
     rt: &R,
     alloc: Global,
     words: &CompileWords<'a>,
     net: &Net,
+    order: &[u32],
     store: &mut S,
     gate: &G,
 ) -> Outcome<'a>
-    requires { IsAcyclic net.now.links }
+    requires order { order.now ≡ order_of net.now.links }
+    requires acyclic { IsAcyclic net.now.links }
     ensures { MakesCalls S.Store store.old store.new
         (Compiles (compile_given_in words.now) net.now result.status result.line) }
 {
-    match make(rt, alloc, net, gate) {
+    match make(rt, alloc, net, order, gate) {
         Ok(made) => write(words, made, store),
         Err(refused) => refused,
     }
@@ -112,7 +115,10 @@ pub fn compile<'a, S: Store, G: Gate + Sync, R: Threads + Sync>(
         };
     }
     match read_ordered(alloc, store, words.net) {
-        Ok(ordered) => compile_net(rt, alloc, words, &ordered.net, store, gate),
+        Ok(ordered) => {
+            let order = ordered.order.as_slice();
+            compile_net(rt, alloc, words, &ordered.net, order, store, gate)
+        }
         Err(refused) => refused,
     }
 }

@@ -4,6 +4,7 @@ ghost use Rattle.gf_tables.specs.Kind.{IsOfKind};
 ghost use Rattle.lif_compiler.specs.Compiled.{IsCompiled, marked_kind};
 ghost use Rattle.lif_compiler.specs.Refused.{IsRefusal};
 ghost use Rattle.net_model.specs.Walks.{IsAcyclic};
+ghost use Rattle.topo_order.specs.Order.{order_of};
 ghost use Rattle.top_tools.specs.Compile.Made.{IsServedBy};
 ghost use Rattle.top_tools.specs.Compile.Ready.{IsReady, IsUnmade, RefusesOrLosesIt};
 
@@ -14,7 +15,7 @@ use counted_steps::Steps;
 use cut_witness::Cert;
 use failure_patterns::used_field;
 use gf_tables::{Field, Gf8, Gf16};
-use lif_compiler::CompileRefusal;
+use lif_compiler::{CompileRefusal, compile_in_order};
 use lif_outside::Gate;
 use net_model::{FieldChoice, Net};
 use node_program::Code;
@@ -77,15 +78,18 @@ fn unmade<'a>(alloc: Global, net: &Net, why: CompileRefusal) -> Outcome<'a>
     }
 }
 
-// The code over the field `F`, with a counter of its own.
+// The code over the field `F` of a network whose order is at hand, with a counter of its own.
 fn code_in<F: Field, G: Gate + Sync, L: Ledger, R: Threads + Sync>(
     rt: &R,
     alloc: Global,
     net: &Net,
+    order: &[u32],
     gate: &G,
     blank: Blank,
 ) -> Result<(Code, Vec<Cert>), CompileRefusal>
     requires field { IsOfKind (marked_kind F.MARK) F.SIZE F.BYTES F.MARK F.product }
+    requires order { order.now ≡ order_of net.now.links }
+    requires acyclic { IsAcyclic net.now.links }
     requires name { blank.name ≡ L.name }
     requires parts { blank.parts ≡ L.parts }
     requires some_part { 0 < blank.parts }
@@ -93,22 +97,8 @@ fn code_in<F: Field, G: Gate + Sync, L: Ledger, R: Threads + Sync>(
         (λ made. IsCompiled net.now (marked_kind F.MARK) made.0 made.1.items) }
     ensures refused { IfErr result (IsRefusal net.now F.SIZE) }
 {
-    lif_compiler::compile::<F, G, L, R>(rt, alloc, net, gate, &mut Steps::<L>::start(blank))
-}
-
-/// The code of a network over the field `F`, and certificates of its rate.
-pub fn compile_over<F: Field, G: Gate + Sync, R: Threads + Sync>(
-    rt: &R,
-    alloc: Global,
-    net: &Net,
-    gate: &G,
-) -> Result<(Code, Vec<Cert>), CompileRefusal>
-    requires field { IsOfKind (marked_kind F.MARK) F.SIZE F.BYTES F.MARK F.product }
-    ensures compiled { IfOk result
-        (λ made. IsCompiled net.now (marked_kind F.MARK) made.0 made.1.items) }
-    ensures refused { IfErr result (IsRefusal net.now F.SIZE) }
-{
-    code_in::<F, G, Brand, R>(rt, alloc, net, gate, Blank::new(1))
+    let steps = &mut Steps::<L>::start(blank);
+    compile_in_order::<F, G, L, R>(rt, alloc, net, order, gate, steps)
 }
 
 // What is written and said of a network whose demands the field `F` serves.
@@ -116,36 +106,40 @@ fn make_over<'a, F: Field, G: Gate + Sync, R: Threads + Sync>(
     rt: &R,
     alloc: Global,
     net: &Net,
+    order: &[u32],
     gate: &G,
 ) -> Result<Made<'a>, Outcome<'a>>
     requires field { IsOfKind (marked_kind F.MARK) F.SIZE F.BYTES F.MARK F.product }
     requires served { IsServedBy net.now (marked_kind F.MARK) }
+    requires order { order.now ≡ order_of net.now.links }
     requires acyclic { IsAcyclic net.now.links }
     ensures ready { IfOk result (IsReady net.now) }
     ensures refused { IfErr result (RefusesOrLosesIt net.now) }
 {
-    match compile_over::<F, G, R>(rt, alloc, net, gate) {
+    match code_in::<F, G, Brand, R>(rt, alloc, net, order, gate, Blank::new(1)) {
         Ok((code, certs)) => Ok(of_code(alloc, net, &code, &certs)?),
         Err(why) => Err(unmade(alloc, net, why)),
     }
 }
 
-/// Compiles a network without a cycle, over the field that serves its demands, and takes all memory that its code
-/// and report need.
+/// Compiles a network without a cycle, whose order is at hand, over the field that serves its demands, and takes all
+/// memory that its code and report need.
 #[tactic(auto, unfolding(gf_tables::specs::Product::product))]
 pub fn make<'a, G: Gate + Sync, R: Threads + Sync>(
     rt: &R,
     alloc: Global,
     net: &Net,
+    order: &[u32],
     gate: &G,
 ) -> Result<Made<'a>, Outcome<'a>>
-    requires { IsAcyclic net.now.links }
+    requires order { order.now ≡ order_of net.now.links }
+    requires acyclic { IsAcyclic net.now.links }
     ensures ready { IfOk result (IsReady net.now) }
     ensures refused { IfErr result (RefusesOrLosesIt net.now) }
 {
     match used_field(net) {
-        Some(FieldChoice::Eight) => make_over::<Gf8, G, R>(rt, alloc, net, gate),
-        Some(FieldChoice::Sixteen) => make_over::<Gf16, G, R>(rt, alloc, net, gate),
+        Some(FieldChoice::Eight) => make_over::<Gf8, G, R>(rt, alloc, net, order, gate),
+        Some(FieldChoice::Sixteen) => make_over::<Gf16, G, R>(rt, alloc, net, order, gate),
         Some(FieldChoice::Any) => unreachable!(),
         None => Err(crowded(net)),
     }

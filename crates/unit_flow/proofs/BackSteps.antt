@@ -1,37 +1,37 @@
 -- Going back from the sink to the source, along the links by which the nodes were reached.
-use Rattle.std.specs.Prelude.{◌≡◌, ◌≢◌, ◌<◌, ◌≤◌, ℕ, Bool, true, false, ◌==◌, cond, List, length, slice_index, slice_set, Some}
+use Rattle.std.specs.Prelude.{◌≡◌, ◌≢◌, ◌<◌, ◌≤◌, ◌-◌, ℕ, Bool, false, ◌==◌, cond, List, length, slice_index, slice_set, Some}
 use Rattle.std.specs.List.{position_or_len}
 use Rattle.std.proofs.Common.{refl, sym, ◌∙◌, ap, subst, arith, inl, inr}
 use Rattle.std.proofs.lemmas.Bool.{both_ways, cases_eq, eq-eqb, ne_eqb}
 use Rattle.std.proofs.lemmas.List.{length-set}
 use Rattle.std.proofs.lemmas.List.Sums.{position_or_len_is}
-use Rattle.net_model.specs.Flows.{FlowNetwork, is_on}
+use Rattle.net_model.specs.Flows.{FlowNetwork}
 use Rattle.net_model.specs.Walks.{head_of, tail_of}
 use Rattle.net_model.specs.declared.Link.{Link}
 use Rattle.unit_flow.specs.Conservation.{IsConserved, IsConservedFrom}
 use Rattle.unit_flow.proofs.ConservationLaws.{IsConservedFrom-freed, IsConservedFrom-used, is_free-set_other, is_used-set_other}
 use Rattle.unit_flow.proofs.PassageLaws.{free_alone, passage_cases}
 use Rattle.unit_flow.specs.Residual.{is_free, is_used, passage}
-use Rattle.unit_flow.specs.Searching.{CameByLink, IsQueue, link_at, node_at}
+use Rattle.unit_flow.specs.Searching.{CameByLink, EndsAt, IsWay, link_at, node_at}
 use Rattle.unit_flow.specs.declared.residual.LinkState.{LinkState}
 use Rattle.unit_flow.specs.declared.residual.LinkState.TheVariants.{Free, Used}
 use Rattle.unit_flow.specs.declared.search.Search.{Search}
 
--- the place of a node in the queue
+-- the place of a node on the way
 abbrev pub place_of : Search → ℕ → ℕ
-place_of search node = position_or_len (λ one. one == node) search.queue.items
+place_of search node = position_or_len (λ one. one == node) search.way.items
 
 -- of a node that stands there
-pub place_of-node_at : (network : FlowNetwork) (states : List LinkState) (search : Search) (place : ℕ) → IsQueue network states search → place < search.queued → place_of search (node_at search place) ≡ place
+pub place_of-node_at : (network : FlowNetwork) (states : List LinkState) (search : Search) (place : ℕ) → IsWay network states search → place < search.depth → place_of search (node_at search place) ≡ place
 place_of-node_at network states search place is inside =
-    position_or_len_is (λ one. one == node_at search place) search.queue.items place 0 (omega (arith, is.within, is.places.queue))
+    position_or_len_is (λ one. one == node_at search place) search.way.items place 0 (omega (arith, is.within, is.places.way))
     (λ k before. ne_eqb _ _ (is.distinct k place before inside))
     (λ within. eq-eqb _ _ refl)
 
 -- from the sink back to a node, the links by which the nodes were reached are turned, and no others: so the used links are a flow with a unit more from that node on
 pub record IsGoingBack (network : FlowNetwork) (old : List LinkState) (search : Search) (states : List LinkState) (place node : ℕ) : Type 0 where
   pub each_link : length states ≡ length network.links
-  pub inside : place < search.queued
+  pub inside : place < search.depth
   pub at : node_at search place ≡ node
   pub before_sink : (k : ℕ) → k < place → node_at search k ≢ network.sink
   pub free : (k : ℕ) → 0 < k → k ≤ place → is_free states (link_at search k) ≡ is_free old (link_at search k)
@@ -39,18 +39,19 @@ pub record IsGoingBack (network : FlowNetwork) (old : List LinkState) (search : 
   pub conserved : (value : ℕ) → IsConserved network old value → IsConservedFrom network states value node
 
 -- at the sink
-pub back_none : (network : FlowNetwork) (old : List LinkState) (search : Search) → IsQueue network old search → length old ≡ length network.links → is_on search.reached.items network.sink ≡ true
+pub back_none : (network : FlowNetwork) (old : List LinkState) (search : Search) → IsWay network old search → length old ≡ length network.links → EndsAt network.sink search
     → IsGoingBack network old search old (place_of search network.sink) network.sink
-back_none network old search is whole on =
-    let there = is.placed network.sink on in
-    let place : place_of search network.sink ≡ there.0 = ap (place_of search) (sym there.2) ∙ place_of-node_at network old search there.0 is there.1 in
+back_none network old search is whole ends =
+    let last = search.depth - 1 in
+    let inside : last < search.depth = omega (arith, ends.some) in
+    let place : place_of search network.sink ≡ last = ap (place_of search) (sym ends.last) ∙ place_of-node_at network old search last is inside in
     let Back : ℕ → Type 0 = λ k. IsGoingBack network old search old k network.sink in
     subst Back (sym place)
     (record {
       each_link = whole;
-      inside = there.1;
-      at = there.2;
-      before_sink = λ k before same. is.distinct k there.0 before there.1 (same ∙ sym there.2);
+      inside = inside;
+      at = ends.last;
+      before_sink = λ k before same. is.distinct k last before inside (same ∙ sym ends.last);
       free = λ k some early. refl;
       used = λ k some early. refl;
       conserved = λ value conserved. conserved;
@@ -70,16 +71,16 @@ one_end links states link a b x y one two = elim (passage_cases links states lin
 ]
 
 -- one link further back
-module _ (network : FlowNetwork) (old : List LinkState) (search : Search) (states : List LinkState) (place node : ℕ) (queue : IsQueue network old search) (is : IsGoingBack network old search states place node)
+module _ (network : FlowNetwork) (old : List LinkState) (search : Search) (states : List LinkState) (place node : ℕ) (way : IsWay network old search) (is : IsGoingBack network old search states place node)
     (apart : node ≢ network.source) where
   some : 0 < place
-  some = elim (cases_eq place 0) [ inl first ↦ absurd (apart (sym is.at ∙ ap (node_at search) first ∙ queue.first)) | inr other ↦ omega arith ]
+  some = elim (cases_eq place 0) [ inl first ↦ absurd (apart (sym is.at ∙ ap (node_at search) first ∙ way.first (omega (arith, is.inside)))) | inr other ↦ omega arith ]
 
   link_is : link_at search place ≡ slice_index search.came.items node
   link_is = ap (λ n. slice_index search.came.items n) is.at
 
   came : CameByLink network.links old search place
-  came = queue.came place some is.inside
+  came = way.came place some is.inside
 
   pub link_within : slice_index search.came.items node < length network.links
   link_within = rw (← link_is) came.within
@@ -100,10 +101,10 @@ module _ (network : FlowNetwork) (old : List LinkState) (search : Search) (state
     -- the links of the nodes before it are others
     others : (k : ℕ) → 0 < k → k ≤ came.from → link_at search k ≢ link
     others k more early alike =
-        let there : k < search.queued = omega (arith, came.before, is.inside) in
-        let was = queue.came k more there in
+        let there : k < search.depth = omega (arith, came.before, is.inside) in
+        let was = way.came k more there in
         let Leads : ℕ → Type 0 = λ l. passage network.links old l (node_at search was.from) ≡ Some (node_at search k) in
-        queue.distinct k place (omega (arith, came.before)) is.inside
+        way.distinct k place (omega (arith, came.before)) is.inside
         (one_end network.links old link (node_at search was.from) (node_at search came.from) (node_at search k) node (subst Leads alike was.leads) leads ∙ sym is.at)
 
     free_same : is_free states link ≡ is_free old link
@@ -152,6 +153,6 @@ module _ (network : FlowNetwork) (old : List LinkState) (search : Search) (state
         → IsGoingBack network old search new (place_of search next) next × (place_of search next < place)
     gone_back new next new_is next_is =
         let back = turned_back new next new_is next_is in
-        let earlier : place_of search next ≡ came.from = ap (place_of search) (sym back.at) ∙ place_of-node_at network old search came.from queue back.inside in
+        let earlier : place_of search next ≡ came.from = ap (place_of search) (sym back.at) ∙ place_of-node_at network old search came.from way back.inside in
         let Back : ℕ → Type 0 = λ k. IsGoingBack network old search new k next in
         (subst Back (sym earlier) back, omega (arith, earlier, came.before))

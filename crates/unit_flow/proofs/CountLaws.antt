@@ -1,8 +1,8 @@
 -- Laws of counts and sums over a list, and over the numbers below a bound.
-use Rattle.std.specs.Prelude.{◌≡◌, ◌<◌, ◌≤◌, ◌+◌, ℕ, Bool, true, false, not, ◌&&◌, ◌||◌, ◌==◌, cond, nat_eq, List, [], ◌∷◌, length, All, sum_by, count_by}
+use Rattle.std.specs.Prelude.{◌≡◌, ◌≢◌, ◌⊎◌, ◌<◌, ◌≤◌, ◌+◌, ℕ, Bool, true, false, not, ◌&&◌, ◌||◌, ◌==◌, cond, nat_eq, List, [], ◌∷◌, length, All, sum_by, count_by}
 use Rattle.std.specs.List.{AllByRecursion, IsDistinct, range_with_len}
-use Rattle.std.proofs.Common.{refl, sym, ◌∙◌, ap, subst, get_or, arith}
-use Rattle.std.proofs.lemmas.Bool.{and_from, and_parts, and_right, both_ways, eqb-true, eq-eqb, ne_eqb}
+use Rattle.std.proofs.Common.{refl, sym, ◌∙◌, ap, subst, get_or, arith, inl, inr}
+use Rattle.std.proofs.lemmas.Bool.{and_from, and_parts, and_right, both_ways, cases_eq, eqb-true, eq-eqb, ne_eqb}
 use Rattle.std.proofs.lemmas.Cmp.{nat_eq_equiv}
 use Rattle.std.proofs.lemmas.List.Folds.{list_any_at}
 use Rattle.std.proofs.lemmas.List.FromFn.{length-range_with_len, get_or-range_with_len}
@@ -169,3 +169,19 @@ count_by-keys_on {X} p on key xs ks distinct all =
     of_key : (k : ℕ) (b : Bool) → on k ≡ b → count_by (λ x. (p x && on (key x)) && (key x == k)) xs ≡ cond b (count_by (λ x. p x && (key x == k)) xs) 0
     of_key k true is = sum_by-same (λ x. cond ((p x && on (key x)) && (key x == k)) 1 0) (λ x. cond (p x && (key x == k)) 1 0) xs (λ x. agree (p x) (on (key x)) (key x == k) (λ here. ap on (eqb-true _ _ here) ∙ is))
     of_key k false is = count_by-none (λ x. (p x && on (key x)) && (key x == k)) xs (λ i d within. let x = get_or xs i d in neither (p x) (on (key x)) (key x == k) (λ here. ap on (eqb-true _ _ here) ∙ is))
+
+-- a test that passes one number more than another counts one more of the numbers below a bound
+pub count_by-one : (p q : ℕ → Bool) (n at : ℕ) → at < n → p at ≡ false → q at ≡ true → ((k : ℕ) → k ≢ at → q k ≡ p k)
+    → count_by q (range_with_len 0 n) ≡ count_by p (range_with_len 0 n) + 1
+count_by-one p q n at inside fails passes same =
+    let range = range_with_len 0 n in
+    let single : count_by (λ k. k == at) range ≡ 1 = sum_by-single range at 1 (IsDistinct-range n) ∙ ap (λ b. cond {A = ℕ} b 1 0) (is_among-range n at inside) in
+    let parts : count_by q range ≡ count_by p range + count_by (λ k. k == at) range = count_by-parts q p (λ k. k == at) range (λ k. counted k (cases_eq k at)) in
+    omega (arith, parts, single)
+  where
+    counted : (k : ℕ) → (k ≡ at) ⊎ (k ≢ at) → cond {A = ℕ} (q k) 1 0 ≡ cond (p k) 1 0 + cond (k == at) 1 0
+    counted k (inl here) =
+        let p_is : p k ≡ false = ap p here ∙ fails in
+        let q_is : q k ≡ true = ap q here ∙ passes in
+        rw (p_is, q_is, eq-eqb k at here) refl
+    counted k (inr apart) = rw (same k apart, ne_eqb k at apart) (omega arith)

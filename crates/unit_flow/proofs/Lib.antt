@@ -4,10 +4,10 @@ pub mod CountLaws
 pub mod PassageLaws
 pub mod SideLaws
 pub mod StartSteps
+pub mod PassingSteps
 pub mod SearchSteps
+pub mod ReachSteps
 pub mod CursorSteps
 pub mod TakingSteps
-pub mod ChainSteps
-pub mod ReachSteps
 pub mod BackSteps
 pub mod FlowSteps

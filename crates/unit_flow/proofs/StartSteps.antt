@@ -1,43 +1,16 @@
 -- A residual network in which only failed links are marked.
-use Rattle.std.specs.Prelude.{◌≡◌, ◌<◌, ℕ, nat_lt, zero, suc, Bool, true, false, ◌&&◌, ◌||◌, ◌==◌, codes, List, [], ◌∷◌, ◌++◌, length, replicate, slice_get, slice_index, slice_set, Option, Some, None}
-use Rattle.std.specs.List.{list_all}
+use Rattle.std.specs.Prelude.{◌≡◌, ◌<◌, ℕ, zero, suc, Bool, false, ◌||◌, ◌==◌, List, [], ◌∷◌, ◌++◌, length, replicate, slice_get, slice_set, Option, Some, None}
 use Rattle.std.specs.Option.{option_map_or}
-use Rattle.std.specs.Str.{bytes_eq}
 use Rattle.std.proofs.Common.{refl, sym, ◌∙◌, ap, arith, inl, inr}
-use Rattle.std.proofs.lemmas.Bool.{and_parts, cases_eq, eqb-true, eq-eqb, ltb-true, ne_eqb, or_left, or_right}
-use Rattle.std.proofs.lemmas.List.{length-replicate, length-set, nil_from_length}
+use Rattle.std.proofs.lemmas.Bool.{cases_eq, eq-eqb, ne_eqb, or_left, or_right}
+use Rattle.std.proofs.lemmas.List.{length-replicate, length-set}
 use Rattle.std.proofs.lemmas.List.Folds.{list_any-append}
-use Rattle.std.proofs.lemmas.List.Sums.{AllPass-from_list_all}
 use Rattle.std.proofs.Math.Bool.{or-false}
-use Rattle.net_model.specs.Failed.{failed_links}
 use Rattle.net_model.specs.Lists.{is_among}
-use Rattle.net_model.specs.Network.{is_listed_pattern, are_patterns}
-use Rattle.net_model.specs.declared.Pattern.{Pattern}
 use Rattle.unit_flow.proofs.ConservationLaws.{is_failed-set_other, is_failed-set_same, is_used-set_other, is_used-set_same}
 use Rattle.unit_flow.specs.Residual.{is_failed_state, is_used_state, is_failed, is_used}
 use Rattle.unit_flow.specs.declared.residual.LinkState.{LinkState}
 use Rattle.unit_flow.specs.declared.residual.LinkState.TheVariants.{Free, Failed}
-
--- the links of a pattern are below the number of links
-failed_below : (patterns : List Pattern) (count pattern : ℕ) → are_patterns count patterns ≡ true → list_all (λ link. nat_lt link count) (failed_links patterns pattern) ≡ true
-failed_below [] count pattern are = cc
-failed_below (none ∷ listed) count zero are =
-    let first = (and_parts (bytes_eq none.name (codes "none") && (length none.links == 0)) (list_all (is_listed_pattern count) listed) are).0 in
-    let empty = (and_parts (bytes_eq none.name (codes "none")) (length none.links == 0) first).1 in
-    ap (list_all (λ link. nat_lt link count)) (nil_from_length none.links (eqb-true _ _ empty))
-failed_below (none ∷ listed) count (suc pattern) are =
-    listed_below listed pattern (and_parts (bytes_eq none.name (codes "none") && (length none.links == 0)) (list_all (is_listed_pattern count) listed) are).1
-  where
-    listed_below : (listed : List Pattern) (pattern : ℕ) → list_all (is_listed_pattern count) listed ≡ true → list_all (λ link. nat_lt link count) (failed_links listed pattern) ≡ true
-    listed_below [] pattern all = refl
-    listed_below (one ∷ listed) zero all = (and_parts _ _ (and_parts _ _ all).0).1
-    listed_below (one ∷ listed) (suc pattern) all = listed_below listed pattern (and_parts _ _ all).1
-
-pub failed_within : (patterns : List Pattern) (count pattern : ℕ) (p : Pattern) (links : List ℕ) (place : ℕ) → are_patterns count patterns ≡ true → slice_get patterns pattern ≡ Some p → links ≡ p.links
-    → place < length links → slice_index links place < count
-failed_within patterns count pattern p links place are at is within =
-    let same : failed_links patterns pattern ≡ links = ap (λ found. option_map_or (λ one. one.links) found []) at ∙ sym is in
-    ltb-true _ _ (AllPass-from_list_all (λ link. nat_lt link count) links (sym (ap (list_all (λ link. nat_lt link count)) same) ∙ failed_below patterns count pattern are) place 0 within)
 
 -- of so many links those of a list failed, and none is used
 pub record AreMarked (count : ℕ) (marked : List ℕ) (states : List LinkState) : Type 0 where

@@ -3,7 +3,7 @@ ghost use Rattle.std.specs.Prelude.{◌≡◌, ◌<◌, ◌*◌, true, false, le
 ghost use Rattle.counted_steps.specs.Steps.{RoseByAtMost};
 ghost use Rattle.link_chains.specs.Wiring.{IsWiring};
 ghost use Rattle.unit_flow.specs.FlowOf.{IsAugmented, turned, turned_from};
-ghost use Rattle.unit_flow.specs.Searching.{HasPlaces, HasReached, IsQueueIn, has_sink};
+ghost use Rattle.unit_flow.specs.Searching.{EndsAt, HasPlaces, HasReached, IsWayIn, has_sink, sink_of};
 
 use crate::residual::{LinkState, Residual};
 use crate::search::Search;
@@ -46,8 +46,8 @@ pub(crate) fn augment<L: Ledger>(
 fn go_back(net: &Net, residual: &mut Residual, search: &Search)
     requires states { length residual.old.states ≡ length net.now.links }
     requires sink { residual.old.demand.sink < length net.now.sinks }
-    requires queue { IsQueueIn net.now residual.old search.now }
-    requires reached { has_sink net.now residual.old search.now ≡ true }
+    requires way { IsWayIn net.now residual.old search.now }
+    requires at_sink { EndsAt (sink_of net.now residual.old) search.now }
     ensures demand { residual.new.demand ≡ residual.old.demand }
     ensures states { length residual.new.states ≡ length net.now.links }
     ensures more { IsAugmented net.now residual.old residual.new.states }

@@ -1,7 +1,7 @@
 //! Residual networks.
 ghost use Rattle.std.specs.Prelude.{◌≡◌, ◌<◌, IfOk, IfSome, length, slice_index, slice_set};
 ghost use Rattle.counted_steps.specs.Steps.{RoseBy};
-ghost use Rattle.unit_flow.specs.Residual.{HasStates, IsUnused, is_used, passage};
+ghost use Rattle.unit_flow.specs.Residual.{HasStates, IsUnused, is_failed, is_used, passage};
 
 use counted_steps::Steps;
 use net_model::{Demand, Net};
@@ -91,6 +91,14 @@ impl Residual {
             LinkState::Used if from == head => Some(tail),
             _ => None,
         }
+    }
+
+    /// Whether a link failed.
+    pub fn is_failed(&self, link: u32) -> bool
+        requires { link < length self.now.states }
+        ensures { result ≡ is_failed self.now.states link }
+    {
+        self.states[link as usize] == LinkState::Failed
     }
 
     // Changes the state of a link.

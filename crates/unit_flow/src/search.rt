@@ -1,9 +1,11 @@
-//! The search for the nodes that the source reaches.
-ghost use Rattle.std.specs.Prelude.{◌≡◌, ◌<◌, ◌+◌, ◌*◌, true, false, IfOk, length, slice_set};
+//! The search for the nodes that the source reaches, depth first.
+ghost use Rattle.std.specs.Prelude.{◌≡◌, ◌<◌, ◌≤◌, ℕ, ◌+◌, ◌-◌, ◌*◌, true, false, IfNone, IfOk, IfSome, Some, length, slice_index, slice_set};
 ghost use Rattle.counted_steps.specs.Steps.{RoseBy, RoseByAtMost};
+ghost use Rattle.link_chains.specs.Chains.{end_of};
 ghost use Rattle.link_chains.specs.Wiring.{IsWiring};
 ghost use Rattle.net_model.specs.Flows.{is_on};
-ghost use Rattle.unit_flow.specs.Searching.{AllPassed, HasPassed, HasPlaces, HasReached, IsLonger, IsQueueIn, has_sink, links_looked_at};
+ghost use Rattle.unit_flow.specs.Residual.{passage};
+ghost use Rattle.unit_flow.specs.Searching.{CountsPassed, EndsAt, GoesOn, HasPassed, HasPlaces, HasReached, HaveLedIn, IsEntry, IsLeft, IsOnChain, IsSearchIn, IsWayIn, KeepsWay, MovesAt, has_sink, last_of, passed_links, sink_of, with_entry};
 
 use crate::residual::Residual;
 use counted_steps::Steps;
@@ -12,19 +14,37 @@ use net_model::Net;
 use std::alloc::{AllocError, Global};
 use std::sync::ledger::Ledger;
 
+// A node that wasn't reached before, and the link that leads to it.
+#[derive(Clone, Copy)]
+pub(crate) struct Entry {
+    pub(crate) node: u32,
+    pub(crate) link: u32,
+}
+
+// How far the links at a node were passed.
+#[derive(Clone, Copy)]
+pub(crate) struct Passed {
+    // The first link that wasn't, or the number of links.
+    pub(crate) next: u32,
+    // What the last of them led to, where that is new.
+    pub(crate) entry: Option<Entry>,
+}
+
 // The nodes that the source reaches, as far as they were found.
 #[derive(Drop)]
 pub(crate) struct Search {
-    // The nodes that were reached, in the order in which they were, and a place for each other node.
-    pub(crate) queue: Vec<u32>,
-    // How many were reached.
-    pub(crate) queued: usize,
-    // How many of them were looked at.
-    pub(crate) done: usize,
+    // The way from the source to the node that is looked at, node by node, and a place for each other node.
+    pub(crate) way: Vec<u32>,
+    // How many nodes are on the way.
+    pub(crate) depth: usize,
     // For each node that was reached, other than the source, the link by which it was.
     pub(crate) came: Vec<u32>,
     // For each node whether it was reached.
     pub(crate) reached: Vec<bool>,
+    // For each node its first link that wasn't passed from there, or the number of links: of those that leave it,
+    // and of those that lead into it.
+    pub(crate) from: Vec<u32>,
+    pub(crate) into: Vec<u32>,
 }
 
 impl Search {
@@ -32,111 +52,190 @@ impl Search {
     pub(crate) fn new(alloc: Global, nodes: usize) -> Result<Search, AllocError>
         ensures { IfOk result (HasPlaces nodes) }
     {
-        let queue = vec![in alloc; 0; nodes]?;
+        let way = vec![in alloc; 0; nodes]?;
         let came = vec![in alloc; 0; nodes]?;
         let reached = vec![in alloc; false; nodes]?;
+        let from = vec![in alloc; 0; nodes]?;
+        let into = vec![in alloc; 0; nodes]?;
         Ok(Search {
-            queue,
-            queued: 0,
-            done: 0,
+            way,
+            depth: 0,
             came,
             reached,
+            from,
+            into,
         })
     }
 
     // Reaches the source, and nothing else.
-    fn begin(&mut self, net: &Net, residual: &Residual)
-        requires { HasPlaces (length net.now.nodes) self.old }
-        ensures queue { IsQueueIn net.now residual.now self.new }
-        ensures done { self.new.done ≡ 0 }
-        ensures one { self.new.queued ≡ 1 }
+    fn begin(&mut self, net: &Net, wiring: &Wiring, residual: &Residual)
+        requires wiring { IsWiring net.now.links (length net.now.nodes) wiring.now }
+        requires places { HasPlaces (length net.now.nodes) self.old }
+        requires sink { residual.now.demand.sink < length net.now.sinks }
+        ensures searching { IsSearchIn net.now residual.now self.new }
+        ensures sink { has_sink net.now residual.now self.new ≡ false }
+        ensures passed { passed_links net.now.links self.new ≡ 0 }
     {
         self.reached.as_mut_slice().fill(false);
         self.reached[net.source as usize] = true;
-        self.queue[0] = net.source;
-        self.queued = 1;
-        self.done = 0;
+        self.way[0] = net.source;
+        self.depth = 1;
+        self.from
+            .as_mut_slice()
+            .copy_from_slice(wiring.from.firsts.as_slice());
+        self.into
+            .as_mut_slice()
+            .copy_from_slice(wiring.into.firsts.as_slice());
     }
 
-    // Puts a node at the end of the queue, reached by a link.
-    fn put(&mut self, node: u32, link: u32)
-        requires queue { self.old.queued < length self.old.queue.items }
-        requires came { node < length self.old.came.items }
-        requires reached { node < length self.old.reached.items }
-        ensures queue { self.new.queue.items ≡ slice_set self.old.queue.items self.old.queued node }
-        ensures queued { self.new.queued ≡ self.old.queued + 1 }
-        ensures done { self.new.done ≡ self.old.done }
-        ensures came { self.new.came.items ≡ slice_set self.old.came.items node link }
-        ensures reached { self.new.reached.items ≡ slice_set self.old.reached.items node true }
-    {
-        self.queue[self.queued] = node;
-        self.queued += 1;
-        self.came[node as usize] = link;
-        self.reached[node as usize] = true;
-    }
-
-    // Passes a link from the node that is looked at, and says whether it leads to the sink.
+    // Passes a link from a node, and gives the node that it leads to, where that wasn't reached.
     fn pass<L: Ledger>(
-        &mut self,
+        &self,
         net: &Net,
         residual: &Residual,
         link: u32,
-        sink: u32,
+        node: u32,
         steps: &mut Steps<L>,
-    ) -> bool
+    ) -> Option<u32>
         requires states { length residual.now.states ≡ length net.now.links }
         requires link { link < length net.now.links }
-        requires sink { is_on self.old.reached.items sink ≡ false }
-        requires queue { IsQueueIn net.now residual.now self.old }
-        requires more { self.old.done < self.old.queued }
-        ensures queue { IsQueueIn net.now residual.now self.new }
-        ensures longer { IsLonger self.old self.new }
-        ensures passed { HasPassed net.now residual.now link self.old self.new }
-        ensures sink { is_on self.new.reached.items sink ≡ result }
+        requires places { HasPlaces (length net.now.nodes) self.now }
+        ensures entry { IfSome result (λ next.
+            IsEntry net.now residual.now.states node self.now.reached.items
+            (record { node = next; link = link })) }
+        ensures known { IfNone result ((next : ℕ)
+            → passage net.now.links residual.now.states link node ≡ Some next
+            → is_on self.now.reached.items next ≡ true) }
         ensures ticks { RoseBy 1 steps.old steps.new }
     {
-        let node = self.queue[self.done];
-        let Some(next) = residual.cross(net, link, node, steps) else {
-            return false;
-        };
-        if !self.reached[next as usize] {
-            self.put(next, link);
+        let next = residual.cross(net, link, node, steps)?;
+        if self.reached[next as usize] {
+            return None;
         }
-        next == sink
+        Some(next)
     }
 
-    // Passes the links that have an end at the node that is looked at, and says whether one leads to the sink.
+    // Passes the links at the node that is looked at, from one of them on, until one leads to a node that wasn't
+    // reached.
     fn pass_chain<L: Ledger>(
-        &mut self,
+        &self,
         net: &Net,
         wiring: &Wiring,
         end: LinkEnd,
+        residual: &Residual,
+        node: u32,
+        first: u32,
+        steps: &mut Steps<L>,
+    ) -> Passed
+        requires wiring { IsWiring net.now.links (length net.now.nodes) wiring.now }
+        requires states { length residual.now.states ≡ length net.now.links }
+        requires places { HasPlaces (length net.now.nodes) self.now }
+        requires first { IsOnChain (end_of net.now.links end) (length net.now.links) node first }
+        ensures passed { HasPassed net.now residual.now.states end node first
+            self.now.reached.items result steps.old steps.new }
+        ensures entry { IfSome result.entry
+            (IsEntry net.now residual.now.states node self.now.reached.items) }
+        ensures all { IfNone result.entry (length net.now.links ≤ result.next) }
+        ensures looked { IfSome result.entry (λ entry. steps.old < steps.new) }
+    {
+        let chains = wiring.chains(end);
+        let count = net.links.len() as u32;
+        let mut link = first;
+        while link < count {
+            let next = chains.nexts[link as usize];
+            if let Some(node) = self.pass(net, residual, link, node, steps) {
+                let entry = Some(Entry { node, link });
+                return Passed { next, entry };
+            }
+            link = next;
+        }
+        Passed {
+            next: link,
+            entry: None,
+        }
+    }
+
+    // The next node that wasn't reached, from the node that is looked at.
+    fn next_entry<L: Ledger>(
+        &mut self,
+        net: &Net,
+        wiring: &Wiring,
+        residual: &Residual,
+        steps: &mut Steps<L>,
+    ) -> Option<Entry>
+        requires wiring { IsWiring net.now.links (length net.now.nodes) wiring.now }
+        requires states { length residual.now.states ≡ length net.now.links }
+        requires searching { IsSearchIn net.now residual.now self.old }
+        requires some { 0 < self.old.depth }
+        ensures way { KeepsWay self.old self.new }
+        ensures moved { MovesAt (last_of self.old) self.old self.new }
+        ensures led { HaveLedIn net.now residual.now
+            (with_entry result self.old.reached.items) self.new }
+        ensures entry { IfSome result (IsEntry net.now residual.now.states (last_of self.old)
+            self.old.reached.items) }
+        ensures left { IfNone result (IsLeft (length net.now.links) self.new (last_of self.old)) }
+        ensures looked { IfSome result (λ entry. steps.old < steps.new) }
+        ensures ticks { CountsPassed net.now self.old self.new steps.old steps.new }
+    {
+        let node = self.way[self.depth - 1];
+        let first = self.from[node as usize];
+        let passed = self.pass_chain(net, wiring, LinkEnd::Tail, residual, node, first, steps);
+        self.from[node as usize] = passed.next;
+        if passed.entry.is_some() {
+            return passed.entry;
+        }
+        let first = self.into[node as usize];
+        let passed = self.pass_chain(net, wiring, LinkEnd::Head, residual, node, first, steps);
+        self.into[node as usize] = passed.next;
+        passed.entry
+    }
+
+    // Puts a node at the end of the way.
+    fn enter(&mut self, entry: Entry)
+        requires way { self.old.depth < length self.old.way.items }
+        requires came { entry.node < length self.old.came.items }
+        requires reached { entry.node < length self.old.reached.items }
+        ensures way { self.new.way.items ≡ slice_set self.old.way.items self.old.depth entry.node }
+        ensures depth { self.new.depth ≡ self.old.depth + 1 }
+        ensures came { self.new.came.items ≡ slice_set self.old.came.items entry.node entry.link }
+        ensures reached { self.new.reached.items
+            ≡ slice_set self.old.reached.items entry.node true }
+        ensures from { self.new.from.items ≡ self.old.from.items }
+        ensures into { self.new.into.items ≡ self.old.into.items }
+    {
+        self.way[self.depth] = entry.node;
+        self.depth += 1;
+        self.came[entry.node as usize] = entry.link;
+        self.reached[entry.node as usize] = true;
+    }
+
+    // Goes on from the node that is looked at to one that wasn't reached, or back to the one before it where there is
+    // none, and says whether it got to the sink.
+    fn go_on<L: Ledger>(
+        &mut self,
+        net: &Net,
+        wiring: &Wiring,
         residual: &Residual,
         sink: u32,
         steps: &mut Steps<L>,
     ) -> bool
         requires wiring { IsWiring net.now.links (length net.now.nodes) wiring.now }
         requires states { length residual.now.states ≡ length net.now.links }
-        requires sink { is_on self.old.reached.items sink ≡ false }
-        requires queue { IsQueueIn net.now residual.now self.old }
-        requires more { self.old.done < self.old.queued }
-        ensures queue { IsQueueIn net.now residual.now self.new }
-        ensures longer { IsLonger self.old self.new }
-        ensures passed { result ≡ false → AllPassed net.now residual.now end self.old self.new }
+        requires searching { IsSearchIn net.now residual.now self.old }
+        requires some { 0 < self.old.depth }
+        requires away { is_on self.old.reached.items sink ≡ false }
+        ensures searching { IsSearchIn net.now residual.now self.new }
         ensures sink { is_on self.new.reached.items sink ≡ result }
-        ensures ticks { RoseByAtMost (links_looked_at net.now end self.old) steps.old steps.new }
+        ensures at_sink { result ≡ true → EndsAt sink self.new }
+        ensures ticks { CountsPassed net.now self.old self.new steps.old steps.new }
+        ensures sooner { GoesOn net.now self.old self.new }
     {
-        let chains = wiring.chains(end);
-        let count = net.links.len() as u32;
-        let node = self.queue[self.done];
-        let mut link = chains.firsts[node as usize];
-        while link < count {
-            if self.pass(net, residual, link, sink, steps) {
-                return true;
-            }
-            link = chains.nexts[link as usize];
-        }
-        false
+        let Some(entry) = self.next_entry(net, wiring, residual, steps) else {
+            self.depth -= 1;
+            return false;
+        };
+        self.enter(entry);
+        entry.node == sink
     }
 
     // Searches from the source until the sink is reached or no node is left, and says whether it is.
@@ -151,20 +250,18 @@ impl Search {
         requires states { length residual.now.states ≡ length net.now.links }
         requires sink { residual.now.demand.sink < length net.now.sinks }
         requires places { HasPlaces (length net.now.nodes) self.old }
-        ensures queue { IsQueueIn net.now residual.now self.new }
+        ensures way { IsWayIn net.now residual.now self.new }
         ensures sink { has_sink net.now residual.now self.new ≡ result }
+        ensures at_sink { result ≡ true → EndsAt (sink_of net.now residual.now) self.new }
         ensures reached { result ≡ false → HasReached net.now residual.now self.new }
         ensures ticks { RoseByAtMost (2 * length net.now.links) steps.old steps.new }
     {
         let sink = residual.sink(net);
-        self.begin(net, residual);
-        while self.done < self.queued {
-            if self.pass_chain(net, wiring, LinkEnd::Tail, residual, sink, steps)
-                || self.pass_chain(net, wiring, LinkEnd::Head, residual, sink, steps)
-            {
+        self.begin(net, wiring, residual);
+        while self.depth > 0 {
+            if self.go_on(net, wiring, residual, sink, steps) {
                 return true;
             }
-            self.done += 1;
         }
         false
     }

@@ -1,6 +1,5 @@
 //! Blocks that go over links, code by code: whether every sink has each block, and what was put.
 mod carrying;
-mod codes;
 mod counts;
 mod faults;
 mod orders;

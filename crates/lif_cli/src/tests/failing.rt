@@ -1,7 +1,7 @@
 //! Whole runs over files in memory, of which each call fails in turn: the calls on the store are those of the run in
 //! which none fails, up to the one that failed, and nothing comes behind that.
 use super::memory::MemFiles;
-use super::{behind_reads, varied_bytes, words_of};
+use super::{behind_reads, is_stream, varied_bytes, words_of};
 use crate::disk::FileStore;
 use crate::run::{Words, run};
 use lif_outside::{MemSink, SeedLinks};
@@ -111,32 +111,6 @@ fn goes_as(status: ExitCode, said: &[u8], log: &[Event], whole: &[Event]) -> boo
         && is_failed(last, next)
 }
 
-// The bytes that an append added to a path.
-fn bytes_added<'a>(event: &'a Event, path: &str) -> Option<&'a [u8]> {
-    match event {
-        Event::Appended { path: other, bytes } if other.as_str() == path => Some(bytes.as_slice()),
-        _ => None,
-    }
-}
-
-// Whether the log has appends alone, of each piece to each of the two sinks' files, which together add these bytes.
-fn are_appends_to_both(log: &[Event], held: &[u8]) -> bool {
-    let mut rest = held;
-    for pair in log.chunks(2) {
-        let [first, second] = pair else {
-            return false;
-        };
-        let Some(bytes) = bytes_added(first, "out.t1") else {
-            return false;
-        };
-        match rest.strip_prefix(bytes) {
-            Some(more) if bytes_added(second, "out.t2") == Some(bytes) => rest = more,
-            _ => return false,
-        }
-    }
-    rest.is_empty()
-}
-
 // Whether a log begins with the creates of the sinks' files, in order.
 fn behind_creates(log: &[Event]) -> Option<&[Event]> {
     match log {
@@ -149,12 +123,11 @@ fn behind_creates(log: &[Event]) -> Option<&[Event]> {
     }
 }
 
-// Whether these are the calls of a source that was sent to both sinks.
+// Whether these are the calls of a source that was streamed to both sinks.
 fn is_sending(log: &[Event], source: &[u8]) -> bool {
     behind_reads(log, "code", BUTTERFLY)
         .and_then(behind_creates)
-        .and_then(|log| behind_reads(log, "source", source))
-        .is_some_and(|log| are_appends_to_both(log, source))
+        .is_some_and(|log| is_stream(log, "source", &["out.t1", "out.t2"], source))
 }
 
 // A system with the code and the source, of which the call of this number fails.

@@ -1,5 +1,5 @@
 -- What `demo` has before a block is carried.
-use Rattle.std.specs.Prelude.{◌≡◌, ◌*◌, ℕ, false, [], length, replicate}
+use Rattle.std.specs.Prelude.{◌≡◌, ◌*◌, false, [], length, replicate}
 use Rattle.coded_traffic.specs.Traffic.{live_links_of}
 use Rattle.generation_frame.specs.Blocks.{pieces}
 use Rattle.node_program.specs.declared.code.Code.{Code}
@@ -15,5 +15,6 @@ pub record IsBegun {F : Type 0} (demo : Demo) (code : Code) (begun : Begun F) : 
   pub from_start : begun.delivery.runner.next ≡ 0
   pub works : begun.delivery.runner.has_failed ≡ false
   pub paths : paths_of begun.delivery ≡ replicate (length code.net.sinks) []
+  pub nothing : begun.delivery.gathered.items ≡ []
   pub source : begun.source.items ≡ source_of demo
   pub frames : begun.frames ≡ length (live_links_of code 0) * pieces

@@ -9,7 +9,6 @@ use Rattle.node_program.specs.declared.code.Code.{Code}
 use Rattle.relay_runner.specs.Carried.{packets_given}
 use Rattle.top_base.specs.Lines.{demo_lines, link_fault_line, out_of_memory_line}
 use Rattle.top_base.specs.Words.{Demo}
-use Rattle.top_base.specs.declared.outcome.Outcome.{Outcome}
 use Rattle.top_base.specs.declared.status.Status.{Status}
 use Rattle.top_base.specs.declared.status.Status.TheVariants.{Done, LinkFault, OutOfMemory}
 use Rattle.lif_top.specs.Demo.Given.{IsDemoCode, blocks_in, demo_seed, source_of}

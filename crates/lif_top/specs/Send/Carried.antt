@@ -14,11 +14,11 @@ use Rattle.lif_top.specs.Send.Turns.{turns_before}
 abbrev pub blocks_from : List ℕ → ℕ → ℕ → ℕ → List (List ℕ)
 blocks_from file rate first count = map (λ generation. block_of rate (piece_of file rate generation)) (range_with_len first count)
 
--- blocks were carried that are numbered from 0 on; where there is none, there is no call
-abbrev pub AreCarried : Bool → Code → ℕ → List (List ℕ) → List Move → Type 0
-AreCarried faithful code pattern [] moves = moves ≡ []
-AreCarried faithful code pattern (block ∷ blocks) moves =
-    IsCarried faithful code pattern (record { first = 0; blocks = block ∷ blocks }) moves
+-- blocks were carried that are numbered from a generation on; where there is none, there is no call
+abbrev pub AreCarried : Bool → Code → ℕ → ℕ → List (List ℕ) → List Move → Type 0
+AreCarried faithful code pattern first [] moves = moves ≡ []
+AreCarried faithful code pattern first (block ∷ blocks) moves =
+    IsCarried faithful code pattern (record { first = first; blocks = block ∷ blocks }) moves
 
 -- Of the blocks that there are of a file, the first ones were carried, and of the calls on the links after that R holds.
 pub record CarriesFirst (faithful : Bool) (code : Code) (pattern : ℕ) (file : List ℕ) (blocks : ℕ) (R : ℕ → List Move → Type 0) (carried : ℕ)
@@ -27,7 +27,7 @@ pub record CarriesFirst (faithful : Bool) (code : Code) (pattern : ℕ) (file : 
   pub later : List Move
   pub moves_are : moves ≡ first ++ later
   pub some : carried ≤ blocks
-  pub carries : AreCarried faithful code pattern (blocks_from file code.rate 0 carried) first
+  pub carries : AreCarried faithful code pattern 0 (blocks_from file code.rate 0 carried) first
   pub rest : R carried later
 
 -- no further call was made

@@ -25,11 +25,15 @@ abbrev pub blocks_brought : List Event → ℕ → ℕ
 blocks_brought reads rate =
     if have_ended reads then block_count (bytes_read reads) rate else length (bytes_read reads) / capacity rate
 
--- What each sink's file gets of what was read of SRC: generation by generation, of the blocks that were carried, and of each
+-- What the files at these paths get of what was read: generation by generation, of the blocks that were carried, and of each
 -- sink by sink, what the sink decodes of the packets that came.
+abbrev pub deliveries_to : List (List ℕ) → Code → ℕ → List Packet → ℕ → List Event → List Event
+deliveries_to paths code pattern came carried reads =
+    appends_of (turns_before paths code pattern came (min carried (blocks_brought reads code.rate)))
+
+-- what each sink's file gets of what was read of SRC
 abbrev pub deliveries : Send → Code → List Packet → ℕ → List Event → List Event
-deliveries send code came carried reads =
-    appends_of (turns_before (outputs_of send code) code (pattern_in send code) came (min carried (blocks_brought reads code.rate)))
+deliveries send code = deliveries_to (outputs_of send code) code (pattern_in send code)
 
 -- how many frames may fly: 4 generations of 8 pieces for each link
 abbrev pub room_for : Code → ℕ

@@ -24,9 +24,13 @@ abbrev pub parts_from : List (List ℕ) → Code → ℕ → List Packet → ℕ
 parts_from paths code pattern came generation sink count =
     filter has_bytes (map (part_at paths code pattern came generation) (range_with_len sink count))
 
--- what all get, and what they get of the first generations
+-- what all get
 abbrev pub turn_at : List (List ℕ) → Code → ℕ → List Packet → ℕ → List Written
 turn_at paths code pattern came generation = parts_from paths code pattern came generation 0 (length paths)
 
+-- and what they get of so many generations, from one on, and of the first ones
+abbrev pub turns_from : List (List ℕ) → Code → ℕ → List Packet → ℕ → ℕ → List (List Written)
+turns_from paths code pattern came first count = map (turn_at paths code pattern came) (range_with_len first count)
+
 abbrev pub turns_before : List (List ℕ) → Code → ℕ → List Packet → ℕ → List (List Written)
-turns_before paths code pattern came generations = map (turn_at paths code pattern came) (range_with_len 0 generations)
+turns_before paths code pattern came generations = turns_from paths code pattern came 0 generations

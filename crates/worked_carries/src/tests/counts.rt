@@ -1,10 +1,10 @@
 //! How many frames are put for a block, and which bytes they have.
 use super::carrying::{Course, carries};
-use super::codes::checked_of;
 use lif_outside::SeedLinks;
 use std::alloc::Global;
 use std::test;
 use std::thread::Threads;
+use worked_rows::codes::checked_of;
 use worked_rows::files::{BUTTERFLY, ONE_LINK, TWO_WAYS};
 use worked_rows::watched::watch;
 
@@ -18,7 +18,7 @@ fn put_for<R: Threads + Sync>(
     link: u32,
     piece: u8,
 ) -> Option<(usize, Option<[u8; 140]>)> {
-    let code = checked_of(rt, alloc, file)?;
+    let code = checked_of(rt, alloc, file).ok()?;
     let course = Course {
         pattern,
         seed: 0,

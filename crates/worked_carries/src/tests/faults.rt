@@ -2,7 +2,6 @@
 ghost use Rattle.std.specs.Prelude.{◌≡◌, []};
 ghost use Rattle.gf_tables.specs.Kind.{IsOfKind};
 
-use super::codes::checked_of;
 use code_checker::Checked;
 use generation_frame::ROW;
 use gf_tables::{Field, FieldKind, Gf8};
@@ -11,6 +10,7 @@ use relay_runner::Runner;
 use std::alloc::Global;
 use std::test;
 use std::thread::Threads;
+use worked_rows::codes::checked_of;
 use worked_rows::files::BUTTERFLY;
 
 // Whether a block is carried under the first pattern, where the runner says the same of its failure.
@@ -42,7 +42,7 @@ fn is_carried<F: Field, K: Links>(
 // The same of the butterfly, where one put and one take are to fail.
 #[tactic(auto, unfolding(gf_tables::specs::Product::product))]
 fn carries_with<R: Threads + Sync>(rt: &R, alloc: Global, put: u64, take: u64) -> Option<bool> {
-    let code = checked_of(rt, alloc, BUTTERFLY)?;
+    let code = checked_of(rt, alloc, BUTTERFLY).ok()?;
     let puts = Vec::from_slice(alloc, &[put]).ok()?;
     let takes = Vec::from_slice(alloc, &[take]).ok()?;
     let mut links = ListLinks::new(alloc, Vec::new(alloc), puts, takes);

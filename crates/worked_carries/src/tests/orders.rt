@@ -1,17 +1,17 @@
 //! The order in which links deliver.
 use super::carrying::{Course, carries};
-use super::codes::checked_of;
 use lif_outside::SeedLinks;
 use std::alloc::Global;
 use std::test;
 use std::thread::Threads;
+use worked_rows::codes::checked_of;
 use worked_rows::files::{BUTTERFLY, DOUBLED_ONE_LINK, ONE_LINK, TWO_WAYS, WIDE_ONE_LINK};
 use worked_rows::orders::listed;
 use worked_rows::runs::source_of;
 
 // Whether two blocks come through a code in an order that a number decides.
 fn by_seed<R: Threads + Sync>(rt: &R, alloc: Global, file: &[u8], course: Course) -> Option<bool> {
-    let code = checked_of(rt, alloc, file)?;
+    let code = checked_of(rt, alloc, file).ok()?;
     let source = source_of(alloc, 16384)?;
     let mut links = SeedLinks::new(alloc);
     Some(carries(alloc, &code, course, &mut links, &source))
@@ -25,7 +25,7 @@ fn by_list<R: Threads + Sync>(
     course: Course,
     rule: u32,
 ) -> Option<bool> {
-    let code = checked_of(rt, alloc, file)?;
+    let code = checked_of(rt, alloc, file).ok()?;
     let source = source_of(alloc, 16384)?;
     let mut links = listed(alloc, rule)?;
     Some(carries(alloc, &code, course, &mut links, &source))

@@ -1,9 +1,11 @@
 //! Which jobs enter the gate that a command is given.
+use super::fields::push_line;
 use super::store_with;
 use lif_outside::{Gate, MemSink, SeedLinks};
 use lif_top::{Status, lif};
-use std::alloc::Global;
+use std::alloc::{AllocError, Global};
 use std::sync::atomic::{AtomicU64, Ordering};
+use std::test;
 use std::thread::Threads;
 use worked_rows::files::BUTTERFLY;
 use worked_rows::runs::words_of;
@@ -22,6 +24,45 @@ impl Gate for Entries {
     }
 }
 
+// A gate at which each job turns until another one has entered. It counts the entries as `Entries` does, and the jobs
+// that no other one met.
+#[derive(Drop)]
+struct Meeting {
+    counted: AtomicU64,
+    alone: AtomicU64,
+}
+
+// How often a job turns at most.
+const MOST_TURNS: u32 = 1_000_000_000;
+
+impl Gate for Meeting {
+    fn enter(&self, job: u32) {
+        let one = 10u64.saturating_pow(job);
+        self.counted.fetch_add(one, Ordering::SeqCst);
+        for _turn in 0..MOST_TURNS {
+            if self.counted.load(Ordering::SeqCst) != one {
+                return;
+            }
+        }
+        self.alone.fetch_add(1, Ordering::SeqCst);
+    }
+}
+
+// How a command on the file at `in` ends, by a gate.
+fn ended<G: Gate + Sync, R: Threads + Sync>(
+    rt: &R,
+    alloc: Global,
+    words: &[&str],
+    file: &[u8],
+    gate: &G,
+) -> Option<Status> {
+    let words = words_of(alloc, words).ok()?;
+    let mut store = store_with(alloc, 65536, &[], "in", file).ok()?;
+    let mut say = MemSink::new(alloc, Vec::new(alloc));
+    let mut links = SeedLinks::new(alloc);
+    Some(lif(rt, alloc, &words, &mut store, &mut say, &mut links, gate))
+}
+
 // What enters the gate of a command on the file at `in`, where the command is done.
 fn entries_of<R: Threads + Sync>(
     rt: &R,
@@ -29,15 +70,11 @@ fn entries_of<R: Threads + Sync>(
     words: &[&str],
     file: &[u8],
 ) -> Option<u64> {
-    let words = words_of(alloc, words).ok()?;
-    let mut store = store_with(alloc, 65536, &[], "in", file).ok()?;
-    let mut say = MemSink::new(alloc, Vec::new(alloc));
     let gate = Entries {
         counted: AtomicU64::new(0),
     };
-    let mut links = SeedLinks::new(alloc);
-    match lif(rt, alloc, &words, &mut store, &mut say, &mut links, &gate) {
-        Status::Done => Some(gate.counted.load(Ordering::SeqCst)),
+    match ended(rt, alloc, words, file, &gate) {
+        Some(Status::Done) => Some(gate.counted.load(Ordering::SeqCst)),
         _ => None,
     }
 }
@@ -74,4 +111,38 @@ fn jobs_enter_the_gate(rt: HostRuntime) {
             "{entries}"
         );
     }
+}
+
+// A network of 256 demands: sixteen sinks, each with a link from the source, and fifteen patterns, in each of which a
+// link fails that leads to another node.
+fn wide(alloc: Global) -> Result<Vec<u8>, AllocError> {
+    let mut text = Vec::from_slice(alloc, b"source s\n")?;
+    for sink in 1..=16u32 {
+        push_line(
+            &mut text,
+            &format!(in alloc; "sink t{sink}\nlink l{sink} s t{sink}\n")?,
+        )?;
+    }
+    for pattern in 1..=15u32 {
+        push_line(
+            &mut text,
+            &format!(in alloc; "link e{pattern} s x\npattern p{pattern} e{pattern}\n")?,
+        )?;
+    }
+    Ok(text)
+}
+
+#[test]
+fn certificates_are_made_side_by_side(rt: HostRuntime) -> Result<(), test::Fail> {
+    let text = wide(rt.alloc())?;
+    for words in [CUTS, COMPILE] {
+        let gate = Meeting {
+            counted: AtomicU64::new(0),
+            alone: AtomicU64::new(0),
+        };
+        assert!(rt; ended(&rt, rt.alloc(), words, &text, &gate) == Some(Status::Done));
+        assert!(rt; gate.counted.load(Ordering::SeqCst) == 1111);
+        assert!(rt; gate.alone.load(Ordering::SeqCst) == 0);
+    }
+    Ok(())
 }

@@ -1,4 +1,4 @@
-//! Bases on a frontier: the vectors and inverses after renewals.
+//! Bases on a frontier: the vectors and inverses after vectors were replaced, by both ways.
 use super::counting::{Counted, run_over};
 use super::numbered::{element, row, two_by_two};
 use counted_steps::Steps;
@@ -33,9 +33,31 @@ fn is_dual<F: Field>(basis: &Basis<F>) -> bool {
     dual
 }
 
-// Renews a path where the product isn't zero, and tells whether it did.
-fn renew<F: Field, L: Ledger>(
+// Whether the entries of two matrices are the same.
+fn are_same<F: Field>(a: &Matrix<F>, b: &Matrix<F>) -> bool {
+    if a.rows() != b.rows() || a.columns() != b.columns() {
+        return false;
+    }
+    let mut same = true;
+    for i in 0..a.rows() {
+        for j in 0..a.columns() {
+            same = same && a.at(i, j) == b.at(i, j);
+        }
+    }
+    same
+}
+
+// How the inverse vectors are found: by one pass over the old ones, or as the inverse of the vectors.
+#[derive(Clone, Copy, Debug)]
+enum Way {
+    Advance,
+    Renew,
+}
+
+// Replaces the vector of a path where the product isn't zero, and tells whether it did.
+fn replace<F: Field, L: Ledger>(
     alloc: Global,
+    way: Way,
     basis: &mut Basis<F>,
     path: u32,
     link: u32,
@@ -49,12 +71,16 @@ fn renew<F: Field, L: Ledger>(
     if dot(vector, basis.inverses.row(path), steps) == F::zero() {
         return Ok(false);
     }
-    basis.renew(alloc, path, link, vector)?;
+    match way {
+        Way::Advance => basis.advance(path, link, vector, steps),
+        Way::Renew => basis.renew(alloc, path, link, vector)?,
+    }
     Ok(true)
 }
 
 // The unit vectors of length 2 with the vector of one path replaced.
-struct FirstRenewal {
+struct FirstReplaced {
+    way: Way,
     path: u32,
     vector: [u32; 2],
 }
@@ -72,15 +98,16 @@ fn two_paths<F: Field>(basis: &Basis<F>) -> Option<TwoPaths> {
     Some((links, vectors, inverses))
 }
 
-impl Counted for FirstRenewal {
+impl Counted for FirstReplaced {
     type Found = Option<TwoPaths>;
 
     // The link is 7.
     fn run<F: Field, L: Ledger>(self, alloc: Global, mut steps: Steps<L>) -> Option<TwoPaths> {
-        let FirstRenewal { path, vector } = self;
+        let FirstReplaced { way, path, vector } = self;
         let vector = row::<F>(alloc, &vector).ok()?;
         let mut basis = Basis::<F>::start(alloc, 2).ok()?;
-        renew(alloc, &mut basis, path, 7, vector.as_slice(), &mut steps).ok()?;
+        let vector = vector.as_slice();
+        replace(alloc, way, &mut basis, path, 7, vector, &mut steps).ok()?;
         two_paths(&basis)
     }
 }
@@ -93,8 +120,11 @@ fn the_first_vector_is_replaced(rt: HostRuntime) {
         (1, [1, 0], ([None, None], [1, 0, 0, 1], [1, 0, 0, 1])),
     ];
     for (path, vector, right) in cases {
-        let found = run_over::<Gf8, FirstRenewal>(rt.alloc(), FirstRenewal { path, vector });
-        assert!(rt; found == Some(right), "{path}, {vector:?}");
+        for way in [Way::Advance, Way::Renew] {
+            let first = FirstReplaced { way, path, vector };
+            let found = run_over::<Gf8, FirstReplaced>(rt.alloc(), first);
+            assert!(rt; found == Some(right), "{way:?}, {path}, {vector:?}");
+        }
     }
 }
 
@@ -127,16 +157,52 @@ fn vector_of<F: Field>(
     Ok(vector)
 }
 
-// One round, and whether it was a renewal.
-fn renew_in<F: Field, L: Ledger>(
-    alloc: Global,
-    basis: &mut Basis<F>,
-    round: u32,
-    path: u32,
-    steps: &mut Steps<L>,
-) -> Result<bool, AllocError> {
-    let vector = vector_of(alloc, basis, round, path)?;
-    renew(alloc, basis, path, round, vector.as_slice(), steps)
+// Two bases that begin with the unit vectors: one is advanced, and the other renewed.
+#[derive(Drop)]
+struct Twins<F: Field> {
+    advanced: Basis<F>,
+    renewed: Basis<F>,
+}
+
+impl<F: Field> Twins<F> {
+    // Whether both have the same vectors and inverses, and the products of these are right.
+    fn are_right(&self) -> bool {
+        let Twins { advanced, renewed } = self;
+        is_dual(advanced)
+            && are_same(&advanced.vectors, &renewed.vectors)
+            && are_same(&advanced.inverses, &renewed.inverses)
+    }
+
+    // One round for both, and whether a vector was replaced.
+    fn go_on<L: Ledger>(
+        &mut self,
+        alloc: Global,
+        round: u32,
+        path: u32,
+        steps: &mut Steps<L>,
+    ) -> Result<bool, AllocError> {
+        let vector = vector_of(alloc, &self.advanced, round, path)?;
+        let vector = vector.as_slice();
+        let advanced = replace(
+            alloc,
+            Way::Advance,
+            &mut self.advanced,
+            path,
+            round,
+            vector,
+            steps,
+        )?;
+        let renewed = replace(
+            alloc,
+            Way::Renew,
+            &mut self.renewed,
+            path,
+            round,
+            vector,
+            steps,
+        )?;
+        Ok(advanced && renewed)
+    }
 }
 
 // So many rounds from the unit vectors of a length.
@@ -148,35 +214,40 @@ struct Rounds {
 impl Counted for Rounds {
     type Found = Option<(u32, bool)>;
 
-    // How many were renewals, and whether the products were right after each.
+    // In how many a vector was replaced, and whether both bases were right after each.
     fn run<F: Field, L: Ledger>(self, alloc: Global, mut steps: Steps<L>) -> Option<(u32, bool)> {
         let Rounds { h, rounds } = self;
         if h < 1 || h > HIGHEST_RATE {
             return None;
         }
-        let mut basis = Basis::<F>::start(alloc, h).ok()?;
-        let mut right = is_dual(&basis);
+        let mut twins = Twins {
+            advanced: Basis::<F>::start(alloc, h).ok()?,
+            renewed: Basis::<F>::start(alloc, h).ok()?,
+        };
+        let mut right = twins.are_right();
         let mut made = 0u32;
         for round in 0..rounds {
-            if renew_in(alloc, &mut basis, round, round % h, &mut steps).ok()? {
+            if twins.go_on(alloc, round, round % h, &mut steps).ok()? {
                 made = made.wrapping_add(1);
             }
-            right = right && is_dual(&basis);
+            right = right && twins.are_right();
         }
         Some((made, right))
     }
 }
 
-// How many of so many rounds were renewals, and whether the products were right after each.
-fn renewals<F: Field>(alloc: Global, h: u32, rounds: u32) -> Option<(u32, bool)> {
+// In how many of so many rounds a vector was replaced, and whether both bases were right after each.
+fn replaced<F: Field>(alloc: Global, h: u32, rounds: u32) -> Option<(u32, bool)> {
     run_over::<F, Rounds>(alloc, Rounds { h, rounds })
 }
 
 #[test]
-fn the_products_stay_right(rt: HostRuntime) {
-    let some = renewals::<Gf16>(rt.alloc(), 4, 50);
-    let one = renewals::<Gf8>(rt.alloc(), 1, 3);
-    let most = renewals::<Gf16>(rt.alloc(), HIGHEST_RATE, 3);
+fn both_ways_agree(rt: HostRuntime) {
+    let eight = replaced::<Gf8>(rt.alloc(), 2, 10);
+    let some = replaced::<Gf16>(rt.alloc(), 4, 50);
+    let one = replaced::<Gf8>(rt.alloc(), 1, 3);
+    let most = replaced::<Gf16>(rt.alloc(), HIGHEST_RATE, 3);
+    assert!(rt; eight == Some((8, true)), "{eight:?}");
     assert!(rt; some == Some((40, true)), "{some:?}");
     assert!(rt; one == Some((3, true)), "{one:?}");
     assert!(rt; most == Some((3, true)), "{most:?}");

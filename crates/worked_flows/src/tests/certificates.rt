@@ -227,34 +227,92 @@ fn all_demands_are_certified(rt: HostRuntime) {
     }
 }
 
-// A gate that keeps the numbers of the jobs, each and one more, as the digits of a number.
+// A gate that counts the entries of each job: those of job 0 are the last digit, those of job 1 the digit before it.
 #[derive(Drop)]
-struct Digits {
-    kept: AtomicU64,
+struct Entries {
+    counted: AtomicU64,
 }
 
-impl Gate for Digits {
+impl Gate for Entries {
     fn enter(&self, job: u32) {
-        let before = self.kept.load(Ordering::SeqCst);
-        let digit = u64::from(job).wrapping_add(1);
-        self.kept.store(
-            before.wrapping_mul(10).wrapping_add(digit),
-            Ordering::SeqCst,
-        );
+        self.counted
+            .fetch_add(10u64.saturating_pow(job), Ordering::SeqCst);
     }
 }
 
 // Whether so many workers certify two links, and enter these jobs.
 fn are_entered<R: Threads + Sync>(rt: &R, alloc: Global, workers: u32, jobs: u64) -> bool {
-    let gate = Digits {
-        kept: AtomicU64::new(0),
+    let gate = Entries {
+        counted: AtomicU64::new(0),
     };
-    is_certified(rt, alloc, &TWO_LINKS, workers, &gate) && gate.kept.load(Ordering::SeqCst) == jobs
+    is_certified(rt, alloc, &TWO_LINKS, workers, &gate)
+        && gate.counted.load(Ordering::SeqCst) == jobs
 }
 
 #[test]
 fn any_number_of_workers(rt: HostRuntime) {
-    for (workers, jobs) in [(1, 1), (2, 12), (4, 123), (7, 123)] {
+    for (workers, jobs) in [(1, 1), (2, 11), (4, 111), (7, 111)] {
         assert!(rt; are_entered(&rt, rt.alloc(), workers, jobs), "{workers}");
+    }
+}
+
+// A gate at which each job turns until another one has entered. It counts the entries as `Entries` does, and the jobs
+// that no other one met.
+#[derive(Drop)]
+struct Meeting {
+    counted: AtomicU64,
+    alone: AtomicU64,
+}
+
+// How often a job turns at most.
+const MOST_TURNS: u32 = 1_000_000_000;
+
+impl Gate for Meeting {
+    fn enter(&self, job: u32) {
+        let one = 10u64.saturating_pow(job);
+        self.counted.fetch_add(one, Ordering::SeqCst);
+        for _turn in 0..MOST_TURNS {
+            if self.counted.load(Ordering::SeqCst) != one {
+                return;
+            }
+        }
+        self.alone.fetch_add(1, Ordering::SeqCst);
+    }
+}
+
+// A network of 256 demands: sixteen sinks, each with a link from the source, and fifteen patterns, in each of which a
+// link fails that leads to another node.
+fn wide_network(alloc: Global) -> Option<Net> {
+    let mut ends = Vec::new(alloc);
+    let mut sinks = Vec::new(alloc);
+    for sink in 1..=16 {
+        ends.push((0, sink)).ok()?;
+        sinks.push(sink).ok()?;
+    }
+    ends.push((0, 17)).ok()?;
+    numbered(alloc, &ends, &sinks, &[[16].as_slice(); 15])
+}
+
+// Whether so many workers certify the 256 demands, and each job meets another one.
+fn do_meet<R: Threads + Sync>(rt: &R, alloc: Global, workers: u32, jobs: u64) -> bool {
+    let gate = Meeting {
+        counted: AtomicU64::new(0),
+        alone: AtomicU64::new(0),
+    };
+    let certified = match wide_network(alloc) {
+        Some(net) if workers > 0 && demands(&net) <= PAIR_DEMANDS => {
+            matches!(certify_all(rt, alloc, &net, workers, &gate), Ok(certs) if certs.len() == 256)
+        }
+        _ => false,
+    };
+    certified
+        && gate.counted.load(Ordering::SeqCst) == jobs
+        && gate.alone.load(Ordering::SeqCst) == 0
+}
+
+#[test]
+fn jobs_run_side_by_side(rt: HostRuntime) {
+    for (workers, jobs) in [(2, 11), (3, 111), (4, 1111)] {
+        assert!(rt; do_meet(&rt, rt.alloc(), workers, jobs), "{workers}");
     }
 }

@@ -1,7 +1,7 @@
 //! Greatest flows and least sides of networks from node 0 to node 1.
 use super::steps::flow_at;
 use super::{are_paths, numbered};
-use net_model::Net;
+use net_model::{MOST_LINKS, MOST_NODES, Net};
 use std::alloc::{AllocError, Global};
 use unit_flow::Flow;
 
@@ -111,12 +111,15 @@ fn small_networks(rt: HostRuntime) {
     }
 }
 
+// How many hops a path through all nodes of a network has, of which there are as many as there can be.
+const HOPS: u32 = MOST_NODES as u32 - 1;
+
 // Whether a path takes every second link, from this one on.
 fn is_every_second(path: &[u32], first: u32) -> bool {
-    if path.len() != 4095 {
+    if path.len() != HOPS as usize {
         return false;
     }
-    for place in 0..4095u32 {
+    for place in 0..HOPS {
         if path[place as usize] != 2 * place + first % 2 {
             return false;
         }
@@ -151,9 +154,9 @@ fn are_two_paths_found(alloc: Global, net: &Net) -> bool {
 // Two links between each node and the next.
 fn is_path_found(alloc: Global) -> Result<bool, AllocError> {
     let mut ends = Vec::new(alloc);
-    for hop in 0..4095u32 {
+    for hop in 0..HOPS {
         let tail = if hop == 0 { 0 } else { hop + 1 };
-        let head = if hop == 4094 { 1 } else { hop + 2 };
+        let head = if hop == HOPS - 1 { 1 } else { hop + 2 };
         ends.push((tail, head))?;
         ends.push((tail, head))?;
     }
@@ -164,7 +167,7 @@ fn is_path_found(alloc: Global) -> Result<bool, AllocError> {
 }
 
 #[test]
-fn a_path_of_4096_nodes(rt: HostRuntime) {
+fn a_path_of_the_most_nodes(rt: HostRuntime) {
     assert!(rt; matches!(is_path_found(rt.alloc()), Ok(true)));
 }
 
@@ -176,7 +179,7 @@ fn are_links(flow: &Flow) -> bool {
             return false;
         }
     }
-    flow.paths.len() == 8192
+    flow.paths.len() == MOST_LINKS
 }
 
 fn are_links_found(alloc: Global, net: &Net) -> bool {
@@ -187,7 +190,7 @@ fn are_links_found(alloc: Global, net: &Net) -> bool {
 }
 
 fn are_parallel_found(alloc: Global) -> Result<bool, AllocError> {
-    let ends = vec![in alloc; (0, 1); 8192]?;
+    let ends = vec![in alloc; (0, 1); MOST_LINKS]?;
     match numbered(alloc, &ends, &[1], &[]) {
         Some(net) => Ok(are_links_found(alloc, &net)),
         None => Ok(false),

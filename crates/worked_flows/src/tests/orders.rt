@@ -1,6 +1,6 @@
 //! Orders of the links of networks, and cycles.
 use super::numbered;
-use net_model::Net;
+use net_model::{MOST_LINKS, MOST_NODES, Net};
 use std::alloc::{AllocError, Global};
 use topo_order::{OrderRefusal, order};
 
@@ -105,24 +105,27 @@ fn rising(alloc: Global, bound: u32) -> Result<Vec<u32>, AllocError> {
     Ok(numbers)
 }
 
+// As many nodes as there can be.
+const NODES: u32 = MOST_NODES as u32;
+
 // A link from each node to the next, and from the last to the first.
 fn is_loop_shown(alloc: Global) -> Result<bool, AllocError> {
     let mut ends = Vec::new(alloc);
-    for node in 0..4096u32 {
-        ends.push((node, (node + 1) % 4096))?;
+    for node in 0..NODES {
+        ends.push((node, (node + 1) % NODES))?;
     }
-    let links = rising(alloc, 4096)?;
+    let links = rising(alloc, NODES)?;
     Ok(is_shown_of(alloc, &ends, Shown::Cycle, &links))
 }
 
 #[test]
-fn a_loop_of_4096_nodes(rt: HostRuntime) {
+fn a_loop_of_the_most_nodes(rt: HostRuntime) {
     assert!(rt; matches!(is_loop_shown(rt.alloc()), Ok(true)));
 }
 
 fn are_parallel_shown(alloc: Global) -> Result<bool, AllocError> {
-    let ends = vec![in alloc; (0, 1); 8192]?;
-    let links = rising(alloc, 8192)?;
+    let ends = vec![in alloc; (0, 1); MOST_LINKS]?;
+    let links = rising(alloc, MOST_LINKS as u32)?;
     Ok(is_shown_of(alloc, &ends, Shown::Order, &links))
 }
 
@@ -135,9 +138,9 @@ fn links_of_one_node(rt: HostRuntime) {
 fn is_path_shown(alloc: Global) -> Result<bool, AllocError> {
     let mut ends = Vec::new(alloc);
     let mut links = Vec::new(alloc);
-    for node in 1..4096u32 {
-        for link in [8190 - 2 * node, 8191 - 2 * node] {
-            ends.push(((node + 1) % 4096, node))?;
+    for node in 1..NODES {
+        for link in [2 * (NODES - 1 - node), 2 * (NODES - 1 - node) + 1] {
+            ends.push(((node + 1) % NODES, node))?;
             links.push(link)?;
         }
     }
@@ -145,6 +148,6 @@ fn is_path_shown(alloc: Global) -> Result<bool, AllocError> {
 }
 
 #[test]
-fn a_path_of_4096_nodes(rt: HostRuntime) {
+fn a_path_of_the_most_nodes(rt: HostRuntime) {
     assert!(rt; matches!(is_path_shown(rt.alloc()), Ok(true)));
 }

@@ -1,10 +1,4 @@
-//! Code files that only these tests read, and the codes of files.
-use super::hands::Wrong;
-use code_checker::{Checked, check};
-use code_file::{CODE_LIMIT, read_code};
-use lif_outside::NoGate;
-use std::alloc::Global;
-use std::thread::Threads;
+//! Code files that only these tests read.
 
 /// One link over the field of 65,536 elements, with the coefficient 0x0100, and the entry that undoes it.
 pub(super) const WIDE_LINK: &[u8] = b"LIFC\x01\x10\x01\
@@ -60,18 +54,3 @@ pub(super) const CUT_SLOW_BUTTERFLY: &[u8] = b"LIFC\x01\x08\x01\
     \x00\x07\x8e\
     \x00\x03\x01\
     \x00\x08\x8e";
-
-/// The accepted code of a file.
-pub(super) fn checked_of<R: Threads + Sync>(
-    rt: &R,
-    alloc: Global,
-    file: &[u8],
-) -> Result<Checked, Wrong> {
-    if file.len() > CODE_LIMIT {
-        return Err(Wrong::Code);
-    }
-    match read_code(alloc, file) {
-        Ok(code) => check(rt, alloc, code, &NoGate).map_err(|_| Wrong::Code),
-        Err(_) => Err(Wrong::Code),
-    }
-}

@@ -3,7 +3,7 @@ ghost use Rattle.std.specs.Prelude.{◌≡◌, ◌<◌, ◌≤◌, ◌+◌, ◌^
 ghost use Rattle.gf_tables.specs.Kind.{IsOfKind};
 ghost use Rattle.relay_node.specs.Relay.{HasNothing};
 
-use code_checker::Checked;
+use code_checker::{CheckRefusal, Checked};
 use generation_frame::{Accepted, PIECES, Packet, ROW};
 use gf_tables::Field;
 use net_model::Demand;
@@ -32,6 +32,12 @@ pub(super) enum Wrong {
 impl From<AllocError> for Wrong {
     fn from(_error: AllocError) -> Wrong {
         Wrong::Memory
+    }
+}
+
+impl From<CheckRefusal> for Wrong {
+    fn from(_refusal: CheckRefusal) -> Wrong {
+        Wrong::Code
     }
 }
 

@@ -1,11 +1,11 @@
 //! A node with as many links as a network may have.
-use super::codes::checked_of;
 use super::hands::{Span, Worker, Wrong};
 use super::repeats::{packet_of, worker};
 use generation_frame::Accepted;
 use gf_tables::Gf8;
 use std::alloc::{AllocError, Global};
 use std::test;
+use worked_rows::codes::checked_of;
 
 // How many links leave the node.
 const OUTS: u32 = 8191;

@@ -1,5 +1,4 @@
 //! Pieces that come again, with the same bytes or with others, and generations that are begun again.
-use super::codes::checked_of;
 use super::hands::{Span, Taker, Worker, Wrong};
 use super::runs::is_of_runs;
 use code_checker::Checked;
@@ -9,6 +8,7 @@ use gf_tables::{FieldKind, Gf8};
 use net_model::Demand;
 use std::alloc::Global;
 use std::test;
+use worked_rows::codes::checked_of;
 use worked_rows::files::{BUTTERFLY, ONE_LINK};
 
 /// A node of a code over the field of 256 elements, where no link fails.

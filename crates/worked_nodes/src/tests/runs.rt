@@ -2,7 +2,6 @@
 ghost use Rattle.std.specs.Prelude.{◌<◌, length};
 ghost use Rattle.gf_tables.specs.Kind.{IsOfKind};
 
-use super::codes::checked_of;
 use super::hands::{Span, Taker, Worker, Wrong};
 use code_checker::Checked;
 use generation_frame::{Accepted, PIECES, frame_of, read_frame};
@@ -10,6 +9,7 @@ use gf_tables::{Field, FieldKind, Gf8, Gf16};
 use net_model::Demand;
 use std::alloc::Global;
 use std::thread::Threads;
+use worked_rows::codes::checked_of;
 
 /// A frame.
 pub(super) type Frame = [u8; 140];

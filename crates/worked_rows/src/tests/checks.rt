@@ -1,5 +1,6 @@
 //! The check of the examples, read from their files.
-use super::codes::{WIDE_ROWS, changed, checked_of, is_file_of};
+use super::codes::{WIDE_ROWS, changed, is_file_of};
+use crate::codes::checked_of;
 use crate::files::{BUTTERFLY, CUT_BUTTERFLY, DOUBLED_ONE_LINK, ONE_LINK, TWO_WAYS, WIDE_ONE_LINK};
 use code_checker::CheckRefusal;
 use code_checker::CheckRefusal::NotIdentity;

@@ -1,5 +1,6 @@
 //! Code files are read and written back, or refused for their first fault.
-use super::codes::{WIDE_ROWS, changed, code_of, is_file_of};
+use super::codes::{WIDE_ROWS, changed, is_file_of};
+use crate::codes::code_of;
 use crate::files::{BUTTERFLY, CUT_BUTTERFLY, DOUBLED_ONE_LINK, ONE_LINK, TWO_WAYS, WIDE_ONE_LINK};
 use code_file::CodeRefusal;
 use code_file::CodeRefusal::{

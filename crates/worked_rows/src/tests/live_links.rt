@@ -1,5 +1,5 @@
 //! Which links of a code are live, by the table of all and each alone.
-use super::codes::code_of;
+use crate::codes::code_of;
 use crate::files::{CUT_BUTTERFLY, TWO_WAYS};
 use node_program::{Code, live, live_links};
 use std::alloc::Global;

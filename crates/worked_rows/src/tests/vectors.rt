@@ -2,7 +2,8 @@
 ghost use Rattle.std.specs.Prelude.{◌<◌, length};
 ghost use Rattle.gf_tables.specs.Kind.{IsOfKind};
 
-use super::codes::{WIDE_ROWS, code_of};
+use super::codes::WIDE_ROWS;
+use crate::codes::code_of;
 use crate::files::{CUT_BUTTERFLY, TWO_WAYS};
 use field_vectors::Matrix;
 use gf_tables::{Field, FieldKind, Gf8, Gf16};

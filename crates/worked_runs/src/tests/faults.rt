@@ -14,6 +14,9 @@ const LENGTH: usize = 10_000;
 /// How many bytes of the source a block has room for.
 const CAPACITY: usize = 2044;
 
+/// How many bytes of the source are carried at a time.
+const WINDOW: usize = 8176;
+
 // How `send` ends: its status, and how many bytes of the source stand in the file of each sink, where it was made.
 #[derive(Clone, Copy)]
 struct End {
@@ -33,6 +36,13 @@ fn kept_at_append(place: usize, keep: usize) -> [Option<usize>; 2] {
     }
 }
 
+// How many bytes of the source stand in each file where a read of it fails that comes behind so many: those of the windows
+// that were full then.
+fn kept_at_read(before: u64, most: usize) -> usize {
+    let read = (before as usize).saturating_mul(most).min(LENGTH);
+    (read / WINDOW).saturating_mul(WINDOW)
+}
+
 // How `send` ends where this call fails, and what is said is said.
 fn end_of(fail: &Fail, most: usize) -> End {
     let code = reads_of(BUTTERFLY.len(), most);
@@ -41,7 +51,10 @@ fn end_of(fail: &Fail, most: usize) -> End {
         (Call::Read, nth) if nth <= code => (Ending::ReadFault, [None, None]),
         (Call::Create, 1) => (Ending::WriteFault, [None, None]),
         (Call::Create, 2) => (Ending::WriteFault, [Some(0), None]),
-        (Call::Read, nth) if nth <= reads => (Ending::ReadFault, [Some(0), Some(0)]),
+        (Call::Read, nth) if nth <= reads => {
+            let kept = kept_at_read(nth.saturating_sub(code).saturating_sub(1), most);
+            (Ending::ReadFault, [Some(kept), Some(kept)])
+        }
         (Call::Append, nth) if nth <= 10 => {
             let place = (nth as usize).saturating_sub(1);
             (Ending::WriteFault, kept_at_append(place, fail.keep))

@@ -7,8 +7,8 @@ use std::thread::Threads;
 use worked_rows::files::BUTTERFLY;
 use worked_rows::watched::{Calls, watch};
 
-// How many bytes of the source a generation of the butterfly has room for.
-const CAPACITY: usize = 2044;
+// How many bytes of the source a window of four generations of the butterfly has room for.
+const WINDOW: usize = 8176;
 
 // The letters from `A` on, again and again.
 fn letters(alloc: Global, count: usize) -> Option<Vec<u8>> {
@@ -93,13 +93,24 @@ fn the_third_put_fails(rt: HostRuntime) {
     assert!(rt; made == Some((3, 0, 1, 0)));
 }
 
+// How many bytes stand in each file where the first window was carried, or both were.
+fn kept_behind(first: bool, both: bool) -> usize {
+    if both {
+        10_000
+    } else if first {
+        WINDOW
+    } else {
+        0
+    }
+}
+
 #[test]
 fn each_put_can_fail(rt: HostRuntime) {
-    // 72 frames are put for each of five generations.
+    // 72 frames are put for each generation: 288 in a window of four, and 72 in that of the last.
     for nth in 1..=361u64 {
-        let kept = (nth.saturating_sub(1) as usize / 72).saturating_mul(CAPACITY);
+        let kept = kept_behind(nth > 288, nth > 360);
         assert!(rt;
-            ends_where(&rt, rt.alloc(), nth, 0, nth > 360, kept.min(10_000)),
+            ends_where(&rt, rt.alloc(), nth, 0, nth > 360, kept),
             "put {nth}"
         );
     }
@@ -107,11 +118,11 @@ fn each_put_can_fail(rt: HostRuntime) {
 
 #[test]
 fn each_take_can_fail(rt: HostRuntime) {
-    // 72 frames are taken in each of five generations, and then nothing flies.
-    for nth in 1..=366u64 {
-        let kept = (nth.saturating_sub(1) as usize / 73).saturating_mul(CAPACITY);
+    // All frames of a window are taken, and then nothing flies.
+    for nth in 1..=363u64 {
+        let kept = kept_behind(nth > 289, nth > 362);
         assert!(rt;
-            ends_where(&rt, rt.alloc(), 0, nth, nth > 365, kept.min(10_000)),
+            ends_where(&rt, rt.alloc(), 0, nth, nth > 362, kept),
             "take {nth}"
         );
     }

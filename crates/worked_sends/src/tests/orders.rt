@@ -95,16 +95,17 @@ fn is_sent_by_list<R: Threads + Sync>(
     }
 }
 
-// Whether 3000 bytes come through a code in an order.
+// Whether so many bytes come through a code in an order.
 fn comes<R: Threads + Sync>(
     rt: &R,
     alloc: Global,
     code: Option<&[u8]>,
+    count: usize,
     outputs: &[&str],
     line: &str,
     order: Order,
 ) -> bool {
-    let (Some(code), Some(source)) = (code, source_of(alloc, 3000)) else {
+    let (Some(code), Some(source)) = (code, source_of(alloc, count)) else {
         return false;
     };
     let sending = Sending {
@@ -125,7 +126,34 @@ fn a_source_comes_through_the_butterfly_in_any_order(rt: HostRuntime) {
     let line = "sent 3000 bytes in 2 generations to 2 sinks\n";
     for (name, order) in ORDERS {
         assert!(rt;
-            comes(&rt, rt.alloc(), Some(BUTTERFLY), TWO_SINKS, line, order),
+            comes(
+                &rt,
+                rt.alloc(),
+                Some(BUTTERFLY),
+                3000,
+                TWO_SINKS,
+                line,
+                order
+            ),
+            "{name}"
+        );
+    }
+}
+
+#[test]
+fn three_windows_come_through_the_butterfly_in_any_order(rt: HostRuntime) {
+    let line = "sent 17000 bytes in 9 generations to 2 sinks\n";
+    for (name, order) in ORDERS {
+        assert!(rt;
+            comes(
+                &rt,
+                rt.alloc(),
+                Some(BUTTERFLY),
+                17_000,
+                TWO_SINKS,
+                line,
+                order
+            ),
             "{name}"
         );
     }
@@ -139,7 +167,7 @@ fn a_source_comes_through_a_combination_network_in_any_order(rt: HostRuntime) {
     let line = "sent 3000 bytes in 2 generations to 6 sinks\n";
     for (name, order) in ORDERS {
         assert!(rt;
-            comes(&rt, rt.alloc(), code, SIX_SINKS, line, order),
+            comes(&rt, rt.alloc(), code, 3000, SIX_SINKS, line, order),
             "{name}"
         );
     }

@@ -1,11 +1,11 @@
 //! Links that keep pairs that they gave, and change a byte.
-use super::odd::OddLinks;
 use super::sending::{ONE_SINK, SEND, Sending, TWO_SINKS, ends, has, is_sent, store_of};
 use lif_outside::{Flight, SeedLinks};
 use std::alloc::Global;
 use std::test;
 use std::thread::Threads;
 use worked_rows::files::{BUTTERFLY, ONE_LINK};
+use worked_rows::odd::OddLinks;
 use worked_rows::watched::{Calls, watch};
 
 const SEVENS: Sending<'static> = Sending {

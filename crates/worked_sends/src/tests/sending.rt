@@ -1,7 +1,7 @@
 //! Runs of the program over links of any kind.
 ghost use Rattle.std.specs.Prelude.{◌≡◌, []};
 
-use lif_outside::{Links, MemSink, MemStore, NoGate};
+use lif_outside::{Fail, Links, MemSink, MemStore, NoGate};
 use lif_top::lif;
 use std::alloc::Global;
 use std::thread::Threads;
@@ -26,7 +26,22 @@ pub(super) const TWO_SINKS: &[&str] = &["out.t1", "out.t2"];
 
 /// A store with a code and a source.
 pub(super) fn store_of(alloc: Global, code: &[u8], source: &[u8]) -> Option<MemStore> {
-    let mut store = MemStore::new(alloc, 65536, Vec::new(alloc));
+    store_giving(alloc, code, source, 65536, None)
+}
+
+/// The same, of which a read gives at most so many bytes, and a call may fail.
+pub(super) fn store_giving(
+    alloc: Global,
+    code: &[u8],
+    source: &[u8],
+    most: usize,
+    fail: Option<Fail>,
+) -> Option<MemStore> {
+    let mut fails = Vec::new(alloc);
+    if let Some(fail) = fail {
+        fails.push(fail).ok()?;
+    }
+    let mut store = MemStore::new(alloc, most.max(1), fails);
     store.put_file(alloc, "code", code).ok()?;
     store.put_file(alloc, "src", source).ok()?;
     Some(store)

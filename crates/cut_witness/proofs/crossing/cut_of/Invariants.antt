@@ -6,4 +6,4 @@ use Rattle.cut_witness.proofs.crossing.cut_of.Given as goal
 
 -- those of the links so far that leave the side
 abbrev pub invariant-loop-link : goal.invariant-loop-link
-invariant-loop-link l = l.cut.items ≡ filter (leaves (flow_network l.net l.demand) l.side) (range_with_len 0 l.link)
+invariant-loop-link l = l.cut.items ≡ filter (leaves (flow_network l.net l.fn.demand) l.side) (range_with_len 0 l.link)

@@ -5,4 +5,4 @@ use Rattle.due_sums.proofs.counting.count_all.Given as goal
 -- the counts before this one are those of all inputs
 abbrev pub invariant-loop-number : goal.invariant-loop-number
 invariant-loop-number l =
-    (number : ℕ) → number < l.number → slice_index l.missing number ≡ length (slice_index_or l.sums (number / pieces) [])
+    (number : ℕ) → number < l.number → slice_index l.missing number ≡ length (slice_index_or l.groups (number / pieces) [])

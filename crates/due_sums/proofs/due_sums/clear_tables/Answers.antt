@@ -11,8 +11,8 @@ pub loop-table-preserved : goal.loop-table-preserved
 loop-table-preserved c =
     let tables = c.loop-table.tables in
     let at = c.loop-table.table-index in
-    let Counted = IsTable c.args.inputs c.args.sums.now in
-    let Fresh = IsFresh c.args.inputs c.args.sums.now in
+    let Counted = IsTable c.args.inputs c.args.sums.now c.args.groups.now in
+    let Fresh = IsFresh c.args.inputs c.args.sums.now c.args.groups.now in
     record {
       counted = All-set Counted tables at c.clear.new.self c.clear.ensures.counted c.loop-table.invariant.counted;
       fresh = subst (All Fresh) (sym (take_more_set tables at c.clear.new.self (omega arith)))
@@ -22,4 +22,4 @@ loop-table-preserved c =
 pub returns : goal.returns
 returns c =
     let tables = c.loop-table.tables in
-    subst (All (IsFresh c.args.inputs c.args.sums.now)) (take_all c.loop-table.table-index tables (omega arith)) c.loop-table.invariant.fresh
+    subst (All (IsFresh c.args.inputs c.args.sums.now c.args.groups.now)) (take_all c.loop-table.table-index tables (omega arith)) c.loop-table.invariant.fresh

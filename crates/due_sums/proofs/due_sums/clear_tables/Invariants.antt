@@ -5,6 +5,6 @@ use Rattle.due_sums.proofs.due_sums.clear_tables.Given as goal
 -- nothing has come of the generations before this one
 abbrev pub invariant-loop-table : goal.invariant-loop-table
 invariant-loop-table l = record {
-  counted : All (IsTable l.inputs l.sums) l.tables;
-  fresh : All (IsFresh l.inputs l.sums) (take l.table-index l.tables);
+  counted : All (IsTable l.inputs l.sums l.groups) l.tables;
+  fresh : All (IsFresh l.inputs l.sums l.groups) (take l.table-index l.tables);
 }

@@ -1,4 +1,5 @@
-use Rattle.std.proofs.Common.{ℕ, ◌<◌, slice_index_or}
+use Rattle.std.proofs.Common.{ℕ, ◌*◌, ◌<◌, length, slice_index_or}
+use Rattle.counted_steps.specs.Steps.{RoseByAtMost}
 use Rattle.field_vectors.specs.Grid.{IsMatrix}
 use Rattle.gf_tables.specs.Kind.{IsOfKind}
 use Rattle.gf_tables.specs.declared.kind.FieldKind.{FieldKind}
@@ -6,7 +7,7 @@ use Rattle.lif_compiler.specs.Steps.{AreCarriedTo}
 use Rattle.lif_compiler.proofs.CarrySteps.{HasShape}
 use Rattle.lif_compiler.proofs.carrying.carry_all.Given as goal
 
--- the vectors under the patterns before this one are made
+-- the vectors under the patterns before this one are made, each in so many steps at most
 abbrev pub invariant-loop-pattern : goal.invariant-loop-pattern
 invariant-loop-pattern g l =
     let F = g.F.Field in
@@ -15,4 +16,5 @@ invariant-loop-pattern g l =
       made : (kind : FieldKind) → IsOfKind kind F.SIZE F.BYTES F.MARK F.product
           → AreCarriedTo kind F.number l.net l.link l.operands l.pattern l.initial.vectors l.vectors;
       kept : (k : ℕ) (none : _) → k < l.pattern → IsMatrix F.is_element (slice_index_or l.vectors k none);
+      ticks : RoseByAtMost (l.pattern * (length l.operands * l.rate)) l.initial.steps l.steps;
     }

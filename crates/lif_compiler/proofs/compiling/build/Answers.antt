@@ -9,7 +9,7 @@ use Rattle.node_program.specs.Code.{IsCode}
 use Rattle.lif_compiler.specs.Compiled.{marked_kind}
 use Rattle.lif_compiler.proofs.RouteLaws.{AreCertificates-below, routes-apart, routes-below}
 use Rattle.lif_compiler.specs.declared.hops.Hop.{Hop}
-use Rattle.lif_compiler.proofs.BuildSteps.{can_visit_all, compiled, enough_paths, few_routes, new_order, order_once}
+use Rattle.lif_compiler.proofs.BuildSteps.{can_visit_all, compiled, enough_paths, few_routes, new_order, new_ticks, order_once}
 use Rattle.lif_compiler.proofs.compiling.build.Goals as goal
 
 pub routes_of-requires-clause-order : goal.routes_of-requires-clause-order
@@ -67,10 +67,10 @@ of-requires g c =
     let routes_are = c.deref.ensures.value ∙ c.in_ok-routes.ensures in
     let visitable = can_visit_all c.args.net.now c.in_ok-net.net c.args.certs.now c.args.order.now c.args.rate (marked_kind g.F.Field.MARK) c.requires.order c.requires.acyclic c.requires.certified c.requires.least c.in_ok-net.ensures routes c.deref-2.result.now routes_are
     (ap length c.deref-2.ensures.value ∙ c.in_ok-hops.ensures.count ∙ c.len.ensures) (λ link at there. c.in_ok-hops.ensures.hops link at (ap (λ (hops : List (List Hop)). slice_get hops link) (sym c.deref-2.ensures.value) ∙ there)) in
-    subst (λ (kind : FieldKind). IsCode c.in_ok-net.net c.args.rate kind c.in_ok-operands.operands c.in_ok-operands.decoders) (sym c.kind_of.ensures) (c.in_ok-operands.ensures routes visitable).is_code
+    subst (λ (kind : FieldKind). IsCode c.in_ok-net.net c.args.rate kind c.in_ok-operands.operands c.in_ok-operands.decoders) (sym c.kind_of.ensures) (c.in_ok-operands.ensures.filled routes visitable).is_code
 
-pub returns : goal.returns
-returns g c =
+pub returns-clause-compiled : goal.returns-clause-compiled
+returns-clause-compiled g c =
     let net = c.args.net.now in
     let new = c.in_ok-net.net in
     let routes = c.deref.result.now in
@@ -79,4 +79,14 @@ returns g c =
     (ap length c.deref-2.ensures.value ∙ c.in_ok-hops.ensures.count ∙ c.len.ensures) (λ link at there. c.in_ok-hops.ensures.hops link at (ap (λ (hops : List (List Hop)). slice_get hops link) (sym c.deref-2.ensures.value) ∙ there)) in
     let made = c.of.ensures in
     compiled net new c.args.certs.now c.args.order.now c.args.rate (marked_kind g.F.Field.MARK) c.requires.order c.requires.acyclic c.requires.certified c.requires.least c.in_ok-net.ensures g.F.Field.SIZE c.requires.field.size c.requires.few routes routes_are
-    c.in_ok-operands.operands c.in_ok-operands.decoders (c.in_ok-operands.ensures routes visitable) c.of.result made.net made.rate (made.field ∙ c.kind_of.ensures) made.operands made.decoders
+    c.in_ok-operands.operands c.in_ok-operands.decoders (c.in_ok-operands.ensures.filled routes visitable) c.of.result made.net made.rate (made.field ∙ c.kind_of.ensures) made.operands made.decoders
+
+pub returns-in_err-operands-clause-ticks : goal.returns-in_err-operands-clause-ticks
+returns-in_err-operands-clause-ticks g c =
+    new_ticks c.args.net.now c.in_ok-net.net c.args.certs.now c.args.order.now c.args.rate (marked_kind g.F.Field.MARK) c.requires.order c.requires.acyclic c.requires.certified c.requires.least c.in_ok-net.ensures
+    c.args.steps.now c.fill.new.steps c.fill.ensures.ticks
+
+pub returns-clause-ticks : goal.returns-clause-ticks
+returns-clause-ticks g c =
+    new_ticks c.args.net.now c.in_ok-net.net c.args.certs.now c.args.order.now c.args.rate (marked_kind g.F.Field.MARK) c.requires.order c.requires.acyclic c.requires.certified c.requires.least c.in_ok-net.ensures
+    c.args.steps.now c.fill.new.steps c.fill.ensures.ticks

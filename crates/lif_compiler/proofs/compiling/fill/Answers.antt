@@ -24,8 +24,8 @@ decoders_of-requires-clause-apart g c =
     let all = c.in_ok-visit_all.ensures in
     subst (λ bs. All (λ b. AreApart b.frontier) bs) (sym c.as_slice.ensures.value) (apart-bases (routes_all visitable c.in_ok-code.code c.visit_all.new.self begun.rate all.rate begun.visited all.visited) all.whole (visited_all visitable c.in_ok-code.code c.visit_all.new.self begun.rate all.rate begun.visited all.visited))
 
-pub returns : goal.returns
-returns g c = λ routes visitable.
+pub returns-clause-filled : goal.returns-clause-filled
+returns-clause-filled g c = λ routes visitable.
     let F = g.F.Field in
     let L = g.met.F.Field in
     let laws : LawsOf F = record { field = L.field; numbering = L.numbering; of_kind = c.requires.field } in

@@ -1,9 +1,10 @@
-use Rattle.std.proofs.Common.{◌≡◌, ℕ, slice_index, arith}
+use Rattle.std.proofs.Common.{◌≡◌, ℕ, slice_index, arith, refl}
 use Rattle.gf_tables.specs.Kind.{IsOfKind}
 use Rattle.gf_tables.specs.declared.kind.FieldKind.{FieldKind}
 use Rattle.linear_algebra.specs.Rows.{dot}
 use Rattle.node_program.specs.Carried.{numbers_at, source_vector}
 use Rattle.lif_compiler.proofs.TableSteps.{filled_more, filled_row}
+use Rattle.lif_compiler.proofs.WorkLaws.{turns_more}
 use Rattle.lif_compiler.proofs.table.fill_row.Goals as goal
 
 pub loop-column-preserved : goal.loop-column-preserved
@@ -11,14 +12,17 @@ loop-column-preserved g c =
     let F = g.F.Field in
     let Entry : ℕ → ℕ → Type 0 = λ column entry. (kind : FieldKind) → IsOfKind kind F.SIZE F.BYTES F.MARK F.product
     → entry ≡ dot kind (source_vector c.args.leaves c.args.vectors.now.columns (numbers_at F.number c.args.vectors.now) (slice_index c.args.sources.now column)) (numbers_at F.number c.args.inverses.now c.args.path) in
-    filled_more F.number c.args.row Entry c.loop-column.column c.args.table.now c.loop-column.table c.set.new.self c.product-entry.result
-    c.requires.row (omega (arith, c.requires.columns, c.loop-column-test.true)) c.loop-column.invariant c.set.ensures.value c.product-entry.ensures.value
+    record {
+      filled = filled_more F.number c.args.row Entry c.loop-column.column c.args.table.now c.loop-column.table c.set.new.self c.product-entry.result
+          c.requires.row (omega (arith, c.requires.columns, c.loop-column-test.true)) c.loop-column.invariant.filled c.set.ensures.value c.product-entry.ensures.value;
+      ticks = turns_more c.loop-column.column _ c.args.inverses.now.columns c.args.steps.now c.loop-column.steps c.product-entry.new.steps refl c.loop-column.invariant.ticks c.product-entry.ensures.ticks;
+    }
 
 pub returns-clause-products : goal.returns-clause-products
 returns-clause-products g c = λ kind of_kind.
     let F = g.F.Field in
     let sources = c.args.sources.now in
-    let is = c.loop-column.invariant in
+    let is = c.loop-column.invariant.filled in
     let product : ℕ → ℕ = λ from. dot kind (source_vector c.args.leaves c.args.vectors.now.columns (numbers_at F.number c.args.vectors.now) from) (numbers_at F.number c.args.inverses.now c.args.path) in
     filled_row F.number c.args.row product sources c.args.table.now c.loop-column.table c.requires.columns
     (record {

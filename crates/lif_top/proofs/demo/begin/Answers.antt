@@ -1,4 +1,4 @@
-use Rattle.std.specs.Prelude.{List, [], ◌<◌, ◌*◌, ℕ, Some, count_by, replicate, slice_get}
+use Rattle.std.specs.Prelude.{[], ◌<◌, ◌*◌, ℕ, Some, count_by, replicate, slice_get}
 use Rattle.std.proofs.Common.{◌≡◌, inl, ap, subst, ◌∙◌, map, string_bytes, length}
 use Rattle.top_base.proofs.Exits.{on_err}
 use Rattle.lif_top.proofs.FrameLaws.{count-live}
@@ -27,6 +27,7 @@ returns-clause-begun g c =
       from_start = delivery.from_start;
       works = delivery.works;
       paths = ap (λ outputs. map string_bytes outputs.items) delivery.outputs ∙ c.in_ok-outputs.ensures.empty ∙ ap (λ n. replicate n []) (c.len.ensures ∙ ap (λ (code : Code). length code.net.sinks) c.code-2.ensures.value);
+      nothing = delivery.nothing;
       source = c.in_ok-source.ensures;
       frames = c.frames_of-frames.ensures ∙ ap (λ live. count_by (λ is. is) live * pieces) c.as_slice.ensures
           ∙ ap (λ n. n * pieces) (count-live code 0 c.in_ok-live.live (c.in_ok-live.ensures.count ∙ ap (λ (code : Code). length code.net.links) c.code.ensures.value)

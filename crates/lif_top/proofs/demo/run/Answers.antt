@@ -1,17 +1,13 @@
-use Rattle.std.specs.Prelude.{Bool}
-use Rattle.std.proofs.Common.{◌≡◌, ◌<◌, ◌≤◌, ◌*◌, [], ◌∷◌, ℕ, List, length, map, replicate, refl, sym, ap, subst, subst₂, ◌∙◌, arith}
+use Rattle.std.proofs.Common.{◌≡◌, ◌≤◌, ◌*◌, [], ◌∷◌, ℕ, List, length, refl, sym, ap, subst, subst₂, ◌∙◌, arith}
 use Rattle.std.proofs.Math.Nat.{div-le_self, mul-le-mul}
 use Rattle.std.proofs.lemmas.List.{length-replicate}
 use Rattle.std.proofs.lemmas.List.FromFn.{length-map-range_with_len}
-use Rattle.generation_frame.specs.Blocks.{block_count, capacity, pieces}
-use Rattle.coded_traffic.specs.Traffic.{live_links_of}
-use Rattle.lif_outside.specs.Calls.{Calls}
+use Rattle.generation_frame.specs.Blocks.{block_count, capacity}
 use Rattle.lif_outside.specs.Moves.{opened}
 use Rattle.net_maker.specs.Source.{source_byte}
 use Rattle.node_program.specs.declared.code.Code.{Code}
 use Rattle.top_base.specs.Given.{demo_given_in}
 use Rattle.top_base.specs.Lines.{demo_lines}
-use Rattle.top_base.specs.declared.status.Status.TheVariants.{Done}
 use Rattle.lif_top.proofs.DemoRuns.{broken-off, never-unwritten, shown}
 use Rattle.lif_top.proofs.FrameLaws.{few-live}
 use Rattle.lif_top.proofs.GivenLaws.{subst-three}

@@ -1,8 +1,6 @@
-use Rattle.std.specs.Prelude.{Bool, List}
-use Rattle.std.proofs.Common.{◌≡◌, ◌∷◌, ◌++◌, [], ◌<◌, ◌≤◌, ◌*◌, refl, sym, ap, subst, subst₂, inl, inr, ⊎_elim, length, ◌∙◌, arith}
+use Rattle.std.proofs.Common.{◌∷◌, [], refl, subst, inl, inr, ⊎_elim}
 use Rattle.lif_outside.specs.LinksAccounts.{holding}
-use Rattle.lif_outside.specs.Moves.{Move, open_refused, opened}
-use Rattle.node_program.specs.declared.code.Code.{Code}
+use Rattle.lif_outside.specs.Moves.{open_refused, opened}
 use Rattle.top_base.specs.Given.{demo_given_in}
 use Rattle.lif_top.proofs.DemoRuns.{can-carry, not-begun}
 use Rattle.lif_top.specs.Demo.Given.{demo_seed}

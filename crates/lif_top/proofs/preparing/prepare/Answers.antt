@@ -31,18 +31,18 @@ returns-in-Some-shared_path-clause-refused g c =
     calls_of _ [] (g.met.K.Links.no_moves c.args.links.now) (path.now, subst IsSome (sym (named ∙ c.in-Some.is)) refl, shared, c.same_path.ensures, refl)
 
 -- where there was no memory, the links weren't called, or refused to be opened
-pub returns-in_err-take_memory-clause-refused : goal.returns-in_err-take_memory-clause-refused
-returns-in_err-take_memory-clause-refused g c =
+pub returns-in_err-open-clause-refused : goal.returns-in_err-open-clause-refused
+returns-in_err-open-clause-refused g c =
     let send = given_in c.args.words.now in
     let code = c.args.code.now in
     let faithful = g.K.Links.faithful c.args.links.now in
     let lost = files.outcome_of refused.OutOfMemory in
     let Runs : List Move → Type 0 = λ moves. RunsCode faithful send code lost.status lost.line (link_calls moves) in
-    if_err _ c.from_residual-in_err-take_memory.result lost c.from_residual-in_err-take_memory.ensures.1
+    if_err _ c.from_residual-in_err-open.result lost c.from_residual-in_err-open.ensures.1
     (⊎_elim
     (λ none. calls_of Runs [] none (record { on_store = refl; on_links = inl refl }, refl))
     (λ one. calls_of Runs (open_refused send.seed (room_for code) ∷ []) one (record { on_store = refl; on_links = inr refl }, refl))
-    c.in_err-take_memory.ensures.refused)
+    c.in_err-open.ensures.refused)
 
 pub returns-clause-ready : goal.returns-clause-ready
 returns-clause-ready g c =
@@ -52,7 +52,7 @@ returns-clause-ready g c =
     let apart : shared_of (given_in words) c.args.code.now ≡ None =
     sym (sym (ap (option_map (λ one. one.now)) c.in_default-shared_path.is) ∙ c.shared_path.ensures
     ∙ ap (shared_path (words.code.now ∷ words.source.now ∷ [])) (ap (map string_bytes) c.deref.ensures.value ∙ paths)) in
-    let taken = c.in_ok-take_memory.ensures in
+    let taken = c.in_ok-open.ensures in
     record {
       clear = record { known = subst IsSome (sym (named ∙ c.in-Some.is)) refl; apart = apart };
       at_work = taken.at_work;
@@ -61,6 +61,5 @@ returns-clause-ready g c =
       works = taken.works;
       paths = ap (λ outputs. map string_bytes outputs.items) taken.outputs ∙ paths;
       distinct = subst (λ outputs. AreDistinct (map string_bytes outputs.items)) (sym taken.outputs) c.in_ok-outputs.ensures.distinct;
-      empty = taken.empty;
-      room = taken.room;
+      nothing = taken.nothing;
     }

@@ -1,8 +1,8 @@
-use Rattle.std.specs.Prelude.{◌≡◌, ◌∷◌, [], Bool}
+use Rattle.std.specs.Prelude.{◌∷◌, [], Bool}
 use Rattle.std.proofs.Common.{subst}
 use Rattle.lif_outside.proofs.CallLaws.{both_behind_move, both_on_links}
 use Rattle.lif_outside.specs.Calls.{Calls}
-use Rattle.lif_outside.specs.Moves.{Move, opened}
+use Rattle.lif_outside.specs.Moves.{opened}
 use Rattle.top_base.specs.Given.{given_in}
 use Rattle.lif_top.specs.Send.Runs.{RunsCode, Sends, behind_open, link_calls, room_for}
 use Rattle.lif_top.proofs.sending.send_over.Goals as goal

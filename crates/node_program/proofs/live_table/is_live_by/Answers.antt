@@ -25,8 +25,8 @@ entry_of_operand : (code : Code) (pattern link : ℕ) (before : List Bool) (oper
 entry_of_operand code pattern link before operand table is inner =
     ap (λ (live : List Bool). get_or live operand.from false) table ∙ get_or-live_table code pattern link operand.from false (is.earlier_link inner)
 
-pub returns-then-is_failed : goal.returns-then-is_failed
-returns-then-is_failed c = sym (is_live_in-failed c.args.code.now c.args.pattern c.args.link (cc))
+pub returns-then-fails : goal.returns-then-fails
+returns-then-fails c = sym (is_live_in-failed c.args.code.now c.args.pattern c.args.link (cc))
 
 pub bounds-before-operand : goal.bounds-before-operand
 bounds-before-operand c =

@@ -16,7 +16,7 @@ whole c =
     c.of.ensures ∙ c.loop-link.invariant ∙ ap (live_table c.args.code.now c.args.pattern) last
 
 pub returns-clause-count : goal.returns-clause-count
-returns-clause-count c = rw (whole c) (length-live_table c.args.code.now c.args.pattern (length c.args.code.now.net.links))
+returns-clause-count c = rw (whole (goal.at.returns-clause-count c).After-of) (length-live_table c.args.code.now c.args.pattern (length c.args.code.now.net.links))
 
 pub returns-clause-entries : goal.returns-clause-entries
-returns-clause-entries c = λ e within. rw (whole c) (slice_get-live_table c.args.code.now c.args.pattern (length c.args.code.now.net.links) e within)
+returns-clause-entries c = λ e within. rw (whole (goal.at.returns-clause-entries c).After-of) (slice_get-live_table c.args.code.now c.args.pattern (length c.args.code.now.net.links) e within)

@@ -21,3 +21,14 @@ returns-clause-lost g c =
     let is = ap bytes_of c.in-Err.ensures.returned ∙ sym c.in_ok-code.ensures.code ∙ c.deref.ensures.value in
     let refused = subst (λ bytes. RefusesCodeOrLosesIt bytes outcome) is c.unaccepted.ensures in
     calls_weaker _ _ c.in_ok-bytes.ensures.whole (λ made whole. lost_bytes code_limit IsCodeOf RefusesCode code_input c.args.path.now c.in_ok-bytes.bytes.items made whole outcome refused)
+
+pub returns-in-Ok-clause-had : goal.returns-in-Ok-clause-had
+returns-in-Ok-clause-had g c =
+    let is = c.in-Ok.ensures in
+    let bytes = c.in_ok-bytes.bytes.items in
+    let code = subst (IsCodeOf bytes) (sym is.checked) (record {
+      spelled = sym c.deref.ensures.value ∙ c.in_ok-code.ensures.code;
+      accepted = is.accepted;
+      within_cuts = is.cuts;
+    }) in
+    calls_weaker _ _ c.in_ok-bytes.ensures.whole (λ made whole. (bytes, whole, code))

@@ -5,7 +5,7 @@ use Rattle.cut_witness.specs.declared.cert.Cert.{Cert}
 use Rattle.gf_tables.specs.declared.kind.FieldKind.TheVariants as kind
 use Rattle.gf_tables.specs.Product.{product}
 use Rattle.lif_compiler.specs.Compiled.{IsCompiled}
-use Rattle.top_tools.proofs.CombiningLaws.{combination-good, demands-few, field-used, of-combination}
+use Rattle.top_tools.proofs.CombiningLaws.{combination-good, field-used, of-combination}
 use Rattle.top_tools.proofs.combining.combination_code.Goals.{in-None-1, in-Some+in-Any-1}
 use Rattle.top_tools.proofs.combining.combination_code.Goals as goal
 use Rattle.top_tools.specs.Combining.{IsCombinationCode}

@@ -9,6 +9,6 @@ invariant-loop-node l =
     (l.residual.demand ≡ l.initial.residual.demand)
     × IsGoingBack (flow_network l.net l.initial.residual.demand) l.initial.residual.states l.search l.residual.states (place_of l.search l.node) l.node
 
--- the node's place in the queue
+-- the node's place on the way
 abbrev pub decreases-loop-node : goal.decreases-loop-node
 decreases-loop-node l = place_of l.search l.node

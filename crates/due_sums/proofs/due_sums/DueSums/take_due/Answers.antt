@@ -9,19 +9,19 @@ within : (c : goal.In_ok-number) → c.args.generation < length c.self.inside.ta
 within c = within_tables c.self.inside.inputs c.self.inside.sums c.self.inside.tables.items c.args.generation c.args.self.now c.self.view_is c.requires
 
 -- its counts
-counted : (c : goal.In_ok-number) → IsTable c.self.inside.inputs c.self.inside.sums c.index_mut.result.now
-counted c = subst (IsTable c.self.inside.inputs c.self.inside.sums) (sym c.index_mut.ensures.value) (c.self.invariant.counted c.args.generation c.index_mut.result.now (within c))
+counted : (c : goal.In_ok-number) → IsTable c.self.inside.inputs c.self.inside.sums c.self.inside.groups.inputs c.index_mut.result.now
+counted c = subst (IsTable c.self.inside.inputs c.self.inside.sums c.self.inside.groups.inputs) (sym c.index_mut.ensures.value) (c.self.invariant.counted c.args.generation c.index_mut.result.now (within c))
 
 pub invariant_of-self-2 : goal.invariant_of-self-2
 invariant_of-self-2 c =
     let inside = c.self.inside in
     let table = c.index_mut.result.now in
-    IsWaiting-set inside.inputs inside.sums (lists_of inside.readers.items) inside.tables.items c.args.generation _ c.self.invariant
-    (IsCounted-lost inside.inputs inside.sums table.held table.missing.items table.due c.take_least.new.self c.in_ok-number.number (counted c) c.in_ok-number.ensures.least.1)
+    IsWaiting-set inside.inputs inside.sums inside.groups.inputs inside.groups.starts.items (lists_of inside.readers.items) inside.tables.items c.args.generation _ c.self.invariant
+    (IsCounted-lost inside.inputs inside.sums inside.groups.inputs table.held table.missing.items table.due c.take_least.new.self c.in_ok-number.number (counted c) c.in_ok-number.ensures.least.1)
 
 pub returns-clause-least : goal.returns-clause-least
 returns-clause-least c =
     let inside = c.self.inside in
     let least = c.in_ok-number.ensures.least in
-    Takes-table inside.inputs inside.sums inside.tables.items c.args.generation c.in_ok-number.number c.index_mut.result.now c.take_least.new.self
+    Takes-table inside.inputs inside.sums inside.groups.inputs inside.tables.items c.args.generation c.in_ok-number.number c.index_mut.result.now c.take_least.new.self
     (within c) c.index_mut.ensures.value (counted c) least.0 least.1 c.args.self.now c.self.view_is

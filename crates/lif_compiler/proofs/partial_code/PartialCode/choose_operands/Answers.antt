@@ -6,6 +6,7 @@ use Rattle.lif_compiler.specs.Compiled.{marked_kind}
 use Rattle.lif_compiler.specs.Operands.{ArePlaces, AreSources, befores, operands_of}
 use Rattle.lif_compiler.proofs.BasesLaws.{LawsOf}
 use Rattle.lif_compiler.proofs.ChoosingSteps.{All-sources, chosen_by, few_either, few_sources, nonzero_at}
+use Rattle.lif_compiler.proofs.WorkLaws.{choice_ticks, table_ticks}
 use Rattle.lif_compiler.proofs.partial_code.PartialCode.choose_operands.Goals as goal
 
 pub table_of-requires-clause-sources : goal.table_of-requires-clause-sources
@@ -32,10 +33,10 @@ choose-requires-clause-nonzero g c =
     let Places : List ℕ → List ℕ → Type 0 = ArePlaces (befores hops) in
     let places = subst (λ sources. Places sources c.deref-3.result.now) (c.deref.ensures.value ∙ sym c.deref-2.ensures.value) (subst (Places c.deref.result.now) (sym c.deref-3.ensures.value) c.in_ok-places.ensures) in
     let laws : LawsOf F = record { field = L.field; numbering = L.numbering; of_kind = c.requires.field } in
-    nonzero_at laws c.in_ok-table.table (c.in_ok-table.ensures (marked_kind F.MARK) c.requires.field) c.deref-3.result.now places c.requires.own
+    nonzero_at laws c.in_ok-table.table (c.in_ok-table.ensures.table (marked_kind F.MARK) c.requires.field) c.deref-3.result.now places c.requires.own
 
-pub returns : goal.returns
-returns g c =
+pub returns-clause-chosen : goal.returns-clause-chosen
+returns-clause-chosen g c =
     let F = g.F.Field in
     let L = g.met.F.Field in
     let hops = c.args.hops.now in
@@ -44,6 +45,26 @@ returns g c =
     let are = subst (AreSources (befores hops)) (sym c.deref-2.ensures.value) c.in_ok-sources.ensures in
     let laws : LawsOf F = record { field = L.field; numbering = L.numbering; of_kind = c.requires.field } in
     IfOk-weaker c.operands_with.result _ _
-    (λ operands is. chosen_by laws c.in_ok-table.table (c.in_ok-table.ensures (marked_kind F.MARK) c.requires.field) c.in_ok-coefficients.coefficients.items operands c.choose.ensures.kept are c.in_ok-coefficients.ensures.choice
+    (λ operands is. chosen_by laws c.in_ok-table.table (c.in_ok-table.ensures.table (marked_kind F.MARK) c.requires.field) c.in_ok-coefficients.coefficients.items operands c.choose.ensures.kept are c.in_ok-coefficients.ensures.choice
     (is ∙ ap (λ (sources : List ℕ). operands_of sources (map F.number c.deref-5.result.now)) same ∙ ap (λ (times : List g.row.F.Denot). operands_of sources (map F.number times)) c.deref-5.ensures.value))
     c.operands_with.ensures
+
+pub returns-in_err-table-clause-ticks : goal.returns-in_err-table-clause-ticks
+returns-in_err-table-clause-ticks g c =
+    let hops = c.args.hops.now in
+    let are = subst (AreSources (befores hops)) (sym c.deref-2.ensures.value) c.in_ok-sources.ensures in
+    table_ticks hops c.deref-2.result.now are c.args.self.now.rate c.args.steps.now c.table_of.new.steps c.table_of.ensures.ticks
+
+pub returns-in_err-coefficients-clause-ticks : goal.returns-in_err-coefficients-clause-ticks
+returns-in_err-coefficients-clause-ticks g c =
+    let hops = c.args.hops.now in
+    let are = subst (AreSources (befores hops)) (sym c.deref-2.ensures.value) c.in_ok-sources.ensures in
+    let table = c.in_ok-table.ensures.table (marked_kind g.F.Field.MARK) c.requires.field in
+    choice_ticks hops c.deref-2.result.now are c.args.self.now.rate c.args.steps.now _ _ c.table_of.new.steps c.choose.new.steps table.height table.columns c.table_of.ensures.ticks c.choose.ensures.ticks
+
+pub returns-clause-ticks : goal.returns-clause-ticks
+returns-clause-ticks g c =
+    let hops = c.args.hops.now in
+    let are = subst (AreSources (befores hops)) (sym c.deref-2.ensures.value) c.in_ok-sources.ensures in
+    let table = c.in_ok-table.ensures.table (marked_kind g.F.Field.MARK) c.requires.field in
+    choice_ticks hops c.deref-2.result.now are c.args.self.now.rate c.args.steps.now _ _ c.table_of.new.steps c.choose.new.steps table.height table.columns c.table_of.ensures.ticks c.choose.ensures.ticks

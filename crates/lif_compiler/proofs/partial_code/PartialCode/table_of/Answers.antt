@@ -1,8 +1,10 @@
-use Rattle.std.proofs.Common.{◌<◌, ◌%◌, ◌∙◌, length, slice_index_or, ap, arith}
+use Rattle.std.proofs.Common.{◌*◌, ◌<◌, ◌%◌, ◌∙◌, length, slice_index_or, ap, arith}
 use Rattle.std.proofs.lemmas.Option.{slice_get-get_or, slice_get_within}
 use Rattle.field_vectors.specs.Grid.{Grid}
+use Rattle.sink_basis.specs.declared.basis.Basis.{Basis}
 use Rattle.lif_compiler.specs.declared.hops.Hop.{Hop}
 use Rattle.lif_compiler.proofs.TableSteps.{inverses_read, products_same, table_more, vectors_read}
+use Rattle.lif_compiler.proofs.WorkLaws.{turns_more}
 use Rattle.lif_compiler.proofs.partial_code.PartialCode.table_of.Goals as goal
 
 pub loop-row-preserved : goal.loop-row-preserved
@@ -16,18 +18,23 @@ loop-row-preserved g c =
     let vectors = c.args.self.now.vectors.items in
     let among = c.requires.hops row none within in
     let place : hop.demand % c.len.result < length vectors = omega (arith, c.requires.some_pattern) in
-    table_more F.number _ hops (length c.args.sources.now) row hop c.loop-row.table c.fill_row.new.table c.loop-row.invariant (slice_get-get_or hops row none within)
-    c.fill_row.ensures.columns c.fill_row.ensures.height c.fill_row.ensures.others
-    (λ kind of_kind. c.fill_row.ensures.products kind of_kind
-    ∙ products_same kind F.number c.leaves_source-leaves.result _ c.index-vectors.result.now.columns c.args.self.now.rate c.args.sources.now c.index-vectors.result.now _ c.index.result.now.inverses _ hop.path
-    c.leaves_source-leaves.ensures (ap (λ (m : Grid g.row.F.Denot). m.columns) c.index-vectors.ensures ∙ (c.requires.vectors (hop.demand % c.len.result) c.index-vectors.result.now place).1)
-    (vectors_read vectors hop.demand c.len.result c.index-vectors.result.now c.requires.some_pattern (omega (arith, c.len.ensures)) c.index-vectors.ensures)
-    (inverses_read c.args.self.now.bases.items hop.demand c.index.result.now among.0 c.index.ensures))
-
-pub returns : goal.returns
-returns g c = λ kind of_kind.
+    let basis = c.index.result.now in
+    let wide = basis.basis.inverses_wide ∙ ap (λ (one : Basis g.row.F.Denot g.F.Field g.F.PartialEq). length one.frontier) c.index.ensures ∙ c.requires.bases hop.demand basis among.0 in
     record {
-      columns = c.loop-row.invariant.same_columns;
-      height = c.loop-row.invariant.height;
-      row = λ k hop there. c.loop-row.invariant.rows k hop (omega (arith, slice_get_within c.args.hops.now k hop there, c.loop-row-test.false)) there kind of_kind;
+      made = table_more F.number _ hops (length c.args.sources.now) row hop c.loop-row.table c.fill_row.new.table c.loop-row.invariant.made (slice_get-get_or hops row none within)
+          c.fill_row.ensures.columns c.fill_row.ensures.height c.fill_row.ensures.others
+          (λ kind of_kind. c.fill_row.ensures.products kind of_kind
+          ∙ products_same kind F.number c.leaves_source-leaves.result _ c.index-vectors.result.now.columns c.args.self.now.rate c.args.sources.now c.index-vectors.result.now _ c.index.result.now.inverses _ hop.path
+          c.leaves_source-leaves.ensures (ap (λ (m : Grid g.row.F.Denot). m.columns) c.index-vectors.ensures ∙ (c.requires.vectors (hop.demand % c.len.result) c.index-vectors.result.now place).1)
+          (vectors_read vectors hop.demand c.len.result c.index-vectors.result.now c.requires.some_pattern (omega (arith, c.len.ensures)) c.index-vectors.ensures)
+          (inverses_read c.args.self.now.bases.items hop.demand c.index.result.now among.0 c.index.ensures));
+      ticks = turns_more row _ (length c.args.sources.now * c.args.self.now.rate) c.args.steps.now c.loop-row.steps c.fill_row.new.steps (ap (λ columns. length c.args.sources.now * columns) wide) c.loop-row.invariant.ticks c.fill_row.ensures.ticks;
+    }
+
+pub returns-clause-table : goal.returns-clause-table
+returns-clause-table g c = λ kind of_kind.
+    record {
+      columns = c.loop-row.invariant.made.same_columns;
+      height = c.loop-row.invariant.made.height;
+      row = λ k hop there. c.loop-row.invariant.made.rows k hop (omega (arith, slice_get_within c.args.hops.now k hop there, c.loop-row-test.false)) there kind of_kind;
     }

@@ -7,9 +7,10 @@ use Rattle.lif_compiler.specs.Tables.{AreAmong, AreOfShape, CanFeed}
 use Rattle.lif_compiler.specs.Compiled.{marked_kind}
 use Rattle.lif_compiler.proofs.BasesLaws.{LawsOf}
 use Rattle.lif_compiler.proofs.ReadySteps.{among, feeding, few_hops, item_of, own_product, shape, some_basis, widths}
-use Rattle.lif_compiler.proofs.RenewSteps.{renewed_at}
+use Rattle.lif_compiler.proofs.AdvanceSteps.{advanced_at}
 use Rattle.lif_compiler.proofs.StandSteps.{visited_more}
-use Rattle.lif_compiler.proofs.VisitSteps.{carried_here, carry_links, carry_rows, carry_shape, carry_times, carry_zeros, chosen_here, new_back, renew_nonzero, renew_shape}
+use Rattle.lif_compiler.proofs.VisitSteps.{carried_here, carry_links, carry_rows, carry_shape, carry_times, carry_zeros, chosen_here, new_back, advance_nonzero, advance_shape}
+use Rattle.lif_compiler.proofs.WorkLaws.{visit_begun_ticks, visit_ticks}
 use Rattle.lif_compiler.proofs.partial_code.PartialCode.visit.Goals as goal
 
 pub choose_operands-requires-clause-vectors : goal.choose_operands-requires-clause-vectors
@@ -69,65 +70,65 @@ pub carry_all-requires-clause-times : goal.carry_all-requires-clause-times
 carry_all-requires-clause-times g c =
     let laws : LawsOf g.F.Field = record { field = g.met.F.Field.field; numbering = g.met.F.Field.numbering; of_kind = c.requires.field } in
     let can = c.requires.ready.1 in
-    carry_times laws can c.requires.next c.len-link.result (omega (arith, c.len-link.ensures)) c.in_ok-operands.ensures c.as_slice.result.now c.as_slice.ensures
+    carry_times laws can c.requires.next c.len-link.result (omega (arith, c.len-link.ensures)) c.in_ok-operands.ensures.chosen c.as_slice.result.now c.as_slice.ensures
 
 pub carry_all-requires-clause-rows : goal.carry_all-requires-clause-rows
 carry_all-requires-clause-rows g c =
     let laws : LawsOf g.F.Field = record { field = g.met.F.Field.field; numbering = g.met.F.Field.numbering; of_kind = c.requires.field } in
     let can = c.requires.ready.1 in
-    carry_rows laws can c.requires.next c.len-link.result (omega (arith, c.len-link.ensures)) c.in_ok-operands.ensures c.as_slice.result.now c.as_slice.ensures
+    carry_rows laws can c.requires.next c.len-link.result (omega (arith, c.len-link.ensures)) c.in_ok-operands.ensures.chosen c.as_slice.result.now c.as_slice.ensures
 
 pub carry_all-requires-clause-links : goal.carry_all-requires-clause-links
 carry_all-requires-clause-links g c =
     let laws : LawsOf g.F.Field = record { field = g.met.F.Field.field; numbering = g.met.F.Field.numbering; of_kind = c.requires.field } in
     let can = c.requires.ready.1 in
-    carry_links laws can c.requires.next c.len-link.result (omega (arith, c.len-link.ensures)) c.in_ok-operands.ensures c.as_slice.result.now c.as_slice.ensures
+    carry_links laws can c.requires.next c.len-link.result (omega (arith, c.len-link.ensures)) c.in_ok-operands.ensures.chosen c.as_slice.result.now c.as_slice.ensures
 
-pub renew_all-requires-clause-shape : goal.renew_all-requires-clause-shape
-renew_all-requires-clause-shape g c =
+pub advance_all-requires-clause-shape : goal.advance_all-requires-clause-shape
+advance_all-requires-clause-shape g c =
     let laws : LawsOf g.F.Field = record { field = g.met.F.Field.field; numbering = g.met.F.Field.numbering; of_kind = c.requires.field } in
     let can = c.requires.ready.1 in
     let code = c.args.self.now in
     let whole : code.vectors.len ≡ length code.vectors.items = omega (arith, c.as_mut_slice.ensures.len, ap length c.as_mut_slice.ensures.value) in
-    let made_are = c.as_slice-2.ensures.value ∙ new_back laws can c.requires.next c.len-link.result (omega (arith, c.len-link.ensures)) c.in_ok-operands.ensures c.as_slice.result.now c.as_slice.ensures c.as_mut_slice.result.now c.as_mut_slice.ensures.value c.carry_all.new.vectors (c.carry_all.ensures.carried (marked_kind g.F.Field.MARK) c.requires.field) code.vectors.len whole in
+    let made_are = c.as_slice-2.ensures.value ∙ new_back laws can c.requires.next c.len-link.result (omega (arith, c.len-link.ensures)) c.in_ok-operands.ensures.chosen c.as_slice.result.now c.as_slice.ensures c.as_mut_slice.result.now c.as_mut_slice.ensures.value c.carry_all.new.vectors (c.carry_all.ensures.carried (marked_kind g.F.Field.MARK) c.requires.field) code.vectors.len whole in
     let count : length c.args.net.now.links ≡ c.len.result = omega (arith, c.len.ensures) in
-    subst (λ count. AreOfShape count code.rate c.as_slice-2.result.now) count (renew_shape laws can c.requires.next c.len-link.result (omega (arith, c.len-link.ensures)) c.in_ok-operands.ensures c.as_slice.result.now c.as_slice.ensures c.as_mut_slice.result.now c.as_mut_slice.ensures.value c.carry_all.new.vectors (c.carry_all.ensures.carried (marked_kind g.F.Field.MARK) c.requires.field) c.as_slice-2.result.now made_are)
+    subst (λ count. AreOfShape count code.rate c.as_slice-2.result.now) count (advance_shape laws can c.requires.next c.len-link.result (omega (arith, c.len-link.ensures)) c.in_ok-operands.ensures.chosen c.as_slice.result.now c.as_slice.ensures c.as_mut_slice.result.now c.as_mut_slice.ensures.value c.carry_all.new.vectors (c.carry_all.ensures.carried (marked_kind g.F.Field.MARK) c.requires.field) c.as_slice-2.result.now made_are)
 
-pub renew_all-requires-clause-frontiers : goal.renew_all-requires-clause-frontiers
-renew_all-requires-clause-frontiers g c =
+pub advance_all-requires-clause-frontiers : goal.advance_all-requires-clause-frontiers
+advance_all-requires-clause-frontiers g c =
     let laws : LawsOf g.F.Field = record { field = g.met.F.Field.field; numbering = g.met.F.Field.numbering; of_kind = c.requires.field } in
     let can = c.requires.ready.1 in
     let code = c.args.self.now in
     subst (All (HasWidth code.rate)) (sym c.as_mut_slice-2.ensures.value) (widths laws can)
 
-pub renew_all-requires-clause-matrices : goal.renew_all-requires-clause-matrices
-renew_all-requires-clause-matrices g c =
+pub advance_all-requires-clause-matrices : goal.advance_all-requires-clause-matrices
+advance_all-requires-clause-matrices g c =
     subst (All HasMatrices) (sym c.as_mut_slice-2.ensures.value) c.requires.matrices
 
-pub renew_all-requires-clause-hops : goal.renew_all-requires-clause-hops
-renew_all-requires-clause-hops g c =
+pub advance_all-requires-clause-hops : goal.advance_all-requires-clause-hops
+advance_all-requires-clause-hops g c =
     let laws : LawsOf g.F.Field = record { field = g.met.F.Field.field; numbering = g.met.F.Field.numbering; of_kind = c.requires.field } in
     let can = c.requires.ready.1 in
     let code = c.args.self.now in
     subst (λ bs. AreAmong (length bs) code.rate c.args.hops.now) (sym c.as_mut_slice-2.ensures.value) (among laws can)
 
-pub renew_all-requires-clause-nonzero : goal.renew_all-requires-clause-nonzero
-renew_all-requires-clause-nonzero g c =
+pub advance_all-requires-clause-nonzero : goal.advance_all-requires-clause-nonzero
+advance_all-requires-clause-nonzero g c =
     let laws : LawsOf g.F.Field = record { field = g.met.F.Field.field; numbering = g.met.F.Field.numbering; of_kind = c.requires.field } in
     let can = c.requires.ready.1 in
     let code = c.args.self.now in
     let whole : code.vectors.len ≡ length code.vectors.items = omega (arith, c.as_mut_slice.ensures.len, ap length c.as_mut_slice.ensures.value) in
-    let made_are = c.as_slice-2.ensures.value ∙ new_back laws can c.requires.next c.len-link.result (omega (arith, c.len-link.ensures)) c.in_ok-operands.ensures c.as_slice.result.now c.as_slice.ensures c.as_mut_slice.result.now c.as_mut_slice.ensures.value c.carry_all.new.vectors (c.carry_all.ensures.carried (marked_kind g.F.Field.MARK) c.requires.field) code.vectors.len whole in
-    renew_nonzero laws can c.requires.next c.len-link.result (omega (arith, c.len-link.ensures)) c.in_ok-operands.ensures c.as_slice.result.now c.as_slice.ensures c.as_mut_slice.result.now c.as_mut_slice.ensures.value c.carry_all.new.vectors (c.carry_all.ensures.carried (marked_kind g.F.Field.MARK) c.requires.field) c.as_slice-2.result.now made_are c.as_mut_slice-2.result.now c.as_mut_slice-2.ensures.value c.requires.matrices c.carry_all.ensures.kept
+    let made_are = c.as_slice-2.ensures.value ∙ new_back laws can c.requires.next c.len-link.result (omega (arith, c.len-link.ensures)) c.in_ok-operands.ensures.chosen c.as_slice.result.now c.as_slice.ensures c.as_mut_slice.result.now c.as_mut_slice.ensures.value c.carry_all.new.vectors (c.carry_all.ensures.carried (marked_kind g.F.Field.MARK) c.requires.field) code.vectors.len whole in
+    advance_nonzero laws can c.requires.next c.len-link.result (omega (arith, c.len-link.ensures)) c.in_ok-operands.ensures.chosen c.as_slice.result.now c.as_slice.ensures c.as_mut_slice.result.now c.as_mut_slice.ensures.value c.carry_all.new.vectors (c.carry_all.ensures.carried (marked_kind g.F.Field.MARK) c.requires.field) c.as_slice-2.result.now made_are c.as_mut_slice-2.result.now c.as_mut_slice-2.ensures.value c.requires.matrices c.carry_all.ensures.kept
 
 pub returns-clause-matrices : goal.returns-clause-matrices
 returns-clause-matrices g c =
     let code = c.args.self.now in
-    let made = c.renew_all.new.bases in
+    let made = c.advance_all.new.bases in
     let old = code.bases.items in
-    let size : length made ≡ length old = c.renew_all.auto.bases ∙ ap length c.as_mut_slice-2.ensures.value in
+    let size : length made ≡ length old = c.advance_all.auto.bases ∙ ap length c.as_mut_slice-2.ensures.value in
     let made_are = written_back old made code.bases.len (omega (arith, c.as_mut_slice-2.ensures.len, ap length c.as_mut_slice-2.ensures.value)) size in
-    subst (All HasMatrices) (sym made_are) c.in_ok-renew_all.ensures.matrices
+    subst (All HasMatrices) (sym made_are) c.advance_all.ensures.matrices
 
 pub returns-clause-visited : goal.returns-clause-visited
 returns-clause-visited g c =
@@ -137,12 +138,29 @@ returns-clause-visited g c =
     let whole : code.vectors.len ≡ length code.vectors.items = omega (arith, c.as_mut_slice.ensures.len, ap length c.as_mut_slice.ensures.value) in
     let bases_are : c.as_mut_slice-2.result.now ≡ code.bases.items = c.as_mut_slice-2.ensures.value in
     let new = c.carry_all.new.vectors in
-    let made = c.renew_all.new.bases in
-    let size : length made ≡ length code.bases.items = c.renew_all.auto.bases ∙ ap length bases_are in
+    let made = c.advance_all.new.bases in
+    let size : length made ≡ length code.bases.items = c.advance_all.auto.bases ∙ ap length bases_are in
     let made_are = written_back code.bases.items made code.bases.len (omega (arith, c.as_mut_slice-2.ensures.len, ap length bases_are)) size in
     λ routes can.
-    let chosen = chosen_here laws can c.requires.next c.len-link.result (omega (arith, c.len-link.ensures)) c.in_ok-operands.ensures in
-    let carried = carried_here laws can c.requires.next c.len-link.result (omega (arith, c.len-link.ensures)) c.in_ok-operands.ensures c.as_slice.result.now c.as_slice.ensures c.as_mut_slice.result.now c.as_mut_slice.ensures.value c.carry_all.new.vectors (c.carry_all.ensures.carried (marked_kind g.F.Field.MARK) c.requires.field) in
-    let new_are = new_back laws can c.requires.next c.len-link.result (omega (arith, c.len-link.ensures)) c.in_ok-operands.ensures c.as_slice.result.now c.as_slice.ensures c.as_mut_slice.result.now c.as_mut_slice.ensures.value c.carry_all.new.vectors (c.carry_all.ensures.carried (marked_kind g.F.Field.MARK) c.requires.field) code.vectors.len whole in
-    let renewed = renewed_at link_is (c.as_slice-2.ensures.value ∙ new_are) bases_are c.args.hops.now made c.in_ok-renew_all.ensures.renewed in
-    visited_more laws can c.requires.next c.in_ok-operands.operands chosen new carried made renewed _ refl c.in_ok-push.ensures.items new_are made_are
+    let chosen = chosen_here laws can c.requires.next c.len-link.result (omega (arith, c.len-link.ensures)) c.in_ok-operands.ensures.chosen in
+    let carried = carried_here laws can c.requires.next c.len-link.result (omega (arith, c.len-link.ensures)) c.in_ok-operands.ensures.chosen c.as_slice.result.now c.as_slice.ensures c.as_mut_slice.result.now c.as_mut_slice.ensures.value c.carry_all.new.vectors (c.carry_all.ensures.carried (marked_kind g.F.Field.MARK) c.requires.field) in
+    let new_are = new_back laws can c.requires.next c.len-link.result (omega (arith, c.len-link.ensures)) c.in_ok-operands.ensures.chosen c.as_slice.result.now c.as_slice.ensures c.as_mut_slice.result.now c.as_mut_slice.ensures.value c.carry_all.new.vectors (c.carry_all.ensures.carried (marked_kind g.F.Field.MARK) c.requires.field) code.vectors.len whole in
+    let advanced = advanced_at link_is (c.as_slice-2.ensures.value ∙ new_are) bases_are c.args.hops.now made c.advance_all.ensures.advanced in
+    visited_more laws can c.requires.next c.in_ok-operands.operands chosen new carried made advanced _ refl c.in_ok-push.ensures.items new_are made_are
+
+pub returns-in_err-operands-clause-ticks : goal.returns-in_err-operands-clause-ticks
+returns-in_err-operands-clause-ticks g c =
+    let laws : LawsOf g.F.Field = record { field = g.met.F.Field.field; numbering = g.met.F.Field.numbering; of_kind = c.requires.field } in
+    visit_begun_ticks laws c.requires.ready.1 c.args.steps.now c.choose_operands.new.steps c.choose_operands.ensures.ticks
+
+pub returns-in_err-push-clause-ticks : goal.returns-in_err-push-clause-ticks
+returns-in_err-push-clause-ticks g c =
+    let laws : LawsOf g.F.Field = record { field = g.met.F.Field.field; numbering = g.met.F.Field.numbering; of_kind = c.requires.field } in
+    visit_ticks laws c.requires.ready.1 c.args.steps.now c.choose_operands.new.steps c.choose_operands.ensures.ticks c.in_ok-operands.ensures.chosen c.as_slice.result.now c.as_slice.ensures
+    c.as_mut_slice.result.now c.as_mut_slice.ensures.value c.carry_all.new.steps c.advance_all.new.steps c.carry_all.ensures.ticks c.advance_all.ensures.ticks
+
+pub returns-clause-ticks : goal.returns-clause-ticks
+returns-clause-ticks g c =
+    let laws : LawsOf g.F.Field = record { field = g.met.F.Field.field; numbering = g.met.F.Field.numbering; of_kind = c.requires.field } in
+    visit_ticks laws c.requires.ready.1 c.args.steps.now c.choose_operands.new.steps c.choose_operands.ensures.ticks c.in_ok-operands.ensures.chosen c.as_slice.result.now c.as_slice.ensures
+    c.as_mut_slice.result.now c.as_mut_slice.ensures.value c.carry_all.new.steps c.advance_all.new.steps c.carry_all.ensures.ticks c.advance_all.ensures.ticks

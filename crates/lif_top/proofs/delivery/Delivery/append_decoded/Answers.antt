@@ -20,25 +20,25 @@ use Rattle.lif_top.proofs.delivery.Delivery.append_decoded.Given as given
 use Rattle.lif_top.proofs.delivery.Delivery.append_decoded.Goals as goal
 use Rattle.lif_top.proofs.delivery.Delivery.append_decoded.Goals.{After-as_str, After-counted-received}
 
--- the appends of the part of a sink, by the calls that carried the block
-abbrev due : Running → List (List ℕ) → ℕ → List Move → List Event
-due runner paths sink moves = appends_of (parts_from paths runner.code runner.pattern (packets_given moves) runner.first sink 1 ∷ [])
+-- the appends of the part of a sink, by the calls that carried the window
+abbrev due : Running → ℕ → List (List ℕ) → ℕ → List Move → List Event
+due runner place paths sink moves =
+    appends_of (parts_from paths runner.code runner.pattern (packets_given moves) (runner.first + place) sink 1 ∷ [])
 
 -- bytes are what counts of the block that a sink decodes, by those calls
-abbrev Counts : Running → ℕ → List ℕ → List Move → Type 0
-Counts runner sink bytes moves = bytes ≡ counted_bytes (decoded_of runner.code (demand_of runner.code runner.pattern sink) (packets_given moves) runner.first)
+abbrev Counts : Running → ℕ → ℕ → List ℕ → List Move → Type 0
+Counts runner place sink bytes moves =
+    bytes ≡ counted_bytes (decoded_of runner.code (demand_of runner.code runner.pattern sink) (packets_given moves) (runner.first + place))
 
 received : (g : given.Over) (c : After-counted-received g) (moves : List Move) → HasCarriedBy c.args.self.now.runner moves
-    → Counts c.args.self.now.runner c.args.sink c.counted-received.result.now moves
+    → Counts c.args.self.now.runner c.args.place c.args.sink c.counted-received.result.now moves
 received g c moves by =
     let self = c.args.self.now in
     let runner = self.runner in
     let long : length c.block.new.into ≡ self.decoded.len = omega (arith, c.block.auto.into, c.deref_mut.ensures.len, self.decoded_length) in
-    let start : runner.first + 0 ≡ runner.first = omega arith in
     c.counted-received.ensures
     ∙ ap counted_bytes
-    (c.deref.ensures.value ∙ take_at c.block.new.into _ self.decoded.len long ∙ c.block.ensures.value moves by
-    ∙ ap (decoded_of runner.code (demand_of runner.code runner.pattern c.args.sink) (packets_given moves)) start)
+    (c.deref.ensures.value ∙ take_at c.block.new.into _ self.decoded.len long ∙ c.block.ensures.value moves by)
 
 -- the path of the sink's file
 path : (g : given.Over) (c : After-as_str g) → c.as_str.result.now ≡ slice_index_or (paths_of c.args.self.now) c.args.sink []
@@ -48,14 +48,14 @@ path g c =
 
 -- what is appended there is due
 appended_due : (g : given.Over) (c : After-as_str g)
-    → ((moves : List Move) → HasCarriedBy c.args.self.now.runner moves → Counts c.args.self.now.runner c.args.sink c.counted-received.result.now moves)
+    → ((moves : List Move) → HasCarriedBy c.args.self.now.runner moves → Counts c.args.self.now.runner c.args.place c.args.sink c.counted-received.result.now moves)
     → (moves : List Move) → HasCarriedBy c.args.self.now.runner moves
-    → appended c.as_str.result.now c.counted-received.result.now ∷ [] ≡ due c.args.self.now.runner (paths_of c.args.self.now) c.args.sink moves
+    → appended c.as_str.result.now c.counted-received.result.now ∷ [] ≡ due c.args.self.now.runner c.args.place (paths_of c.args.self.now) c.args.sink moves
 appended_due g c received moves by =
     let self = c.args.self.now in
     let bytes = c.counted-received.result.now in
     let some : nat_lt 0 (length bytes) ≡ true = some_length (length bytes) (sym c.is_empty.ensures ∙ c.if-is_empty.false) in
-    part-some (paths_of self) self.runner.code self.runner.pattern (packets_given moves) self.runner.first c.args.sink bytes (received moves by) c.as_str.result.now (path g c) some
+    part-some (paths_of self) self.runner.code self.runner.pattern (packets_given moves) (self.runner.first + c.args.place) c.args.sink bytes (received moves by) c.as_str.result.now (path g c) some
 
 pub overflow_cast-sink : goal.overflow_cast-sink
 overflow_cast-sink g c =
@@ -75,19 +75,19 @@ returns-then-is_empty-clause-appended g c = λ moves by.
     let bytes = c.counted-received.result.now in
     let is = received g (goal.at.returns-then-is_empty-clause-appended g c).After-counted-received moves by in
     let none : nat_lt 0 (length bytes) ≡ false = no_length (length bytes) (sym c.is_empty.ensures ∙ c.if-is_empty.true) in
-    calls_of (Are (due self.runner (paths_of self) c.args.sink moves)) [] (g.met.S.Store.no_calls c.args.store.now)
-    (part-none (paths_of self) self.runner.code self.runner.pattern (packets_given moves) self.runner.first c.args.sink bytes is none)
+    calls_of (Are (due self.runner c.args.place (paths_of self) c.args.sink moves)) [] (g.met.S.Store.no_calls c.args.store.now)
+    (part-none (paths_of self) self.runner.code self.runner.pattern (packets_given moves) (self.runner.first + c.args.place) c.args.sink bytes is none)
 
 pub returns-clause-appended : goal.returns-clause-appended
 returns-clause-appended g c =
     let self = c.args.self.now in
     let at = goal.at.returns-clause-appended g c in
-    appends-ok g.S.Store.calls c.args.store.now c.append.new.self c.as_str.result.now c.counted-received.result.now (due self.runner (paths_of self) c.args.sink)
+    appends-ok g.S.Store.calls c.args.store.now c.append.new.self c.as_str.result.now c.counted-received.result.now (due self.runner c.args.place (paths_of self) c.args.sink)
     (appended_due g at.After-as_str (received g at.After-counted-received)) c.append.result c.append.ensures
 
 pub returns-clause-failed : goal.returns-clause-failed
 returns-clause-failed g c =
     let self = c.args.self.now in
     let at = goal.at.returns-clause-failed g c in
-    appends-err g.S.Store.calls c.args.store.now c.append.new.self c.as_str.result.now c.counted-received.result.now (due self.runner (paths_of self) c.args.sink)
+    appends-err g.S.Store.calls c.args.store.now c.append.new.self c.as_str.result.now c.counted-received.result.now (due self.runner c.args.place (paths_of self) c.args.sink)
     (appended_due g at.After-as_str (received g at.After-counted-received)) c.append.result c.append.ensures

@@ -1,138 +1,138 @@
-use Rattle.std.specs.Prelude.{Bool}
-use Rattle.std.proofs.Common.{◌≡◌, ◌≤◌, ◌<◌, ◌+◌, ◌*◌, ◌/◌, [], ℕ, List, Contains, length, map, take, drop, ◌-◌, refl, ap, ◌∙◌, sym, subst, arith, string_bytes}
-use Rattle.std.proofs.Math.Nat.{div-le_self}
-use Rattle.generation_frame.specs.Blocks.{block_count, capacity, piece_of}
-use Rattle.generation_frame.proofs.PieceLaws.{length-piece_of}
+use Rattle.std.specs.Prelude.{◌<◌, ◌+◌, ◌-◌, ◌*◌, ◌/◌}
+use Rattle.std.proofs.Common.{◌≡◌, ◌++◌, Bool, Contains, List, ℕ, length, map, refl, ap, ◌∙◌, sym, subst, arith, string_bytes, vec_len}
+use Rattle.std.proofs.lemmas.List.{length-drop}
+use Rattle.generation_frame.specs.Blocks.{block_count, capacity}
 use Rattle.lif_outside.proofs.CallLaws.{both_then, both_weaker}
 use Rattle.lif_outside.specs.Calls.{Calls}
 use Rattle.lif_outside.specs.Sequences.{Are}
 use Rattle.node_program.specs.declared.code.Code.{Code}
-use Rattle.relay_runner.specs.Running.{Running}
 use Rattle.top_base.proofs.Exits.{if_err}
-use Rattle.lif_top.proofs.DeliveryLaws.{delivers-more, delivers-none, interrupts}
+use Rattle.lif_top.proofs.DeliveryLaws.{delivers-some, interrupts-some}
+use Rattle.lif_top.proofs.GatherLaws.{count-left, interrupts-more, left-delivered, left-interrupted}
 use Rattle.lif_top.proofs.GivenLaws.{subst-three}
-use Rattle.lif_top.proofs.Pieces.{piece_within}
-use Rattle.lif_top.specs.Send.Delivering.{CanCarry, DeliversPiece, DeliversSome, Interrupts, InterruptsPiece}
-use Rattle.lif_top.specs.Send.Ready.{paths_of}
+use Rattle.lif_top.specs.Send.Carried.{blocks_from}
+use Rattle.lif_top.specs.Send.Delivering.{DeliversBlocks, DeliversSome, HasGoneOn, Interrupts, InterruptsBlocks, InterruptsBytes}
+use Rattle.lif_top.specs.Send.Ready.{AreCounts, paths_of}
+use Rattle.lif_top.proofs.delivery.Delivery.carry_source.Given as given
 use Rattle.lif_top.proofs.delivery.Delivery.carry_source.Goals as goal
+use Rattle.lif_top.proofs.delivery.Delivery.carry_source.Goals.{After-gather}
 
-pub loop-generation-init : goal.loop-generation-init
-loop-generation-init g c =
+pub gather-requires-clause-short : goal.gather-requires-clause-short
+gather-requires-clause-short g c =
+    let self = c.args.self.now in
+    let none : self.runner.next * capacity self.runner.code.rate ≡ 0 * capacity self.runner.code.rate = ap (λ n. n * capacity self.runner.code.rate) c.requires.from_start in
+    omega (arith, none, ap length c.requires.nothing, c.requires.short)
+
+-- the source is what was gathered and comes
+abbrev bytes : (g : given.Over) (c : After-gather g) → List ℕ
+bytes g c = c.args.self.now.gathered.items ++ c.args.source.now
+
+all : (g : given.Over) (c : After-gather g) → bytes g c ≡ c.args.source.now
+all g c = ap (λ (front : List ℕ). front ++ c.args.source.now) c.requires.nothing
+
+-- how many blocks were carried
+abbrev blocks : (g : given.Over) (c : After-gather g) → ℕ
+blocks g c = c.gather.new.self.runner.next - c.args.self.now.runner.next
+
+-- the rate at work
+rate : (g : given.Over) (c : After-gather g) → HasGoneOn c.args.self.now.runner c.gather.new.self.runner → c.gather.new.self.runner.code.rate ≡ c.args.self.now.runner.code.rate
+rate g c gone_on = ap (λ (code : Code). code.rate) gone_on.code
+
+pub carry_last-requires-clause-room : goal.carry_last-requires-clause-room
+carry_last-requires-clause-room g c =
+    subst (λ rate. vec_len c.gather.new.self.gathered < 4 * capacity rate) (sym (rate g (goal.at.carry_last-requires-clause-room g c).After-gather c.in_ok-gather.ensures.gone_on)) c.in_ok-gather.ensures.room
+
+pub carry_last-requires-clause-short : goal.carry_last-requires-clause-short
+carry_last-requires-clause-short g c =
+    let at = (goal.at.carry_last-requires-clause-short g c).After-gather in
+    let self = c.args.self.now in
+    let size = capacity self.runner.code.rate in
+    let is = c.in_ok-gather.ensures.gathered in
+    let k = blocks g at in
+    let next : c.gather.new.self.runner.next ≡ k = omega (arith, c.requires.from_start) in
+    let long : length c.gather.new.self.gathered.items ≡ length (bytes g at) - k * size = ap length is.left_is ∙ length-drop (k * size) (bytes g at) in
+    let same : c.gather.new.self.runner.next * capacity c.gather.new.self.runner.code.rate ≡ k * size =
+    ap (λ n. n * capacity c.gather.new.self.runner.code.rate) next ∙ ap (λ rate. k * capacity rate) (rate g at c.in_ok-gather.ensures.gone_on) in
+    omega (arith, same, long, is.whole, ap length (all g at), c.requires.short)
+
+pub carry_last-requires-clause-made : goal.carry_last-requires-clause-made
+carry_last-requires-clause-made g c = λ path there.
+    let both = c.in_ok-gather.ensures.delivered in
+    (g.met.S.Store.accounts both.calls.on_store _ _ both.on_store).counts.still_made path
+    (c.requires.made path (subst (λ outputs. Contains (map string_bytes outputs.items) path) c.gather.ensures.outputs there))
+
+-- what is said by the runner at hand is said of the one that began
+retold : (D : Bool → Code → ℕ → List (List ℕ) → ℕ → Type 0) (g : given.Over) (c : After-gather g) (gone_on : HasGoneOn c.args.self.now.runner c.gather.new.self.runner)
+    → g.K.Links.faithful c.gather.new.links ≡ g.K.Links.faithful c.args.links.now
+    → D (g.K.Links.faithful c.gather.new.links) c.gather.new.self.runner.code c.gather.new.self.runner.pattern (paths_of c.gather.new.self) c.gather.new.self.runner.next
+    → D (g.K.Links.faithful c.args.links.now) c.args.self.now.runner.code c.args.self.now.runner.pattern (paths_of c.args.self.now) (c.args.self.now.runner.next + blocks g c)
+retold D g c gone_on faithful holds =
+    let next : c.gather.new.self.runner.next ≡ c.args.self.now.runner.next + blocks g c = omega (arith, gone_on.more) in
+    subst (λ n. D (g.K.Links.faithful c.args.links.now) c.args.self.now.runner.code c.args.self.now.runner.pattern (paths_of c.args.self.now) n) next
+    (subst (λ outputs. D (g.K.Links.faithful c.args.links.now) c.args.self.now.runner.code c.args.self.now.runner.pattern (map string_bytes outputs.items) c.gather.new.self.runner.next)
+    c.gather.ensures.outputs
+    (subst-three (λ faithful code pattern. D faithful code pattern (paths_of c.gather.new.self) c.gather.new.self.runner.next) faithful gone_on.code gone_on.pattern holds))
+
+pub returns-in_err-gather-clause-interrupted : goal.returns-in_err-gather-clause-interrupted
+returns-in_err-gather-clause-interrupted g c =
+    let at = (goal.at.returns-in_err-gather-clause-interrupted g c).After-gather in
     let self = c.args.self.now in
     let runner = self.runner in
-    record {
-      code = refl;
-      pattern = refl;
-      outputs = refl;
-      next = c.requires.from_start;
-      can = c.requires.can;
-      faithful = refl;
-      calls = record {
-        calls = record { on_store = []; on_links = [] };
-        on_store = g.met.S.Store.no_calls c.args.store.now;
-        on_links = g.met.K.Links.no_moves c.args.links.now;
-        holds = delivers-none (g.K.Links.faithful c.args.links.now) runner.code runner.pattern (paths_of self) c.args.source.now c.requires.can.known;
-      };
-    }
-
-pub carry_piece-requires-clause-fits : goal.carry_piece-requires-clause-fits
-carry_piece-requires-clause-fits g c =
-    let self = c.args.self.now in
-    let rate = self.runner.code.rate in
-    let source = c.args.source.now in
-    let n = c.loop-generation.generation in
-    let size : c.cap-capacity.result ≡ capacity rate = c.cap-capacity.ensures ∙ ap capacity self.rate_of in
-    let is = piece_within source rate n c.cap-capacity.result c.min-end.result size c.min-end.ensures in
-    let at : rate ≡ c.loop-generation.self.runner.code.rate = ap (λ (code : Code). code.rate) (sym c.loop-generation.invariant.code) in
-    subst (λ rate. length (take (c.min-end.result - n * c.cap-capacity.result) (drop (n * c.cap-capacity.result) source)) ≤ capacity rate) at
-    (subst (λ (piece : List ℕ). length piece ≤ capacity rate) (sym is) (length-piece_of source rate n))
-
-pub carry_piece-requires-clause-numbered : goal.carry_piece-requires-clause-numbered
-carry_piece-requires-clause-numbered g c =
-    omega (arith, c.loop-generation.invariant.next, c.requires.short, div-le_self (length c.args.source.now) c.cap-capacity.result)
-
-pub carry_piece-requires-clause-made : goal.carry_piece-requires-clause-made
-carry_piece-requires-clause-made g c = λ path there.
-    let before = c.loop-generation.invariant.calls in
-    (g.met.S.Store.accounts before.calls.on_store _ _ before.on_store).counts.still_made path
-    (c.requires.made path (subst (λ outputs. Contains (map string_bytes outputs.items) path) c.loop-generation.invariant.outputs there))
-
--- what holds of a piece by the runner at hand holds of it by the source
-same-piece : (D : Bool → Code → ℕ → List (List ℕ) → ℕ → List ℕ → Type 0) {f f' : Bool} {code code' : Code} {pattern pattern' : ℕ} {paths paths' : List (List ℕ)} {n n' : ℕ} {piece piece' : List ℕ}
-    → f ≡ f' → code ≡ code' → pattern ≡ pattern' → paths ≡ paths' → n ≡ n' → piece ≡ piece' → D f code pattern paths n piece → D f' code' pattern' paths' n' piece'
-same-piece D {f' = f'} {code' = code'} {pattern' = pattern'} {paths = paths} {n = n} {piece = piece} faithful code_is same are number is holds =
-    subst-three (λ paths n piece. D f' code' pattern' paths n piece) are number is
-    (subst-three (λ faithful code pattern. D faithful code pattern paths n piece) faithful code_is same holds)
-
-pub loop-generation-preserved : goal.loop-generation-preserved
-loop-generation-preserved g c =
-    let self = c.args.self.now in
-    let runner = self.runner in
-    let rate = runner.code.rate in
-    let source = c.args.source.now in
-    let paths = paths_of self in
     let faithful = g.K.Links.faithful c.args.links.now in
-    let at = c.loop-generation in
-    let was = at.invariant in
-    let n = at.generation in
-    let size : c.cap-capacity.result ≡ capacity rate = c.cap-capacity.ensures ∙ ap capacity self.rate_of in
-    let is = piece_within source rate n c.cap-capacity.result c.min-end.result size c.min-end.ensures in
-    let all : length source / c.cap-capacity.result + 1 ≡ block_count source rate = ap (λ size. length source / size + 1) size in
-    let moved = c.in_ok-carry_piece.ensures.moved in
-    let delivered = c.in_ok-carry_piece.ensures.delivered in
-    record {
-      code = moved.code ∙ was.code;
-      pattern = moved.pattern ∙ was.pattern;
-      outputs = c.carry_piece.ensures.outputs ∙ was.outputs;
-      next = moved.next ∙ ap (λ n. n + 1) was.next;
-      can = c.in_ok-carry_piece.ensures.can;
-      faithful = (g.met.K.Links.accounts delivered.calls.on_links _ _ delivered.on_links).same_faithful ∙ was.faithful;
-      calls = both_then g.met.S.Store.more_calls g.met.K.Links.more_moves (DeliversSome faithful runner.code runner.pattern paths source n) _
-          (DeliversSome faithful runner.code runner.pattern paths source (n + 1)) was.calls delivered
-          (λ first later some piece.
-          delivers-more faithful runner.code runner.pattern paths source c.requires.can.known n (omega (arith, all)) first later some
-          (same-piece (λ f code pattern paths n piece. DeliversPiece f code pattern paths n piece Are later) was.faithful was.code was.pattern
-          (ap (λ outputs. map string_bytes outputs.items) was.outputs) was.next is piece));
-    }
-
-pub returns-in_err-carry_piece-clause-interrupted : goal.returns-in_err-carry_piece-clause-interrupted
-returns-in_err-carry_piece-clause-interrupted g c =
-    let self = c.args.self.now in
-    let runner = self.runner in
-    let rate = runner.code.rate in
-    let source = c.args.source.now in
-    let paths = paths_of self in
-    let faithful = g.K.Links.faithful c.args.links.now in
-    let was = c.loop-generation.invariant in
-    let n = c.loop-generation.generation in
-    let size : c.cap-capacity.result ≡ capacity rate = c.cap-capacity.ensures ∙ ap capacity self.rate_of in
-    let is = piece_within source rate n c.cap-capacity.result c.min-end.result size c.min-end.ensures in
-    let all : length source / c.cap-capacity.result + 1 ≡ block_count source rate = ap (λ size. length source / size + 1) size in
-    let why = c.in_err-carry_piece.field-0.0 in
+    let why = c.in_err-gather.field-0.0 in
     if_err _ c.from_residual.result why c.from_residual.ensures.1
-    (both_then g.met.S.Store.more_calls g.met.K.Links.more_moves (DeliversSome faithful runner.code runner.pattern paths source n) _
-    (Interrupts faithful runner.code runner.pattern paths source why) was.calls c.in_err-carry_piece.ensures.interrupted
-    (λ first later some piece.
-    interrupts faithful runner.code runner.pattern paths source c.requires.can.known n (omega (arith, all)) first later some why
-    (same-piece (λ f code pattern paths n piece. InterruptsPiece f code pattern paths n piece why later) was.faithful was.code was.pattern
-    (ap (λ outputs. map string_bytes outputs.items) was.outputs) was.next is piece)))
+    (both_weaker _ _ c.in_err-gather.ensures.interrupted
+    (λ calls is.
+    interrupts-some faithful runner.code runner.pattern (paths_of self) c.requires.can.known c.args.source.now why calls
+    (interrupts-more faithful runner.code runner.pattern (paths_of self) 0 c.args.source.now (length c.args.source.now / capacity runner.code.rate) (block_count c.args.source.now runner.code.rate) (omega arith) why calls
+    (subst (λ bytes. InterruptsBytes faithful runner.code runner.pattern (paths_of self) 0 bytes (length bytes / capacity runner.code.rate) why calls) (all g at)
+    (subst (λ n. InterruptsBytes faithful runner.code runner.pattern (paths_of self) n (bytes g at) (length (bytes g at) / capacity runner.code.rate) why calls) c.requires.from_start is)))))
 
-pub returns-clause-delivered : goal.returns-clause-delivered
-returns-clause-delivered g c =
+pub returns-in_err-carry_last-clause-interrupted : goal.returns-in_err-carry_last-clause-interrupted
+returns-in_err-carry_last-clause-interrupted g c =
+    let at = (goal.at.returns-in_err-carry_last-clause-interrupted g c).After-gather in
     let self = c.args.self.now in
     let runner = self.runner in
-    let source = c.args.source.now in
-    let size : c.cap-capacity.result ≡ capacity runner.code.rate = c.cap-capacity.ensures ∙ ap capacity self.rate_of in
-    let all : length source / c.cap-capacity.result + 1 ≡ block_count source runner.code.rate = ap (λ size. length source / size + 1) size in
-    let done : c.loop-generation.generation ≡ block_count source runner.code.rate = omega (arith, all) in
-    both_weaker _ _ c.loop-generation.invariant.calls
-    (λ calls some. subst (λ n. DeliversSome (g.K.Links.faithful c.args.links.now) runner.code runner.pattern (paths_of self) source n calls) done some)
+    let code = runner.code in
+    let faithful = g.K.Links.faithful c.args.links.now in
+    let first = c.in_ok-gather.ensures in
+    let k = blocks g at in
+    let left = c.gather.new.self.gathered.items in
+    let why = c.in_err-carry_last.field-0.0 in
+    let kept = (g.met.K.Links.accounts first.delivered.calls.on_links _ _ first.delivered.on_links).same_faithful in
+    if_err _ c.from_residual-in_err-carry_last.result why c.from_residual-in_err-carry_last.ensures.1
+    (both_then g.met.S.Store.more_calls g.met.K.Links.more_moves (DeliversBlocks faithful code runner.pattern (paths_of self) runner.next (blocks_from (bytes g at) code.rate 0 k) Are) _
+    (Interrupts faithful code runner.pattern (paths_of self) c.args.source.now why) first.delivered c.in_err-carry_last.ensures.interrupted
+    (λ front later some broken.
+    interrupts-some faithful code runner.pattern (paths_of self) c.requires.can.known c.args.source.now why _
+    (subst (λ bytes. InterruptsBytes faithful code runner.pattern (paths_of self) 0 bytes (block_count bytes code.rate) why (record { on_store = front.on_store ++ later.on_store; on_links = front.on_links ++ later.on_links })) (all g at)
+    (subst (λ n. InterruptsBytes faithful code runner.pattern (paths_of self) n (bytes g at) (block_count (bytes g at) code.rate) why (record { on_store = front.on_store ++ later.on_store; on_links = front.on_links ++ later.on_links })) c.requires.from_start
+    (left-interrupted faithful code runner.pattern (paths_of self) c.requires.can.known runner.next k (block_count left code.rate) (bytes g at) left first.gathered front later some
+    (block_count (bytes g at) code.rate) (omega (arith, count-left code k (bytes g at) left first.gathered)) why
+    (retold (λ faithful code pattern paths n. InterruptsBlocks faithful code pattern paths n (blocks_from left code.rate 0 (block_count left code.rate)) why later) g at first.gone_on kept broken))))))
 
 pub returns-clause-counts : goal.returns-clause-counts
 returns-clause-counts g c =
+    subst (λ code. AreCounts code c.args.source.now c.counts.result) (c.in_ok-carry_last.ensures.code ∙ c.in_ok-gather.ensures.gone_on.code) (c.counts.ensures c.args.source.now refl)
+
+pub returns-clause-delivered : goal.returns-clause-delivered
+returns-clause-delivered g c =
+    let at = (goal.at.returns-clause-delivered g c).After-gather in
     let self = c.args.self.now in
-    record {
-      bytes = refl;
-      generations = ap (λ size. length c.args.source.now / size + 1) (c.cap-capacity.ensures ∙ ap capacity self.rate_of);
-      sinks = omega (arith, c.len.ensures, c.loop-generation.self.sinks) ∙ ap (λ (code : Code). length code.net.sinks) c.loop-generation.invariant.code;
-    }
+    let runner = self.runner in
+    let code = runner.code in
+    let faithful = g.K.Links.faithful c.args.links.now in
+    let first = c.in_ok-gather.ensures in
+    let k = blocks g at in
+    let left = c.gather.new.self.gathered.items in
+    let kept = (g.met.K.Links.accounts first.delivered.calls.on_links _ _ first.delivered.on_links).same_faithful in
+    both_then g.met.S.Store.more_calls g.met.K.Links.more_moves (DeliversBlocks faithful code runner.pattern (paths_of self) runner.next (blocks_from (bytes g at) code.rate 0 k) Are) _
+    (DeliversSome faithful code runner.pattern (paths_of self) c.args.source.now (block_count c.args.source.now code.rate)) first.delivered c.in_ok-carry_last.ensures.delivered
+    (λ front later some more.
+    let calls : Calls = record { on_store = front.on_store ++ later.on_store; on_links = front.on_links ++ later.on_links } in
+    delivers-some faithful code runner.pattern (paths_of self) c.requires.can.known c.args.source.now calls
+    (subst (λ bytes. DeliversBlocks faithful code runner.pattern (paths_of self) 0 (blocks_from bytes code.rate 0 (block_count bytes code.rate)) Are calls) (all g at)
+    (subst (λ n. DeliversBlocks faithful code runner.pattern (paths_of self) n (blocks_from (bytes g at) code.rate 0 (block_count (bytes g at) code.rate)) Are calls) c.requires.from_start
+    (subst (λ n. DeliversBlocks faithful code runner.pattern (paths_of self) runner.next (blocks_from (bytes g at) code.rate 0 n) Are calls) (count-left code k (bytes g at) left first.gathered)
+    (left-delivered faithful code runner.pattern (paths_of self) c.requires.can.known runner.next k (block_count left code.rate) (bytes g at) left first.gathered front later some
+    (retold (λ faithful code pattern paths n. DeliversBlocks faithful code pattern paths n (blocks_from left code.rate 0 (block_count left code.rate)) Are later) g at first.gone_on kept more))))))

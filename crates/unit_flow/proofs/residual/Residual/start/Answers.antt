@@ -2,7 +2,8 @@ use Rattle.std.proofs.Common.{◌≡◌, [], List, ℕ, length, sym, subst, arit
 use Rattle.std.proofs.lemmas.List.{take_more}
 use Rattle.unit_flow.specs.declared.residual.LinkState.{LinkState}
 use Rattle.unit_flow.specs.declared.residual.LinkState.TheVariants.{Free, Failed}
-use Rattle.unit_flow.proofs.StartSteps.{AreMarked, failed_within, marked_none, marked_more}
+use Rattle.net_model.proofs.FailedLaws.{failed_within}
+use Rattle.unit_flow.proofs.StartSteps.{AreMarked, marked_none, marked_more}
 use Rattle.unit_flow.proofs.residual.Residual.start.Goals as goal
 
 pub index_mut-requires : goal.index_mut-requires

@@ -1,72 +1,45 @@
-use Rattle.std.proofs.Common.{◌≡◌, ◌<◌, ◌+◌, ℕ, Some, length, sym, ◌∙◌, subst, arith}
-use Rattle.std.proofs.lemmas.List.{get_or_read}
-use Rattle.counted_steps.specs.Steps.{RoseByAtMost}
-use Rattle.link_chains.specs.Chains.{AreFirsts, AreNexts, IsNextAt, end_of}
-use Rattle.link_chains.proofs.WiringLaws.{AreFirsts-wiring, AreNexts-wiring}
-use Rattle.link_chains.specs.declared.chains.Chains.{Chains}
-use Rattle.net_model.specs.Flows.{flow_network}
-use Rattle.unit_flow.specs.Residual.{passage}
-use Rattle.unit_flow.specs.Searching.{links_at, node_at}
-use Rattle.unit_flow.proofs.ChainSteps.{IsPassing, counted_most, passing_more, passing_none}
-use Rattle.unit_flow.proofs.SearchSteps.{longer_then, node_stays}
+use Rattle.std.specs.Prelude.{◌<◌, ℕ, true, false, None, Some, length, slice_set}
+use Rattle.std.proofs.Common.{sym, ◌∙◌, ap, subst, arith}
+use Rattle.std.proofs.lemmas.List.{get_or-set_same}
+use Rattle.std.proofs.lemmas.Option.{same_Some}
+use Rattle.net_model.specs.Flows.{is_on}
+use Rattle.unit_flow.specs.Searching.{HasPassed}
+use Rattle.unit_flow.specs.declared.search.Entry.{Entry}
+use Rattle.unit_flow.proofs.PassingSteps.{IsNextAt-read, passing_more, passing_none, steps_kept}
 use Rattle.unit_flow.proofs.search.Search.pass_chain.Goals as goal
 
 pub loop-link-init : goal.loop-link-init
-loop-link-init g c =
-    let net = c.args.net.now in
-    let search = c.args.self.now in
-    let network = flow_network net c.args.residual.now.demand in
-    let end : ℕ → ℕ = end_of net.links c.args.end in
-    let chains = c.chains-chains.result.now in
-    let node = c.index-node.result.now in
-    let place : search.done < length search.queue.items = omega (arith, c.requires.more, c.requires.queue.within, c.requires.queue.places.queue) in
-    let node_is : node ≡ node_at search search.done = get_or_read search.queue.items search.done node place c.index-node.ensures 0 in
-    let Firsts : Chains → Type 0 = λ some. AreFirsts end (length net.links) (length net.nodes) 0 some.firsts.items in
-    let firsts : Firsts chains = subst Firsts (sym c.chains-chains.ensures) (AreFirsts-wiring net.links (length net.nodes) c.args.wiring.now c.args.end c.requires.wiring) in
-    let below : node < length net.nodes = rw node_is (c.requires.queue.nodes search.done c.requires.more) in
-    let inside : node < length chains.firsts.items = omega (arith, firsts.each_node) in
-    let Next : ℕ → Type 0 = λ link. IsNextAt end (length net.links) node 0 link in
-    let At : ℕ → Type 0 = λ n. IsNextAt end (length net.links) n 0 c.index-link.result.now in
-    passing_none network c.args.residual.now.states end search (node_at search search.done) c.args.sink c.index-link.result.now c.args.steps.now c.requires.queue c.requires.sink
-    (subst At node_is (subst Next (sym (get_or_read chains.firsts.items node c.index-link.result.now inside c.index-link.ensures 0)) (firsts.first node below)))
+loop-link-init g c = passing_none c.args.net.now c.args.residual.now.states c.args.end c.args.node c.args.first c.args.self.now.reached.items c.args.steps.now c.requires.first
 
-pub returns-then-pass-clause-longer : goal.returns-then-pass-clause-longer
-returns-then-pass-clause-longer g c = longer_then c.args.self.now c.loop-link.self c.pass.new.self c.loop-link.invariant.longer c.pass.ensures.longer
-
-pub returns-then-pass-clause-ticks : goal.returns-then-pass-clause-ticks
-returns-then-pass-clause-ticks g c =
+pub returns-in-Some-clause-passed : goal.returns-in-Some-clause-passed
+returns-in-Some-clause-passed g c =
     let net = c.args.net.now in
     let states = c.args.residual.now.states in
-    let old = c.args.self.now in
-    let search = c.loop-link.self in
-    let inside : c.loop-link.link < length net.links = omega (arith, c.loop-link-test.true, c.len-count.ensures) in
-    let From : ℕ → ℕ → Type 0 = λ to node. passage net.links states c.loop-link.link node ≡ Some to in
-    let Rose : ℕ → Type 0 = λ n. RoseByAtMost (links_at (end_of net.links c.args.end) (length net.links) (node_at old old.done) (length net.links)) c.args.steps.now n in
-    subst Rose (sym c.pass.ensures.ticks)
-    (counted_most (flow_network net c.args.residual.now.demand) states (end_of net.links c.args.end) old search c.pass.new.self (node_at old old.done) c.args.sink c.loop-link.link
-    c.args.steps.now c.loop-link.steps c.loop-link.invariant inside c.pass.ensures.longer
-    (λ to leads. c.pass.ensures.passed to (subst (From to) (sym (node_stays old search c.loop-link.invariant.longer c.requires.more)) leads)))
+    let reached = c.args.self.now.reached.items in
+    let link = c.loop-link.link in
+    let node = c.in-Some.node in
+    let entry : Entry = record { node = node; link = link } in
+    let within : link < length net.links = omega (arith, c.loop-link-test.true, c.len-count.ensures) in
+    let room : node < length reached = omega (arith, c.in-Some.ensures.entry.below, c.requires.places.reached) in
+    let Passed_by : ℕ → Type 0 = λ n. HasPassed net states c.args.end c.args.node c.args.first reached (record { next = c.index-next.result.now; entry = Some entry }) c.args.steps.now n in
+    subst Passed_by (sym c.pass.ensures.ticks)
+    (passing_more net states c.args.end c.args.node c.args.first link c.index-next.result.now reached (Some entry) c.args.steps.now c.loop-link.steps c.loop-link.invariant within (IsNextAt-read net.links (length net.nodes) c.args.wiring.now c.chains-chains.result.now c.args.end link c.index-next.result.now c.requires.wiring c.chains-chains.ensures within c.index-next.ensures)
+    (λ to leads. ap (is_on (slice_set reached node true)) (same_Some _ _ (sym leads ∙ c.in-Some.ensures.entry.leads)) ∙ get_or-set_same reached node true false room))
+
+pub returns-in-Some-clause-looked : goal.returns-in-Some-clause-looked
+returns-in-Some-clause-looked g c = omega (arith, c.pass.ensures.ticks, steps_kept c.args.net.now c.args.residual.now.states c.args.end c.args.node c.args.first c.args.self.now.reached.items _ c.args.steps.now c.loop-link.steps c.loop-link.invariant)
 
 pub loop-link-preserved : goal.loop-link-preserved
 loop-link-preserved g c =
     let net = c.args.net.now in
     let states = c.args.residual.now.states in
-    let network = flow_network net c.args.residual.now.demand in
-    let end : ℕ → ℕ = end_of net.links c.args.end in
-    let old = c.args.self.now in
-    let search = c.loop-link.self in
+    let reached = c.args.self.now.reached.items in
     let link = c.loop-link.link in
-    let chains = c.chains-chains.result.now in
-    let next = c.index-link-in-loop-link.result.now in
     let within : link < length net.links = omega (arith, c.loop-link-test.true, c.len-count.ensures) in
-    let Nexts : Chains → Type 0 = λ some. AreNexts end (length net.links) 0 some.nexts.items in
-    let nexts : Nexts chains = subst Nexts (sym c.chains-chains.ensures) (AreNexts-wiring net.links (length net.nodes) c.args.wiring.now c.args.end c.requires.wiring) in
-    let inside : link < length chains.nexts.items = omega (arith, nexts.each_link) in
-    let Next : ℕ → Type 0 = λ to. IsNextAt end (length net.links) (end link) (link + 1) to in
-    let From : ℕ → ℕ → Type 0 = λ to node. passage net.links states link node ≡ Some to in
-    let Passing : ℕ → Type 0 = λ n. IsPassing network states end old c.pass.new.self (node_at old old.done) c.args.sink next c.args.steps.now n in
-    subst Passing (sym c.pass.ensures.ticks)
-    (passing_more network states end old search c.pass.new.self (node_at old old.done) c.args.sink link c.args.steps.now c.loop-link.steps c.loop-link.invariant within c.pass.ensures.longer
-    (λ to leads. c.pass.ensures.passed to (subst (From to) (sym (node_stays old search c.loop-link.invariant.longer c.requires.more)) leads))
-    next c.pass.ensures.queue (c.pass.ensures.sink ∙ c.if-pass.false)
-    (subst Next (sym (get_or_read chains.nexts.items link next inside c.index-link-in-loop-link.ensures 0)) (nexts.next link (omega arith) within)))
+    let Passed_by : ℕ → Type 0 = λ n. HasPassed net states c.args.end c.args.node c.args.first reached (record { next = c.index-next.result.now; entry = None }) c.args.steps.now n in
+    subst Passed_by (sym c.pass.ensures.ticks)
+    (passing_more net states c.args.end c.args.node c.args.first link c.index-next.result.now reached None c.args.steps.now c.loop-link.steps c.loop-link.invariant within (IsNextAt-read net.links (length net.nodes) c.args.wiring.now c.chains-chains.result.now c.args.end link c.index-next.result.now c.requires.wiring c.chains-chains.ensures within c.index-next.ensures)
+    c.in_default.ensures.known)
+
+pub returns-clause-passed : goal.returns-clause-passed
+returns-clause-passed g c = c.loop-link.invariant

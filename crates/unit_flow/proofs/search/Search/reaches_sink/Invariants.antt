@@ -1,12 +1,13 @@
-use Rattle.std.proofs.Common.{◌-◌, length}
+use Rattle.std.proofs.Common.{◌+◌, ◌*◌, ◌-◌, length}
 use Rattle.net_model.specs.Flows.{flow_network}
-use Rattle.unit_flow.proofs.ReachSteps.{IsSearching}
+use Rattle.unit_flow.specs.Searching.{passed_links}
+use Rattle.unit_flow.proofs.ReachSteps.{IsOnTheWay}
 use Rattle.unit_flow.proofs.search.Search.reaches_sink.Given as goal
 
--- the nodes before this place of the queue were looked at, and the sink isn't reached
+-- the sink isn't reached, and each link that was passed took a step
 abbrev pub invariant-loop-self : goal.invariant-loop-self
-invariant-loop-self g l = IsSearching (flow_network l.net l.residual.demand) l.residual.states l.self l.initial.steps l.steps
+invariant-loop-self g l = IsOnTheWay (flow_network l.net l.residual.demand) l.residual.states l.self l.initial.steps l.steps
 
--- how many nodes weren't
+-- twice the links that are left to be passed, and the nodes on the way
 abbrev pub decreases-loop-self : goal.decreases-loop-self
-decreases-loop-self g l = length l.net.nodes - l.self.done
+decreases-loop-self g l = l.self.depth + 4 * length l.net.links - 2 * passed_links l.net.links l.self

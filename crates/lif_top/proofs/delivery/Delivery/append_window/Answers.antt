@@ -1,0 +1,103 @@
+use Rattle.std.specs.Prelude.{◌+◌}
+use Rattle.std.proofs.Common.{◌≡◌, ◌++◌, ◌∷◌, [], Contains, List, ℕ, map, refl, ap, ◌∙◌, sym, subst, subst₂, arith, string_bytes}
+use Rattle.lif_outside.proofs.CallLaws.{calls_of, calls_then, calls_weaker}
+use Rattle.lif_outside.specs.Events.{Event}
+use Rattle.lif_outside.specs.Moves.{Move}
+use Rattle.lif_outside.specs.Runs.{StopsWithin, appends_of}
+use Rattle.relay_runner.specs.Carried.{HasCarriedBy, packets_given}
+use Rattle.relay_runner.specs.Running.{HasCarried, Running}
+use Rattle.top_base.proofs.Exits.{on_err}
+use Rattle.lif_top.proofs.TurnLaws.{turns-next, turns-stopped}
+use Rattle.lif_top.specs.Send.Ready.{paths_of}
+use Rattle.lif_top.specs.Send.Turns.{turn_at, turns_from}
+use Rattle.lif_top.proofs.delivery.Delivery.append_window.Goals as goal
+
+-- the appends of a turn, and of the first ones, by the runner
+abbrev turn : ℕ → List Move → List (List ℕ) → Running → List Event
+turn place moves paths runner = appends_of (turn_at paths runner.code runner.pattern (packets_given moves) (runner.first + place) ∷ [])
+
+abbrev turns : ℕ → List Move → List (List ℕ) → Running → List Event
+turns count moves paths runner = appends_of (turns_from paths runner.code runner.pattern (packets_given moves) runner.first count)
+
+pub loop-place-init : goal.loop-place-init
+loop-place-init g c = record {
+  runner = refl;
+  outputs = refl;
+  gathered = refl;
+  made = c.requires.made;
+  calls = λ moves by. calls_of _ [] (g.met.S.Store.no_calls c.args.store.now) refl;
+}
+
+pub append_block-requires-clause-place : goal.append_block-requires-clause-place
+append_block-requires-clause-place g c = omega (arith, c.requires.all, ap (λ (runner : Running). runner.count) c.loop-place.invariant.runner)
+
+pub append_block-requires-clause-few : goal.append_block-requires-clause-few
+append_block-requires-clause-few g c = omega (arith, c.requires.all, c.requires.few, ap (λ (runner : Running). runner.count) c.loop-place.invariant.runner)
+
+pub append_block-requires-clause-carried : goal.append_block-requires-clause-carried
+append_block-requires-clause-carried g c = subst HasCarried (sym c.loop-place.invariant.runner) c.requires.carried
+
+pub append_block-requires-clause-made : goal.append_block-requires-clause-made
+append_block-requires-clause-made g c = λ path there.
+    c.loop-place.invariant.made path (subst (λ outputs. Contains (map string_bytes outputs.items) path) c.loop-place.invariant.outputs there)
+
+pub returns-in_err-append_block-clause-runner : goal.returns-in_err-append_block-clause-runner
+returns-in_err-append_block-clause-runner g c = c.append_block.ensures.runner ∙ c.loop-place.invariant.runner
+
+pub returns-in_err-append_block-clause-outputs : goal.returns-in_err-append_block-clause-outputs
+returns-in_err-append_block-clause-outputs g c = c.append_block.ensures.outputs ∙ c.loop-place.invariant.outputs
+
+pub returns-in_err-append_block-clause-gathered : goal.returns-in_err-append_block-clause-gathered
+returns-in_err-append_block-clause-gathered g c = c.append_block.ensures.gathered ∙ c.loop-place.invariant.gathered
+
+pub returns-in_err-append_block-clause-failed : goal.returns-in_err-append_block-clause-failed
+returns-in_err-append_block-clause-failed g c =
+    let self = c.args.self.now in
+    let runner = self.runner in
+    let paths = paths_of self in
+    let n = c.loop-place.place in
+    let was = c.loop-place.invariant in
+    on_err c.from_residual.result (λ moves by.
+    let all : List Event = turns c.args.count moves paths runner in
+    calls_then g.met.S.Store.more_calls _ _ (StopsWithin all) (was.calls moves by)
+    (c.in_err-append_block.ensures.failed moves (subst (λ runner. HasCarriedBy runner moves) (sym was.runner) by))
+    (λ first later one other. subst (λ first. StopsWithin all (first ++ later)) (sym one)
+    (turns-stopped paths runner.code runner.pattern (packets_given moves) runner.first c.args.count n c.loop-place-test.true later
+    (subst₂ (λ (runner : Running) outputs. StopsWithin (turn n moves (map string_bytes outputs.items) runner) later) was.runner was.outputs other))))
+
+pub loop-place-preserved : goal.loop-place-preserved
+loop-place-preserved g c =
+    let self = c.args.self.now in
+    let runner = self.runner in
+    let paths = paths_of self in
+    let n = c.loop-place.place in
+    let was = c.loop-place.invariant in
+    record {
+      runner = c.append_block.ensures.runner ∙ was.runner;
+      outputs = c.append_block.ensures.outputs ∙ was.outputs;
+      gathered = c.append_block.ensures.gathered ∙ was.gathered;
+      made = λ path there. c.append_block.ensures.still_made path (subst (λ outputs. Contains (map string_bytes outputs.items) path) (sym was.outputs) there);
+      calls = λ moves by.
+          calls_then g.met.S.Store.more_calls _ _ _ (was.calls moves by)
+          (c.in_ok-append_block.ensures.appended moves (subst (λ runner. HasCarriedBy runner moves) (sym was.runner) by))
+          (λ first later one other. ap (λ (events : List Event). events ++ later) one
+          ∙ ap (λ (events : List Event). turns n moves paths runner ++ events)
+          (other ∙ ap (turn n moves (map string_bytes c.loop-place.self.outputs.items)) was.runner
+          ∙ ap (λ outputs. turn n moves (map string_bytes outputs.items) runner) was.outputs)
+          ∙ turns-next paths runner.code runner.pattern (packets_given moves) runner.first n);
+    }
+
+pub returns-clause-runner : goal.returns-clause-runner
+returns-clause-runner g c = c.loop-place.invariant.runner
+
+pub returns-clause-outputs : goal.returns-clause-outputs
+returns-clause-outputs g c = c.loop-place.invariant.outputs
+
+pub returns-clause-gathered : goal.returns-clause-gathered
+returns-clause-gathered g c = c.loop-place.invariant.gathered
+
+pub returns-clause-appended : goal.returns-clause-appended
+returns-clause-appended g c = λ moves by.
+    let self = c.args.self.now in
+    let all : c.loop-place.place ≡ c.args.count = omega arith in
+    calls_weaker _ _ (c.loop-place.invariant.calls moves by) (λ made is. is ∙ ap (λ count. turns count moves (paths_of self) self.runner) all)

@@ -1,0 +1,35 @@
+use Rattle.std.specs.Prelude.{◌-◌, ◌*◌}
+use Rattle.std.proofs.Common.{◌≡◌, [], length, refl, ap, ◌∙◌, sym, subst, arith}
+use Rattle.generation_frame.specs.Blocks.{capacity}
+use Rattle.lif_outside.specs.Sequences.{Are}
+use Rattle.lif_top.proofs.GatherLaws.{behind-all, on_ok_both}
+use Rattle.lif_top.specs.Send.Carried.{blocks_from}
+use Rattle.lif_top.specs.Send.Delivering.{DeliversBlocks, IsBehind}
+use Rattle.lif_top.specs.Send.Ready.{paths_of}
+use Rattle.lif_top.proofs.delivery.Delivery.carry_full.Goals as goal
+
+pub returns-then-len-cap-clause-delivered : goal.returns-then-len-cap-clause-delivered
+returns-then-len-cap-clause-delivered g c =
+    let self = c.args.self.now in
+    let runner = self.runner in
+    let none : 0 ≡ runner.next - runner.next = omega arith in
+    record {
+      calls = record { on_store = []; on_links = [] };
+      on_store = g.met.S.Store.no_calls c.args.store.now;
+      on_links = g.met.K.Links.no_moves c.args.links.now;
+      holds = subst (λ n. DeliversBlocks (g.K.Links.faithful c.args.links.now) runner.code runner.pattern (paths_of self) runner.next (blocks_from self.gathered.items runner.code.rate 0 n) Are
+          (record { on_store = []; on_links = [] })) none (record { on_links = refl; on_store = refl });
+    }
+
+pub returns-clause-gathered : goal.returns-clause-gathered
+returns-clause-gathered g c =
+    let self = c.args.self.now in
+    let rate = self.runner.code.rate in
+    let size : c.cap.result ≡ capacity rate = c.cap.ensures ∙ ap capacity self.rate_of in
+    let all : length self.gathered.items ≡ 4 * capacity rate = omega (arith, size, self.few, c.if-len-cap.false, c.len.ensures) in
+    on_ok_both c.carry_gathered.result
+    (λ nothing moved.
+    let count : 4 ≡ c.carry_gathered.new.self.runner.next - self.runner.next = omega (arith, moved.next) in
+    subst (λ left. IsBehind rate (c.carry_gathered.new.self.runner.next - self.runner.next) self.gathered.items left) (sym nothing)
+    (subst (λ n. IsBehind rate n self.gathered.items []) count (behind-all rate 4 self.gathered.items all)))
+    c.carry_gathered.ensures.nothing c.carry_gathered.ensures.moved

@@ -1,0 +1,58 @@
+-- How a source is streamed: its file is read, its blocks are carried over the links as they come, and what comes of them is delivered.
+use Rattle.std.specs.Prelude.{◌≡◌, ℕ, Bool, List}
+use Rattle.generation_frame.specs.Blocks.{block_count}
+use Rattle.lif_outside.specs.Calls.{Calls}
+use Rattle.lif_outside.specs.Events.{Event}
+use Rattle.lif_outside.specs.Moves.{Move}
+use Rattle.lif_outside.specs.Runs.{ReadsPastLimit, ReadsToFault, ReadsWhole, StopsWithin, bytes_read}
+use Rattle.lif_outside.specs.Sequences.{Are, IsFrontOf}
+use Rattle.lif_outside.specs.Streams.{Streams, reads_in}
+use Rattle.node_program.specs.declared.code.Code.{Code}
+use Rattle.relay_runner.specs.Carried.{packets_given}
+use Rattle.top_base.specs.Inputs.{ReadsAny}
+use Rattle.top_base.specs.Lines.{link_fault_line, read_fault_line, too_long_line, write_fault_line}
+use Rattle.top_base.specs.declared.outcome.Outcome.{Outcome}
+use Rattle.top_base.specs.declared.status.Status.TheVariants.{LinkFault, ReadFault, TooLong, WriteFault}
+use Rattle.lif_top.specs.Send.Carried.{Breaks, CarriesFirst}
+use Rattle.lif_top.specs.Send.Ready.{AreCounts}
+use Rattle.lif_top.specs.Send.Runs.{AtRest, blocks_brought, deliveries_to}
+use Rattle.lif_top.specs.declared.delivery.DeliveryFault.TheVariants as fault
+use Rattle.lif_top.specs.declared.delivery.SentCounts.{SentCounts}
+use Rattle.lif_top.specs.declared.streaming.StreamFault.{StreamFault}
+use Rattle.lif_top.specs.declared.streaming.StreamFault.TheVariants as stream
+
+-- A file was read, its first blocks were carried over the links, and what came was delivered to the files at these paths: P holds of
+-- the reads, Q of the appends that are due and of those that were made, and R of the calls on the links after these blocks.
+pub record StreamsSource (faithful : Bool) (code : Code) (pattern : ℕ) (paths : List (List ℕ)) (P : List Event → Type 0)
+    (Q : List Event → List Event → Type 0) (R : List ℕ → ℕ → ℕ → List Move → Type 0) (calls : Calls) : Type 0 where
+  pub carried : ℕ
+  pub on_store : Streams (deliveries_to paths code pattern (packets_given calls.on_links) carried) P Q calls.on_store
+  pub on_links : CarriesFirst faithful code pattern (bytes_read (reads_in calls.on_store))
+      (blocks_brought (reads_in calls.on_store) code.rate)
+      (R (bytes_read (reads_in calls.on_store)) (blocks_brought (reads_in calls.on_store) code.rate)) carried calls.on_links
+
+-- the file of a path was read to its end, and all of its blocks were carried and delivered
+pub record StreamsAll (faithful : Bool) (code : Code) (pattern : ℕ) (paths : List (List ℕ)) (path : List ℕ) (limit : ℕ)
+    (counts : SentCounts) (calls : Calls) : Type 0 where
+  pub source : List ℕ
+  pub counts_are : AreCounts code source counts
+  pub streams : StreamsSource faithful code pattern paths (ReadsWhole path limit source) Are AtRest calls
+  pub all : streams.carried ≡ block_count source code.rate
+
+-- not all was
+abbrev pub StopsStreaming : Bool → Code → ℕ → List (List ℕ) → List ℕ → ℕ → StreamFault → Calls → Type 0
+StopsStreaming faithful code pattern paths path limit stream.Read calls =
+    StreamsSource faithful code pattern paths (ReadsToFault path limit) IsFrontOf AtRest calls
+StopsStreaming faithful code pattern paths path limit stream.TooLong calls =
+    StreamsSource faithful code pattern paths (ReadsPastLimit path limit) IsFrontOf AtRest calls
+StopsStreaming faithful code pattern paths path limit (stream.Sinks fault.Links) calls =
+    StreamsSource faithful code pattern paths (ReadsAny path limit) IsFrontOf (Breaks faithful code pattern) calls
+StopsStreaming faithful code pattern paths path limit (stream.Sinks fault.Write) calls =
+    StreamsSource faithful code pattern paths (ReadsAny path limit) StopsWithin AtRest calls
+
+-- what that makes of the command
+abbrev pub outcome_of : StreamFault → Outcome
+outcome_of stream.Read = record { status = ReadFault; line = read_fault_line }
+outcome_of stream.TooLong = record { status = TooLong; line = too_long_line }
+outcome_of (stream.Sinks fault.Links) = record { status = LinkFault; line = link_fault_line }
+outcome_of (stream.Sinks fault.Write) = record { status = WriteFault; line = write_fault_line }
