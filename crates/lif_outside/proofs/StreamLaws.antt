@@ -157,7 +157,7 @@ writes-append : (first later : List Event) → writes_in (first ++ later) ≡ wr
 writes-append first later = filter-append is_write first later
 
 -- a call among the calls of two lists is among the first, or among the later ones
-split_at_call : (first later front : List Event) (next : Event) (rest : List Event) → first ++ later ≡ front ++ next ∷ rest
+pub split_at_call : (first later front : List Event) (next : Event) (rest : List Event) → first ++ later ≡ front ++ next ∷ rest
     → ((more : List Event) × (first ≡ front ++ next ∷ more)) ⊎ ((more : List Event) × (front ≡ first ++ more) × (later ≡ more ++ next ∷ rest))
 split_at_call [] later front next rest e = inr (front, refl, e)
 split_at_call (event ∷ first) later [] next rest e =

@@ -12,7 +12,6 @@ pub mod Promising
 pub mod SendCalls
 pub mod SendLeaving
 pub mod SendPerforms
-pub mod Splits
 pub mod StreamingLaws
 pub mod TallyLaws
 pub mod Turning

@@ -27,7 +27,6 @@ use Rattle.lif_top.proofs.CarriedLaws.{blocks_from-append, blocks_from-behind, c
 use Rattle.lif_top.proofs.DeliveryLaws.{turns-joined}
 use Rattle.lif_top.proofs.GatherLaws.{behind-more, behind-none, behind-then, count-left, left-blocks, same-blocks}
 use Rattle.lif_top.proofs.SendLeaving.{all-brought}
-use Rattle.lif_top.proofs.Splits.{split_at_call}
 use Rattle.lif_top.proofs.TurnLaws.{turns-alike, turns-append}
 use Rattle.lif_top.specs.Send.Carried.{AreCarried, Breaks, blocks_from}
 use Rattle.lif_top.specs.Send.Delivering.{BreaksBlocks, DeliversBlocks, InterruptsBlocks, InterruptsBytes, IsBehind, calls_join}
