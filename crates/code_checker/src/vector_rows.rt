@@ -41,7 +41,14 @@ impl VectorRows {
         let failed = code.net.failed_table(alloc, pattern)?;
         let mut rows = Vec::with_capacity(alloc, count)?;
         for link in 0..count {
-            let row = row_of(tables, code, pattern, link as u32, failed[link], rows.as_slice());
+            let row = row_of(
+                tables,
+                code,
+                pattern,
+                link as u32,
+                failed[link],
+                rows.as_slice(),
+            );
             rows.push(row)?;
         }
         Ok(VectorRows { rows })

@@ -28,11 +28,13 @@ returns-in-Some c =
     let If : Option Failure → Type 0 = λ answer. IfSome answer (λ f. (f.demand ≡ c.number_of-demand.result)
     × DiffersFirst code.rate (demand_product code c.number_of-demand.result) f.row f.column f.found) in
     let found = subst If c.in-Some.is c.difference.ensures.some in
-    let Differs : ℕ → Type 0 = λ n. DiffersFirst code.rate (demand_product code n) failure.row failure.column failure.found in
-    (c.loop-sink.sink, record {
-      from_on = c.loop-sink.auto.sink;
-      within = c.loop-sink-test.true;
-      demand = found.0 ∙ c.number_of-demand.ensures.value;
-      before = c.loop-sink.invariant;
-      entry = subst Differs (sym found.0) found.1;
-    })
+    let Differs : ℕ → Type 0 = λ n. DiffersFirst code.rate (demand_product code n) failure.row failure.column failure.found in (
+      c.loop-sink.sink,
+      record {
+        from_on = c.loop-sink.auto.sink;
+        within = c.loop-sink-test.true;
+        demand = found.0 ∙ c.number_of-demand.ensures.value;
+        before = c.loop-sink.invariant;
+        entry = subst Differs (sym found.0) found.1;
+      },
+    )

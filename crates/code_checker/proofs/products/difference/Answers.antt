@@ -24,9 +24,11 @@ returns-in-Some-clause-some c =
     let code = c.args.code.now in
     let row = c.loop-row.row in
     let bytes = c.product_row-product.result in
-    let If : Option (ℕ × ℕ) → Type 0 = λ found. IfSome found (λ entry. DiffersAt code.rate row (elements_of code.field bytes) entry.0 entry.1) in
-    (refl, identity_differs code c.args.demand c.requires.demand row c.loop-row-test.true c.loop-row.invariant bytes c.product_row-product.ensures
-    c.in-Some.column c.in-Some.found (subst If c.in-Some.is c.differing.ensures.some))
+    let If : Option (ℕ × ℕ) → Type 0 = λ found. IfSome found (λ entry. DiffersAt code.rate row (elements_of code.field bytes) entry.0 entry.1) in (
+      refl,
+      identity_differs code c.args.demand c.requires.demand row c.loop-row-test.true c.loop-row.invariant bytes c.product_row-product.ensures
+          c.in-Some.column c.in-Some.found (subst If c.in-Some.is c.differing.ensures.some),
+    )
 
 pub returns-clause-none : goal.returns-clause-none
 returns-clause-none c = identity_all c.args.code.now c.args.demand c.requires.demand c.loop-row.row c.loop-row-test.false c.loop-row.invariant
