@@ -1,4 +1,6 @@
 pub mod CheckingLaws
+pub mod WideLaws
+pub mod SumSteps
 pub mod ProductSteps
-pub mod DifferenceSteps
 pub mod FirstSteps
+pub mod BatchSteps

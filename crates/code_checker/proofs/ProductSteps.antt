@@ -1,26 +1,33 @@
--- How a decoder's matrix and the vectors of its links are put into memory.
-use Rattle.std.proofs.Common.{◌≡◌, ℕ, ◌+◌, ◌*◌, ◌<◌, ◌≤◌, ◌⊎◌, inl, inr, List, [], length, map, get_or, refl, sym, ap, ◌∙◌, subst, arith, slice_get, slice_index, slice_set, replicate}
-use Rattle.std.specs.Prelude.{Option, Some, unwrap_or}
+-- How the rows of a code's vectors and of its products are made, and compared with the identity.
+use Rattle.std.specs.Prelude.{◌≡◌, ℕ, ◌+◌, ◌*◌, ◌<◌, ◌≤◌, true, false, Option, Some, List, [], ◌∷◌, ◌++◌, All, length, map, take, drop, slice_get, slice_index, unwrap_or, if◌then◌else◌}
+use Rattle.std.proofs.Common.{arith, refl, sym, ap, subst, ◌∙◌, get_or, inl, inr}
 use Rattle.std.proofs.lemmas.Bool.{cases_lt}
-use Rattle.std.proofs.lemmas.List.{length-map, length-replicate, length-set, get_or-map, ext_get_or}
+use Rattle.std.proofs.lemmas.List.{ext_get_or, get_or-map, get_or_append_left, get_or_push, length-map, length_push}
+use Rattle.std.proofs.lemmas.List.Elements.{All-map, All-weaker}
+use Rattle.std.proofs.lemmas.List.FromFn.{get_or-map-range_with_len}
 use Rattle.std.proofs.lemmas.Option.{slice_get_within}
-use Rattle.field_vectors.specs.Grid.{Grid, IsMatrix, entry_of, row_of, with_row, grid_of}
-use Rattle.field_vectors.proofs.GridLaws.{length-row_of, row_of-with_row, row_of-with_other, entry_of-set, entry_of-set_column, entry_of-with_other}
-use Rattle.linear_algebra.specs.Elements.{numbers}
-use Rattle.linear_algebra.proofs.EntryLaws.{slice_index-rows_of, rows_of-AreRows}
-use Rattle.linear_algebra.specs.Matrices.{rows_of}
-use Rattle.linear_algebra.proofs.MatrixLaws.{length-rows_of}
-use Rattle.linear_algebra.proofs.RowLaws.{AreRows-get_or}
-use Rattle.linear_algebra.specs.Rows.{AreElements}
+use Rattle.gf_tables.specs.Product.{size_of}
+use Rattle.linear_algebra.proofs.EntryLaws.{get_or-rows_of}
+use Rattle.linear_algebra.proofs.MatrixLaws.{length-identity, length-rows_of, length-times_rows, times_rows-AreRows}
+use Rattle.linear_algebra.proofs.RowLaws.{AreRows-get_or, unit_row-IsRow}
+use Rattle.linear_algebra.specs.Elements.{elements_of}
+use Rattle.linear_algebra.specs.Matrices.{identity, rows_of}
+use Rattle.linear_algebra.specs.Rows.{combination, unit_row, AreElements, AreRows, IsRow}
 use Rattle.net_model.specs.Demands.{demand_count, pattern_of_demand, sink_of_demand}
-use Rattle.gf_tables.specs.declared.kind.FieldKind.{FieldKind}
+use Rattle.net_model.specs.Failed.{failed_links, is_failed_in}
+use Rattle.net_model.specs.Walks.{leaves_source}
+use Rattle.node_program.proofs.DecodingLaws.{AreRows-decoder_matrix, AreRows-decoder_vectors, decoder_of_demand, link_within}
+use Rattle.node_program.proofs.VectorLaws.{IsRow-global_vector, global_vector-equation}
 use Rattle.node_program.specs.CodeValue.{vector_in}
 use Rattle.node_program.specs.Decoding.{IsDecoder, decoder_matrix, decoder_vectors}
-use Rattle.node_program.proofs.DecodingLaws.{decoder_of_demand, link_within}
-use Rattle.node_program.specs.Vectors.{AreVectors}
+use Rattle.node_program.specs.Operands.{IsOperand}
+use Rattle.node_program.specs.Value.{operands_at}
 use Rattle.node_program.specs.declared.Decoder.{Decoder}
+use Rattle.node_program.specs.declared.Operand.{Operand}
 use Rattle.node_program.specs.declared.code.Code.{Code}
-use Rattle.code_checker.specs.Loaded.{Shows}
+use Rattle.code_checker.proofs.WideLaws.{slice_index-widened}
+use Rattle.code_checker.specs.Checking.{demand_product, entry_at, DiffersFirst}
+use Rattle.code_checker.specs.WideRows.{operand_vector, widened, AreVectorRows, DiffersAt}
 
 -- a demand has a decoder
 pub decoder_within : (code : Code) (demand : ℕ) → demand < demand_count code.net → demand < length code.decoders
@@ -36,151 +43,168 @@ decoder_shape code demand decoder within at =
     let At : Decoder → Type 0 = λ decoder. IsDecoder code.net code.rate code.field (sink_of_demand code.net demand) decoder in
     subst At (ap (λ (o : Option Decoder). unwrap_or o decoder) (sym found.1 ∙ at)) found.2
 
--- the entries before row i, and in it before column j, have the numbers of entries that stand row by row
-pub record IsFilled {F : Type 0} (nil : F) (number : F → ℕ) (entries : List ℕ) (size i j : ℕ) (m : Grid F) : Type 0 where
-  pub height : length m.rows ≡ size
-  pub columns : m.columns ≡ size
-  pub entry : (e k : ℕ) → e < size → k < size → (e < i) ⊎ ((e ≡ i) × (k < j)) → number (entry_of nil m e k) ≡ slice_index entries (e * size + k)
-
--- a whole row is filled
-pub filled_row : {F : Type 0} (nil : F) (number : F → ℕ) (entries : List ℕ) (size i j : ℕ) (m : Grid F) → size ≤ j
-    → IsFilled nil number entries size i j m → IsFilled nil number entries size (i + 1) 0 m
-filled_row nil number entries size i j m all is =
-    record {
-      height = is.height;
-      columns = is.columns;
-      entry = λ e k below inside which. elim which [
-        | inl upto ↦ elim (cases_lt e i) [
-          | inl first ↦ is.entry e k below inside (inl first)
-          | inr last ↦ is.entry e k below inside (inr (omega (arith, upto, last), omega (arith, inside, all)))
-        ]
-        | inr here ↦ absurd (omega (arith, here.1))
-      ];
-    }
-
--- one more entry is filled
-pub filled_more : {F : Type 0} {is_element : F → Type 0} (nil : F) (number : F → ℕ) (entries : List ℕ) (size i j : ℕ) (m now : Grid F) (value : F) → i < size → j < size
-    → IsMatrix is_element m → now ≡ with_row m i (slice_set (row_of m i) j value) → number value ≡ slice_index entries (i * size + j)
-    → IsFilled nil number entries size i j m → IsFilled nil number entries size i (j + 1) now
-filled_more {F} nil number entries size i j m now value below inside matrix written shown is =
-    let Filled : Grid F → Type 0 = IsFilled nil number entries size i (j + 1) in
-    let place : i < length m.rows = omega (arith, below, is.height) in
-    let long : j < length (row_of m i) = omega (arith, inside, is.columns, length-row_of m i matrix place) in
-    subst Filled (sym written) (record {
-      height = length-set m.rows i (slice_set (row_of m i) j value) ∙ is.height;
-      columns = is.columns;
-      entry = λ e k low in_width which. elim which [
-        | inl first ↦
-            ap number (entry_of-with_other nil m i e k (slice_set (row_of m i) j value) (λ same. omega (arith, first, same)))
-            ∙ is.entry e k low in_width (inl first)
-        | inr here ↦ elim (cases_lt k j) [
-          | inl before ↦
-              let Entry : ℕ → Type 0 = λ n. number (entry_of nil (with_row m i (slice_set (row_of m i) j value)) n k) ≡ slice_index entries (n * size + k) in
-              subst Entry (sym here.0)
-              (ap number (entry_of-set_column nil m i j k value place (λ same. omega (arith, before, same)))
-              ∙ is.entry i k below in_width (inr (refl, before)))
-          | inr last ↦
-              let this : j ≡ k = omega (arith, here.1, last) in
-              let Entry : ℕ → ℕ → Type 0 = λ n c. number (entry_of nil (with_row m i (slice_set (row_of m i) j value)) n c) ≡ slice_index entries (n * size + c) in
-              let Column : ℕ → Type 0 = Entry i in
-              let Row : ℕ → Type 0 = λ n. Entry n k in
-              subst Row (sym here.0) (subst Column this (ap number (entry_of-set nil m i j value place long) ∙ shown))
-        ]
-      ];
-    })
-
--- a matrix whose entries are all filled shows the rows
-pub filled_all : {F : Type 0} {is_element : F → Type 0} (nil : F) (number : F → ℕ) (field : FieldKind) (entries : List ℕ) (size i : ℕ) (m : Grid F) → number nil ≡ 0
-    → length entries ≡ size * size → AreElements field entries → size ≤ i → IsMatrix is_element m → IsFilled nil number entries size i 0 m
-    → Shows is_element number size (rows_of size size entries) m
-filled_all {F} nil number field entries size i m nothing long elements all matrix is =
-    let enough : size * size ≤ length entries = omega (arith, long) in
-    let rows = rows_of-AreRows field size size entries enough elements in
-    record {
-      height = is.height;
-      columns = is.columns;
-      elements = matrix;
-      shown = ext_get_or [] (map (numbers number) m.rows) (rows_of size size entries)
-          (length-map m.rows (numbers number) ∙ is.height ∙ sym (length-rows_of size size entries))
-          (λ e within.
-          let low : e < size = omega (arith, within, length-map m.rows (numbers number), is.height) in
-          let place : e < length m.rows = omega (arith, low, is.height) in
-          let listed : e < length (rows_of size size entries) = omega (arith, low, length-rows_of size size entries) in
-          let row_wide : length (row_of m e) ≡ size = length-row_of m e matrix place ∙ is.columns in
-          get_or-map (numbers number) m.rows e [] [] place
-          ∙ ext_get_or 0 (numbers number (row_of m e)) (get_or (rows_of size size entries) e [])
-          (length-map (row_of m e) number ∙ row_wide ∙ sym (AreRows-get_or field size e (rows_of size size entries) listed rows).width)
-          (λ k inside.
-          let in_width : k < size = omega (arith, inside, length-map (row_of m e) number, row_wide) in
-          get_or-map number (row_of m e) k nil 0 (omega (arith, in_width, row_wide))
-          ∙ is.entry e k low in_width (inl (omega (arith, low, all)))
-          ∙ sym (slice_index-rows_of size size e k entries low in_width)));
-    }
-
--- the matrix of a demand's decoder is its entries, row by row
-pub decoder_matrix-rows : (code : Code) (demand : ℕ) (decoder : Decoder) → slice_get code.decoders demand ≡ Some decoder
-    → rows_of code.rate code.rate decoder.entries ≡ decoder_matrix code demand
-decoder_matrix-rows code demand decoder at = sym (rw at refl)
-
 -- each link of a decoder is one of the network's
 pub decoder_link_within : (code : Code) (demand place : ℕ) (decoder : Decoder) → IsDecoder code.net code.rate code.field (sink_of_demand code.net demand) decoder
     → place < code.rate → slice_index decoder.links place < length code.net.links
 decoder_link_within code demand place decoder shape below =
     link_within code.net.links (sink_of_demand code.net demand) (slice_index decoder.links place) (shape.into_sink place 0 (omega (arith, below, shape.link_count)))
 
--- the rows before row i are those of the vectors of their links
-pub record IsCarried {F : Type 0} (vectors : Grid F) (links : List ℕ) (size i : ℕ) (m : Grid F) : Type 0 where
-  pub height : length m.rows ≡ size
-  pub columns : m.columns ≡ size
-  pub row : (e : ℕ) → e < i → e < size → row_of m e ≡ row_of vectors (slice_index links e)
+-- what an operand reads is a row of elements
+operand_row : (code : Code) (pattern link : ℕ) (operand : Operand) → IsRow code.field code.rate (operand_vector code pattern link operand)
+operand_row code pattern link operand =
+    elim (leaves_source code.net link) as (λ b. IsRow code.field code.rate (if b then unit_row code.rate operand.from else vector_in code pattern operand.from)) [
+      | true ↦ unit_row-IsRow code.field code.rate operand.from
+      | false ↦ IsRow-global_vector code.code.draft (failed_links code.net.patterns pattern) operand.from
+    ]
 
--- none is carried
-pub carried_none : {F : Type 0} (nil : F) (vectors : Grid F) (links : List ℕ) (size : ℕ) (m : Grid F) → m ≡ grid_of size size nil → IsCarried vectors links size 0 m
-carried_none {F} nil vectors links size m is =
-    let Empty : Grid F → Type 0 = IsCarried vectors links size 0 in
-    subst Empty (sym is) (record {
-      height = length-replicate size (replicate size nil);
-      columns = refl;
-      row = λ e first below. absurd (omega (arith, first));
-    })
+-- so are those of all
+pub operand_rows : (code : Code) (pattern link : ℕ) (operands : List Operand) → AreRows code.field code.rate (map (operand_vector code pattern link) operands)
+operand_rows code pattern link [] = tt
+operand_rows code pattern link (operand ∷ operands) = (operand_row code pattern link operand, operand_rows code pattern link operands)
 
--- one more row is carried
-pub carried_more : {F : Type 0} (vectors : Grid F) (links : List ℕ) (size i : ℕ) (m now : Grid F) → i < size → now ≡ with_row m i (row_of vectors (slice_index links i))
-    → IsCarried vectors links size i m → IsCarried vectors links size (i + 1) now
-carried_more {F} vectors links size i m now below written is =
-    let row = row_of vectors (slice_index links i) in
-    let Carried : Grid F → Type 0 = IsCarried vectors links size (i + 1) in
-    subst Carried (sym written) (record {
-      height = length-set m.rows i row ∙ is.height;
-      columns = is.columns;
-      row = λ e upto inside. elim (cases_lt e i) [
-        | inl first ↦ row_of-with_other m i e row (λ same. omega (arith, first, same)) ∙ is.row e first inside
+-- the vector of a link that doesn't fail is the sum over its operands
+pub vector_of_operands : (code : Code) (pattern link : ℕ) (operands : List Operand) → operands ≡ operands_at code.operands link → is_failed_in code.net.patterns pattern link ≡ false
+    → vector_in code pattern link ≡ combination code.field code.rate (map (λ operand. operand.times) operands) (map (operand_vector code pattern link) operands)
+vector_of_operands code pattern link operands are whole =
+    let Sum : List Operand → List ℕ = λ some. combination code.field code.rate (map (λ operand. operand.times) some) (map (operand_vector code pattern link) some) in
+    let sum : vector_in code pattern link ≡ Sum (operands_at code.operands link) =
+    global_vector-equation code.code.draft (failed_links code.net.patterns pattern) link ∙ rw whole refl in
+    sum ∙ ap Sum (sym are)
+
+-- coefficients of operands are elements
+pub operand_times : (code : Code) (link : ℕ) (operands : List Operand) → All (IsOperand code.net code.rate code.field link) operands
+    → AreElements code.field (map (λ operand. operand.times) operands)
+operand_times code link operands are =
+    let P : ℕ → Type 0 = λ element. element < size_of code.field in
+    All-map P (λ (operand : Operand). operand.times) operands
+    (All-weaker (IsOperand code.net code.rate code.field link) (λ operand. operand.times < size_of code.field) (λ operand is. is.coefficient) operands are)
+
+-- the row of one more link
+pub vector_rows_more : (code : Code) (pattern links : ℕ) (rows more : List (List ℕ)) (row : List ℕ) → AreVectorRows code pattern links rows
+    → elements_of code.field row ≡ widened code.field (vector_in code pattern links) → more ≡ rows ++ row ∷ [] → AreVectorRows code pattern (links + 1) more
+vector_rows_more code pattern links rows more row are is joined =
+    let Rows : List (List ℕ) → Type 0 = AreVectorRows code pattern (links + 1) in
+    subst Rows (sym joined) (record {
+      count = length_push rows row ∙ ap (λ (n : ℕ). n + 1) are.count;
+      vector = λ e below. elim (cases_lt e links) [
+        | inl earlier ↦ ap (elements_of code.field) (get_or_append_left rows (row ∷ []) [] e (omega (arith, earlier, are.count))) ∙ are.vector e earlier
         | inr last ↦
-            let this : i ≡ e = omega (arith, upto, last) in
-            let Row : ℕ → Type 0 = λ n. row_of (with_row m i row) n ≡ row_of vectors (slice_index links n) in
-            subst Row this (row_of-with_row m i row (omega (arith, below, is.height)))
+            let this : links ≡ e = omega (arith, below, last) in
+            let At : ℕ → Type 0 = λ n. elements_of code.field (get_or (rows ++ row ∷ []) n []) ≡ widened code.field (vector_in code pattern n) in
+            subst At this (ap (elements_of code.field) (get_or_push rows row [] links are.count) ∙ is)
       ];
     })
 
--- where all are carried the matrix shows the vectors
-pub carried_all : {F : Type 0} {is_element : F → Type 0} (number : F → ℕ) (code : Code) (demand i : ℕ) (decoder : Decoder) (vectors m : Grid F)
-    → slice_get code.decoders demand ≡ Some decoder → IsDecoder code.net code.rate code.field (sink_of_demand code.net demand) decoder
-    → AreVectors number code (pattern_of_demand code.net demand) vectors → code.rate ≤ i → IsMatrix is_element m → IsCarried vectors decoder.links code.rate i m
-    → Shows is_element number code.rate (decoder_vectors code demand) m
-carried_all {F} {is_element} number code demand i decoder vectors m at shape known all matrix is =
-    let vector = vector_in code (pattern_of_demand code.net demand) in
-    let Rows : List (List ℕ) → Type 0 = λ rows. Shows is_element number code.rate rows m in
-    let listed : map vector decoder.links ≡ decoder_vectors code demand = sym (rw at refl) in
-    subst Rows listed (record {
-      height = is.height;
-      columns = is.columns;
-      elements = matrix;
-      shown = ext_get_or [] (map (numbers number) m.rows) (map vector decoder.links)
-          (length-map m.rows (numbers number) ∙ is.height ∙ sym (length-map decoder.links vector ∙ shape.link_count))
-          (λ e within.
-          let low : e < code.rate = omega (arith, within, length-map m.rows (numbers number), is.height) in
-          get_or-map (numbers number) m.rows e [] [] (omega (arith, low, is.height))
-          ∙ ap (numbers number) (is.row e (omega (arith, low, all)) low)
-          ∙ known.vector (slice_index decoder.links e) (decoder_link_within code demand e decoder shape low)
-          ∙ sym (get_or-map vector decoder.links e 0 [] (omega (arith, low, shape.link_count))));
-    })
+module _ (code : Code) (demand : ℕ) (decoder : Decoder) (at : slice_get code.decoders demand ≡ Some decoder) where
+  -- the vectors of a decoder's links
+  vectors_are : decoder_vectors code demand ≡ map (vector_in code (pattern_of_demand code.net demand)) decoder.links
+  vectors_are = rw at refl
+
+  -- as many as links
+  pub length-decoder_vectors : length (decoder_vectors code demand) ≡ length decoder.links
+  length-decoder_vectors = ap (length {A = List ℕ}) vectors_are ∙ length-map decoder.links (vector_in code (pattern_of_demand code.net demand))
+
+  -- each is that of its link
+  pub decoder_vector_at : (place : ℕ) → place < length decoder.links
+      → get_or (decoder_vectors code demand) place [] ≡ vector_in code (pattern_of_demand code.net demand) (slice_index decoder.links place)
+  decoder_vector_at place below =
+      ap (λ (rows : List (List ℕ)). get_or rows place []) vectors_are
+      ∙ get_or-map (vector_in code (pattern_of_demand code.net demand)) decoder.links place 0 [] below
+
+  -- the matrix of a decoder
+  matrix_is : decoder_matrix code demand ≡ rows_of code.rate code.rate decoder.entries
+  matrix_is = rw at refl
+
+  -- a row of its entries is one of elements
+  pub row_entries : demand < demand_count code.net → (row : ℕ) → row < code.rate → IsRow code.field code.rate (take code.rate (drop (row * code.rate) decoder.entries))
+  row_entries known row below =
+      let within : row < length (decoder_matrix code demand) =
+      omega (arith, below, ap (length {A = List ℕ}) matrix_is, length-rows_of code.rate code.rate decoder.entries) in
+      subst (IsRow code.field code.rate)
+      (ap (λ (rows : List (List ℕ)). get_or rows row []) matrix_is ∙ get_or-rows_of code.rate code.rate row decoder.entries below)
+      (AreRows-get_or code.field code.rate row (decoder_matrix code demand) within (AreRows-decoder_matrix code demand known))
+
+  -- a row of the product is the sum that a row of the decoder's entries makes of them
+  pub product_row : (row : ℕ) → row < code.rate
+      → combination code.field code.rate (take code.rate (drop (row * code.rate) decoder.entries)) (decoder_vectors code demand) ≡ get_or (demand_product code demand) row []
+  product_row row below =
+      let vectors = decoder_vectors code demand in
+      let made : List ℕ → List ℕ = λ coefficients. combination code.field code.rate coefficients vectors in
+      let within : row < length (rows_of code.rate code.rate decoder.entries) = omega (arith, below, length-rows_of code.rate code.rate decoder.entries) in
+      sym (ap (λ (rows : List (List ℕ)). get_or (map made rows) row []) matrix_is
+      ∙ get_or-map made (rows_of code.rate code.rate decoder.entries) row [] [] within
+      ∙ ap made (get_or-rows_of code.rate code.rate row decoder.entries below))
+
+-- the rows before one are those of the identity
+pub record IsIdentityBefore (code : Code) (demand row : ℕ) : Type 0 where
+  pub same : (i j : ℕ) → i < row → j < code.rate → entry_at (demand_product code demand) i j ≡ entry_at (identity code.rate) i j
+
+-- none is before the first
+pub identity_none : (code : Code) (demand : ℕ) → IsIdentityBefore code demand 0
+identity_none code demand = record { same = λ i j before inside. absurd (omega (arith, before)) }
+
+module _ (code : Code) (demand : ℕ) (within : demand < demand_count code.net) where
+  -- the product has rows of elements, as many as the rate
+  rows : AreRows code.field code.rate (demand_product code demand)
+  rows =
+      times_rows-AreRows code.field code.rate code.rate (decoder_matrix code demand) (decoder_vectors code demand)
+      (AreRows-decoder_matrix code demand within) (AreRows-decoder_vectors code demand within)
+
+  height : length (demand_product code demand) ≡ code.rate
+  height =
+      let found = decoder_of_demand code.code demand within in
+      let matrix : length (decoder_matrix code demand) ≡ code.rate = rw found.1 (length-rows_of code.rate code.rate found.0.entries) in
+      length-times_rows code.field code.rate (decoder_matrix code demand) (decoder_vectors code demand) ∙ matrix
+
+  width : (i : ℕ) → i < code.rate → length (get_or (demand_product code demand) i []) ≡ code.rate
+  width i below = (AreRows-get_or code.field code.rate i (demand_product code demand) (omega (arith, below, height)) rows).width
+
+  -- a row of the identity
+  unit : (i : ℕ) → i < code.rate → get_or (identity code.rate) i [] ≡ unit_row code.rate i
+  unit i below = get_or-map-range_with_len (unit_row code.rate) 0 code.rate i i [] below (omega arith)
+
+  module _ (row : ℕ) (below : row < code.rate) (before : IsIdentityBefore code demand row) (bytes : List ℕ)
+      (is : elements_of code.field bytes ≡ widened code.field (get_or (demand_product code demand) row [])) where
+    -- an entry of this row, by its bytes
+    shown : (j : ℕ) → j < code.rate → slice_index (elements_of code.field bytes) j ≡ entry_at (demand_product code demand) row j
+    shown j inside =
+        ap (λ (entries : List ℕ). slice_index entries j) is
+        ∙ slice_index-widened code.field (get_or (demand_product code demand) row []) j (omega (arith, inside, width row below))
+
+    -- the same of the identity
+    unit_shown : (j : ℕ) → slice_index (unit_row code.rate row) j ≡ entry_at (identity code.rate) row j
+    unit_shown j = ap (λ (entries : List ℕ). slice_index entries j) (sym (unit row below))
+
+    -- this row is that of the identity too
+    pub identity_more : ((j : ℕ) → j < code.rate → slice_index (elements_of code.field bytes) j ≡ slice_index (unit_row code.rate row) j) → IsIdentityBefore code demand (row + 1)
+    identity_more same = record {
+      same = λ i j first inside. elim (cases_lt i row) [
+        | inl earlier ↦ before.same i j earlier inside
+        | inr last ↦
+            let this : row ≡ i = omega (arith, first, last) in
+            let Same : ℕ → Type 0 = λ n. entry_at (demand_product code demand) n j ≡ entry_at (identity code.rate) n j in
+            subst Same this (sym (shown j inside) ∙ same j inside ∙ unit_shown j)
+      ];
+    }
+
+    -- this row is the first that differs
+    pub identity_differs : (column found : ℕ) → DiffersAt code.rate row (elements_of code.field bytes) column found
+        → DiffersFirst code.rate (demand_product code demand) row column found
+    identity_differs column found at = record {
+      in_row = below;
+      in_column = at.in_column;
+      value = at.value ∙ shown column at.in_column;
+      differs = λ same. at.differs (same ∙ sym (unit_shown column));
+      before = λ j first. sym (shown j (omega (arith, first, at.in_column))) ∙ at.before j first ∙ unit_shown j;
+      rows_before = λ i j first inside. before.same i j first inside;
+    }
+
+  -- where all rows are those of the identity, the product is the identity
+  pub identity_all : (row : ℕ) → code.rate ≤ row → IsIdentityBefore code demand row → demand_product code demand ≡ identity code.rate
+  identity_all row all before =
+      ext_get_or [] (demand_product code demand) (identity code.rate) (height ∙ sym (length-identity code.rate))
+      (λ i inside.
+      let below : i < code.rate = omega (arith, inside, height) in
+      ext_get_or 0 (get_or (demand_product code demand) i []) (get_or (identity code.rate) i [])
+      (width i below ∙ sym (ap (length {A = ℕ}) (unit i below) ∙ (unit_row-IsRow code.field code.rate i).width))
+      (λ j within_row. before.same i j (omega (arith, below, all)) (omega (arith, within_row, width i below))))

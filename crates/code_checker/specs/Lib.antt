@@ -1,3 +1,3 @@
 pub mod Checking
-pub mod Loaded
+pub mod WideRows
 pub mod First

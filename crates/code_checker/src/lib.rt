@@ -4,10 +4,14 @@
 //! so that one product for each demand decides.
 #![tactic(auto)]
 
+mod batches;
 mod checked;
 mod checking;
+mod patterns;
 mod products;
 mod sharing;
+mod vector_rows;
+mod wide_rows;
 
 pub use checked::{CheckRefusal, Checked, Refused};
 pub use checking::check;

@@ -1,19 +1,18 @@
 //! A demand's decoder times the vectors of its links.
-ghost use Rattle.std.specs.Prelude.{◌≡◌, ◌<◌, slice_get, Some, IfOk, IfNone, IfSome};
-ghost use Rattle.gf_tables.specs.Kind.{IsOfKind};
+ghost use Rattle.std.specs.Prelude.{◌≡◌, ◌<◌, ◌≤◌, ℕ, length, slice_get, slice_index, slice_index_or, [], Some, IfNone, IfSome};
+ghost use Rattle.linear_algebra.specs.Elements.{elements_of};
 ghost use Rattle.linear_algebra.specs.Matrices.{identity};
+ghost use Rattle.linear_algebra.specs.Rows.{unit_row};
 ghost use Rattle.net_model.specs.Demands.{demand_count, pattern_of_demand, sink_of_demand};
-ghost use Rattle.node_program.specs.Decoding.{IsDecoder, decoder_matrix, decoder_vectors};
-ghost use Rattle.node_program.specs.Vectors.{AreVectors};
+ghost use Rattle.net_model.specs.Limits.{highest_rate};
+ghost use Rattle.node_program.specs.Decoding.{IsDecoder};
 ghost use Rattle.code_checker.specs.Checking.{demand_product, DiffersFirst};
-ghost use Rattle.code_checker.specs.Loaded.{Shows};
+ghost use Rattle.code_checker.specs.WideRows.{AreVectorRows, widened, DiffersAt};
 
-use counted_steps::Steps;
-use field_vectors::{Matrix, is_identity_product};
-use gf_tables::Field;
-use node_program::{Code, Decoder};
-use std::alloc::{AllocError, Global};
-use std::sync::ledger::Ledger;
+use crate::vector_rows::VectorRows;
+use crate::wide_rows::{element_at, unit_row};
+use field_rows::RowTables;
+use node_program::{Code, Decoder, FieldKind};
 
 /// Where the product of a demand differs first from the identity.
 #[derive(Clone, Copy)]
@@ -29,33 +28,59 @@ pub struct Failure {
 }
 
 /// The first entry in which the product of a demand differs from the identity, if there is one.
-pub fn difference<F: Field, L: Ledger>(
-    alloc: Global,
+pub fn difference(
+    tables: &RowTables,
     code: &Code,
     demand: u32,
-    vectors: &Matrix<F>,
-    steps: &mut Steps<L>,
-) -> Result<Option<Failure>, AllocError>
+    vectors: &VectorRows,
+) -> Option<Failure>
     requires demand { demand < demand_count code.now.net }
-    requires field { IsOfKind code.now.field F.SIZE F.BYTES F.MARK F.product }
-    requires vectors { AreVectors F.number code.now
-        (pattern_of_demand code.now.net demand) vectors.now }
-    ensures none { IfOk result
-        (λ failure. IfNone failure (demand_product code.now demand ≡ identity code.now.rate)) }
-    ensures some { IfOk result (λ failure. IfSome failure (λ f. (f.demand ≡ demand)
-        × DiffersFirst code.now.rate (demand_product code.now demand) f.row f.column f.found)) }
+    requires vectors { AreVectorRows code.now (pattern_of_demand code.now.net demand)
+        (length code.now.net.links) vectors.now }
+    ensures none { IfNone result (demand_product code.now demand ≡ identity code.now.rate) }
+    ensures some { IfSome result (λ f. (f.demand ≡ demand)
+        × DiffersFirst code.now.rate (demand_product code.now demand) f.row f.column f.found) }
 {
-    let matrix = matrix_of::<F>(alloc, code, demand)?;
-    let carried = carried_by(alloc, code, demand, vectors)?;
-    match is_identity_product(&matrix, &carried, steps) {
-        Ok(()) => Ok(None),
-        Err(entry) => Ok(Some(Failure {
-            demand,
-            row: entry.row,
-            column: entry.column,
-            found: entry.found.number(),
-        })),
+    for row in 0..code.rate {
+        let product = product_row(tables, code, demand, row, vectors);
+        if let Some((column, found)) = differing(code.field, code.rate, row, &product) {
+            return Some(Failure {
+                demand,
+                row,
+                column,
+                found,
+            });
+        }
     }
+    None
+}
+
+// A row of the product.
+fn product_row(
+    tables: &RowTables,
+    code: &Code,
+    demand: u32,
+    row: u32,
+    vectors: &VectorRows,
+) -> [u8; 64]
+    requires demand { demand < demand_count code.now.net }
+    requires row { row < code.now.rate }
+    requires vectors { AreVectorRows code.now (pattern_of_demand code.now.net demand)
+        (length code.now.net.links) vectors.now }
+    ensures { elements_of code.now.field result
+        ≡ widened code.now.field (slice_index_or (demand_product code.now demand) row []) }
+{
+    let rate = code.rate as usize;
+    let decoder = decoder_of(code, demand);
+    let links = decoder.links.as_slice();
+    let start = row as usize * rate;
+    let coefficients = &decoder.entries.as_slice()[start..start + rate];
+    let mut sum = [0; 64];
+    for place in 0..rate {
+        let vector = vectors.row(links[place]);
+        tables.add_scaled(code.field, &mut sum, coefficients[place], vector);
+    }
+    sum
 }
 
 // The decoder of a demand.
@@ -68,42 +93,25 @@ fn decoder_of(code: &Code, demand: u32) -> &Decoder
     code.decoders.at(demand as usize)
 }
 
-// The matrix of a demand's decoder.
-fn matrix_of<F: Field>(alloc: Global, code: &Code, demand: u32) -> Result<Matrix<F>, AllocError>
-    requires demand { demand < demand_count code.now.net }
-    requires field { IsOfKind code.now.field F.SIZE F.BYTES F.MARK F.product }
-    ensures { IfOk result
-        (Shows F.is_element F.number code.now.rate (decoder_matrix code.now demand)) }
+// The first column in which a row of a product differs from that row of the identity, and the element there.
+fn differing(field: FieldKind, rate: u32, row: u32, product: &[u8; 64]) -> Option<(u32, u32)>
+    requires row { row < rate }
+    requires rate { rate ≤ highest_rate }
+    ensures none { IfNone result ((j : ℕ) → j < rate
+        → slice_index (elements_of field product.now) j ≡ slice_index (unit_row rate row) j) }
+    ensures some { IfSome result
+        (λ entry. DiffersAt rate row (elements_of field product.now) entry.0 entry.1) }
 {
-    let rate = code.rate;
-    let entries = decoder_of(code, demand).entries.as_slice();
-    let mut matrix = Matrix::zeros(alloc, rate, rate)?;
-    for i in 0..rate {
-        for j in 0..rate {
-            let entry = entries[i as usize * rate as usize + j as usize];
-            matrix.set(i, j, F::of_number(entry));
+    let unit = unit_row(field, row);
+    if *product == unit {
+        return None;
+    }
+    for column in 0..rate {
+        let found = element_at(field, product, column);
+        let expected = element_at(field, &unit, column);
+        if found != expected {
+            return Some((column, found));
         }
     }
-    Ok(matrix)
-}
-
-// The vectors of the links of a demand's decoder.
-fn carried_by<F: Field>(
-    alloc: Global,
-    code: &Code,
-    demand: u32,
-    vectors: &Matrix<F>,
-) -> Result<Matrix<F>, AllocError>
-    requires demand { demand < demand_count code.now.net }
-    requires vectors { AreVectors F.number code.now
-        (pattern_of_demand code.now.net demand) vectors.now }
-    ensures { IfOk result
-        (Shows F.is_element F.number code.now.rate (decoder_vectors code.now demand)) }
-{
-    let links = decoder_of(code, demand).links.as_slice();
-    let mut carried = Matrix::zeros(alloc, code.rate, code.rate)?;
-    for i in 0..code.rate {
-        carried.put_row(i, vectors.row(links[i as usize]));
-    }
-    Ok(carried)
+    None
 }

@@ -1,12 +1,13 @@
 -- The certificates of batches.
-use Rattle.std.specs.Prelude.{◌≡◌, ◌<◌, ◌≤◌, ℕ, zero, suc, ◌+◌, ◌*◌, ◌/◌, List, [], Some, ◌∷◌, ◌++◌, length, slice_get, Result, Ok, Vec}
+use Rattle.std.specs.Prelude.{◌≡◌, ◌<◌, ℕ, zero, suc, ◌+◌, List, [], Some, ◌∷◌, ◌++◌, length, slice_get, Result, Ok, Vec}
 use Rattle.std.specs.Global.{Global}
 use Rattle.std.specs.declared.alloc.AllocError.{AllocError}
-use Rattle.std.proofs.Common.{refl, sym, ◌∙◌, ap, subst, append_assoc, arith}
-use Rattle.std.proofs.Math.Nat.{div-eq_of_lt-le, div-le_of_le-mul, mul-le-mul}
+use Rattle.std.proofs.Common.{sym, ◌∙◌, ap, subst, arith}
 use Rattle.std.proofs.lemmas.List.{length-append}
 use Rattle.net_model.specs.Demands.{demand_count}
 use Rattle.net_model.specs.declared.net.Net.{Net}
+use Rattle.failure_patterns.proofs.BatchLaws.{AreThrough, batch_first, batch_last, through_last, through_more, through_next, through_none}
+use Rattle.failure_patterns.specs.Batches.{batch_start}
 use Rattle.failure_patterns.specs.Demands.{demand_of}
 use Rattle.cut_witness.specs.Certificate.{AreBatches, AreCertificates, AreCertificatesFrom, IsCertificate}
 use Rattle.cut_witness.proofs.CertificateLaws.{AreCertificatesFrom-append}
@@ -44,62 +45,45 @@ batch_more net from to certs made more are count are_made joined = record {
   are = subst (AreCertificatesFrom net 0) (sym joined) (AreCertificatesFrom-append net 0 from certs made are.count are.are are_made);
 }
 
--- where a batch starts, by the number of all demands
-pub start_of : (start batch batches count all : ℕ) → start ≡ batch * count / batches → count ≡ all → start ≡ batch * all / batches
-start_of start batch batches count all is same = is ∙ ap (λ demands. batch * demands / batches) same
-
--- no batch goes past the last demand
-pub batch_within : (batch batches count : ℕ) → batch ≤ batches → batch * count / batches ≤ count
-batch_within batch batches count within = let below : count ≤ count = omega arith in div-le_of_le-mul batches (mul-le-mul within below)
-
--- the last batch ends with the last demand
-batch_last : (batches count : ℕ) → 0 < batches → batches * count / batches ≡ count
-batch_last batches count some = div-eq_of_lt-le batches (omega arith) (omega arith)
-
 -- after the last batch there are those of all demands
-pub all_batches : (net : Net) (batches batch : ℕ) (certs : List Cert) → 0 < batches → batch ≡ batches → AreBetween net 0 (batch * demand_count net / batches) certs → AreCertificates net certs
+pub all_batches : (net : Net) (batches batch : ℕ) (certs : List Cert) → 0 < batches → batch ≡ batches → AreBetween net 0 (batch_start batch batches (demand_count net)) certs → AreCertificates net certs
 all_batches net batches batch certs some last are =
-    let whole : 0 + length certs ≡ demand_count net = are.count ∙ ap (λ j. j * demand_count net / batches) last ∙ batch_last batches (demand_count net) some in
+    let whole : 0 + length certs ≡ demand_count net = are.count ∙ ap (λ j. batch_start j batches (demand_count net)) last ∙ batch_last batches (demand_count net) some in
     record { each_demand = omega arith; are = are.are }
-
--- what a list of two parts has behind the first one
-slice_get-behind : {X : Type 0} (front : List X) (x : X) (rest : List X) → slice_get (front ++ x ∷ rest) (length front) ≡ Some x
-slice_get-behind [] x rest = refl
-slice_get-behind (y ∷ front) x rest = slice_get-behind front x rest
 
 -- the certificates of the first batches, and what was made of the rest
 pub record AreJoined (net : Net) (batches : ℕ) (made front rest : List (Result (Vec Cert Global) AllocError)) (left : ℕ) (certs : List Cert) : Type 0 where
-  pub parts : made ≡ front ++ rest
-  pub count : length front + left ≡ batches
-  pub between : AreBetween net 0 (length front * demand_count net / batches) certs
+  pub through : AreThrough batches made front rest left
+  pub between : AreBetween net 0 (batch_start (length front) batches (demand_count net)) certs
 
 -- none yet
 pub joined_none : (net : Net) (batches : ℕ) (made rest : List (Result (Vec Cert Global) AllocError)) (left : ℕ) (certs : List Cert) → rest ≡ made → left ≡ batches → certs ≡ []
     → AreJoined net batches made [] rest left certs
 joined_none net batches made rest left certs same all none =
-    let first : 0 * demand_count net / batches ≤ 0 = div-le_of_le-mul batches (omega arith) in
-    let Between : List Cert → Type 0 = λ some. AreBetween net 0 (0 * demand_count net / batches) some in
-    let empty : Between [] = record { count = omega arith; are = record { at = λ place cert found. absurd cc } } in
-    record { parts = sym same; count = omega arith; between = subst Between (sym none) empty }
+    let first = batch_first batches (demand_count net) in
+    let Between : List Cert → Type 0 = λ some. AreBetween net 0 (batch_start 0 batches (demand_count net)) some in
+    let empty : Between [] = record { count = omega (arith, first); are = record { at = λ place cert found. absurd cc } } in
+    record { through = through_none batches made rest left same all; between = subst Between (sym none) empty }
 
 -- one batch more
 pub joined_more : (net : Net) (batches : ℕ) (made front rest further : List (Result (Vec Cert Global) AllocError)) (left fewer : ℕ) (one : Result (Vec Cert Global) AllocError) (batch : Vec Cert Global)
     (certs more : List Cert) → AreJoined net batches made front rest left certs → AreBatches net batches made → rest ≡ one ∷ further → fewer + 1 ≡ left → one ≡ Ok batch → more ≡ certs ++ batch.items
     → AreJoined net batches made (front ++ one ∷ []) further fewer more
 joined_more net batches made front rest further left fewer one batch certs more are each next less good joined =
-    let parts : made ≡ front ++ one ∷ further = are.parts ∙ ap (λ list. front ++ list) next in
     let Found : Result (Vec Cert Global) AllocError → Type 0 = λ r. slice_get made (length front) ≡ Some r in
-    let here : Found one = ap (λ list. slice_get list (length front)) parts ∙ slice_get-behind front one further in
+    let here : Found one = through_next batches made front rest further left fewer one are.through next in
     let is = each (length front) batch (subst Found good here) in
     let longer : length (front ++ one ∷ []) ≡ length front + 1 = length-append front (one ∷ []) in
-    let Between : ℕ → Type 0 = λ n. AreBetween net 0 (n * demand_count net / batches) more in
+    let Between : ℕ → Type 0 = λ n. AreBetween net 0 (batch_start n batches (demand_count net)) more in
+    let from = batch_start (length front) batches (demand_count net) in
+    let to = batch_start (length front + 1) batches (demand_count net) in
     record {
-      parts = parts ∙ sym (append_assoc front (one ∷ []) further);
-      count = omega (arith, longer, are.count);
-      between = subst Between (sym longer) (batch_more net (length front * demand_count net / batches) ((length front + 1) * demand_count net / batches) certs batch.items more are.between is.count is.are joined);
+      through = through_more batches made front rest further left fewer one are.through next less;
+      between = subst Between (sym longer) (batch_more net from to certs batch.items more are.between is.count is.are joined);
     }
 
 -- all batches
 pub all_joined : (net : Net) (batches : ℕ) (made front rest : List (Result (Vec Cert Global) AllocError)) (left : ℕ) (certs : List Cert) → 0 < batches → AreJoined net batches made front rest left certs → left ≡ 0
     → AreCertificates net certs
-all_joined net batches made front rest left certs some are none = all_batches net batches (length front) certs some (omega (arith, are.count)) are.between
+all_joined net batches made front rest left certs some are none =
+    all_batches net batches (length front) certs some (through_last batches made front rest left are.through none) are.between

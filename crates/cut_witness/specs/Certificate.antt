@@ -1,5 +1,5 @@
 -- Certificates: for each demand a flow and a cut of equal size, which is left by the least side.
-use Rattle.std.specs.Prelude.{◌≡◌, ◌<◌, ◌≤◌, ◌+◌, ◌*◌, ◌/◌, ℕ, List, IsTrue, Some, length, slice_get, Result, Ok, Vec}
+use Rattle.std.specs.Prelude.{◌≡◌, ◌<◌, ◌≤◌, ◌+◌, ℕ, List, IsTrue, Some, length, slice_get, Result, Ok, Vec}
 use Rattle.std.specs.declared.alloc.AllocError.{AllocError}
 use Rattle.std.specs.Global.{Global}
 use Rattle.net_model.specs.Demands.{demand_count}
@@ -7,6 +7,7 @@ use Rattle.net_model.specs.Flows.{IsFlow, IsLeastSide, crossing, flow_network}
 use Rattle.net_model.specs.Lists.{is_rising}
 use Rattle.net_model.specs.declared.Demand.{Demand}
 use Rattle.net_model.specs.declared.net.Net.{Net}
+use Rattle.failure_patterns.specs.Batches.{batch_start}
 use Rattle.failure_patterns.specs.Demands.{demand_of}
 use Rattle.unit_flow.specs.Greatest.{first_links}
 use Rattle.cut_witness.specs.declared.cert.Cert.{Cert}
@@ -39,9 +40,9 @@ pub record AreCertificates (net : Net) (certs : List Cert) : Type 0 where
 
 -- those of a batch, where all demands are cut into so many
 pub record IsBatch (net : Net) (batches batch : ℕ) (certs : List Cert) : Type 0 where
-  pub count : batch * demand_count net / batches + length certs
-      ≡ (batch + 1) * demand_count net / batches
-  pub are : AreCertificatesFrom net (batch * demand_count net / batches) certs
+  pub count : batch_start batch batches (demand_count net) + length certs
+      ≡ batch_start (batch + 1) batches (demand_count net)
+  pub are : AreCertificatesFrom net (batch_start batch batches (demand_count net)) certs
 
 -- for each batch, by its number, its certificates or want of memory
 abbrev pub AreBatches : Net → ℕ → List (Result (Vec Cert Global) AllocError) → Type 0

@@ -1,5 +1,5 @@
 //! The demands of a network, cut into batches.
-ghost use Rattle.std.specs.Prelude.{◌≡◌, ◌<◌, ◌≤◌, ◌+◌, ◌*◌, ◌/◌, IfOk, length, vec_len};
+ghost use Rattle.std.specs.Prelude.{◌≡◌, ◌<◌, ◌≤◌, ◌+◌, IfOk, length, vec_len};
 ghost use Rattle.failure_patterns.specs.UsedField.{pair_demands};
 ghost use Rattle.cut_witness.specs.Certificate.{AreBatches, AreCertificates, AreCertificatesFrom, IsBatch, IsCertificate, IsDemand};
 ghost use Rattle.link_chains.specs.Wiring.{IsWiring};
@@ -9,7 +9,7 @@ ghost use Rattle.unit_flow.specs.Visits.{AreFewVisits};
 use crate::Cert;
 use crate::crossing::cut_of;
 use counted_steps::Steps;
-use failure_patterns::{demand_at, demands};
+use failure_patterns::{batch_start, demand_at, demands};
 use lif_outside::Gate;
 use link_chains::Wiring;
 use net_model::{Demand, Net};
@@ -106,15 +106,6 @@ fn join_batches(
         certs.append(&mut batch?)?;
     }
     Ok(certs)
-}
-
-// The number of the first demand of a batch, among so many demands.
-fn batch_start(batch: u32, batches: u32, count: u64) -> u64
-    requires some { 0 < batches }
-    requires few { count ≤ pair_demands }
-    ensures { result ≡ batch * count / batches }
-{
-    batch as u64 * count / batches as u64
 }
 
 // The certificates of the demands of one batch: from one number on and below another.

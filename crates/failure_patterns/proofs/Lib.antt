@@ -1,3 +1,4 @@
 pub mod RateLaws
 pub mod ListLaws
 pub mod DemandLaws
+pub mod BatchLaws

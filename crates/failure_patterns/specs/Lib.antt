@@ -1,3 +1,4 @@
+pub mod Batches
 pub mod Demands
 pub mod UsedField
 pub mod Rate

@@ -6,10 +6,12 @@ ghost use Rattle.net_model.specs.Demands.{demand_count, pattern_of_demand, sink_
 ghost use Rattle.failure_patterns.specs.Demands.{demand_of, number_of};
 ghost use Rattle.failure_patterns.specs.UsedField.{most_demands, used_field};
 
-use net_model::{Demand, FieldChoice, Net};
-
+mod batches;
 #[cfg(test)]
 mod tests;
+
+pub use batches::batch_start;
+use net_model::{Demand, FieldChoice, Net};
 
 /// The most demands that the field of 256 elements serves.
 pub const OCTET_DEMANDS: u64 = 256;

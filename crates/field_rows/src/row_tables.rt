@@ -58,8 +58,8 @@ impl RowTables {
         }
     }
 
-    /// Adds to each element of a row `by` times the element of another row at its place. One time another row takes no
-    /// products.
+    /// Adds to each element of a row `by` times the element of another row at its place. Zero times another row, and one
+    /// time, take no products.
     pub fn add_scaled(&self, field: FieldKind, into: &mut [u8], by: u32, from: &[u8])
         requires same_length { length into.old ≡ length from.now }
         requires whole { length from.now % bytes_of_element field ≡ 0 }
@@ -69,6 +69,9 @@ impl RowTables {
             ≡ add_rows (elements_of field into.old)
             (scale_row field by (elements_of field from.now)) }
     {
+        if by == 0 {
+            return;
+        }
         if by == 1 {
             add_row(into, from);
             return;

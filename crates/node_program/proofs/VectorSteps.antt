@@ -40,7 +40,7 @@ one_more_before {F} number nil code pattern link m wide many before here behind 
     }
 
 -- the vector of a failed link is zero
-vector_of_failed : (code : Code) (pattern link : ℕ) → is_failed_in code.net.patterns pattern link ≡ true → vector_in code pattern link ≡ zero_row code.rate
+pub vector_of_failed : (code : Code) (pattern link : ℕ) → is_failed_in code.net.patterns pattern link ≡ true → vector_in code pattern link ≡ zero_row code.rate
 vector_of_failed code pattern link fails =
     global_vector-equation code.code.draft (failed_links code.net.patterns pattern) link ∙ rw fails refl
 

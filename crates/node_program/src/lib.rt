@@ -17,7 +17,7 @@ pub use gf_tables::FieldKind;
 pub use link_vectors::vectors;
 pub use lists::{DecoderTable, Entries, LiveLinks, OperandList, OperandTable};
 pub use live_table::live_links;
-pub use liveness::live;
+pub use liveness::{live, operands_of};
 use net_model::LinkList;
 
 /// A summand of what a link carries: `times` times a row of the source or what another link carries.

@@ -26,7 +26,7 @@ pub fn live(code: &Code, pattern: u32, link: u32) -> bool
 }
 
 /// The operands of a link.
-pub(crate) fn operands_of(code: &Code, link: u32) -> &[Operand]
+pub fn operands_of(code: &Code, link: u32) -> &[Operand]
     requires { link < length code.now.net.links }
     ensures value { result.now ≡ operands_at code.now.operands link }
     ensures valid { All (IsOperand code.now.net code.now.rate code.now.field link) result.now }

@@ -1,52 +1,15 @@
 //! Which jobs enter the gate that a command is given.
 use super::fields::push_line;
-use super::store_with;
+use super::{compiles, run, store_of, store_with};
 use lif_outside::{Gate, MemSink, SeedLinks};
 use lif_top::{Status, lif};
 use std::alloc::{AllocError, Global};
-use std::sync::atomic::{AtomicU64, Ordering};
 use std::test;
 use std::thread::Threads;
-use worked_rows::files::BUTTERFLY;
+use worked_rows::files::{BUTTERFLY, ONE_LINK};
+use worked_rows::gates::{Entries, Meeting};
 use worked_rows::runs::words_of;
 use worked_rows::texts::{BUTTERFLY_TEXT, ONE_LINK_TEXT, THREE_CORES_TEXT, TWO_LINKS_TEXT};
-
-// A gate that counts the entries of each job: those of job 0 are the last digit, those of job 1 the digit before it.
-#[derive(Drop)]
-struct Entries {
-    counted: AtomicU64,
-}
-
-impl Gate for Entries {
-    fn enter(&self, job: u32) {
-        let one = 10u64.saturating_pow(job);
-        self.counted.fetch_add(one, Ordering::SeqCst);
-    }
-}
-
-// A gate at which each job turns until another one has entered. It counts the entries as `Entries` does, and the jobs
-// that no other one met.
-#[derive(Drop)]
-struct Meeting {
-    counted: AtomicU64,
-    alone: AtomicU64,
-}
-
-// How often a job turns at most.
-const MOST_TURNS: u32 = 1_000_000_000;
-
-impl Gate for Meeting {
-    fn enter(&self, job: u32) {
-        let one = 10u64.saturating_pow(job);
-        self.counted.fetch_add(one, Ordering::SeqCst);
-        for _turn in 0..MOST_TURNS {
-            if self.counted.load(Ordering::SeqCst) != one {
-                return;
-            }
-        }
-        self.alone.fetch_add(1, Ordering::SeqCst);
-    }
-}
 
 // How a command on the file at `in` ends, by a gate.
 fn ended<G: Gate + Sync, R: Threads + Sync>(
@@ -70,11 +33,9 @@ fn entries_of<R: Threads + Sync>(
     words: &[&str],
     file: &[u8],
 ) -> Option<u64> {
-    let gate = Entries {
-        counted: AtomicU64::new(0),
-    };
+    let gate = Entries::new();
     match ended(rt, alloc, words, file, &gate) {
-        Some(Status::Done) => Some(gate.counted.load(Ordering::SeqCst)),
+        Some(Status::Done) => Some(gate.counted()),
         _ => None,
     }
 }
@@ -87,8 +48,8 @@ const CHECK: &[&str] = &["check", "in"];
 
 const SEND: &[&str] = &["send", "in", "none", "1", "in", "out"];
 
-// Commands, their files, and what enters: a job for each run of certificates, of which there are as many as demands and
-// at most four, and one for a check.
+// Commands, their files, and what enters: a job for each batch of certificates or of a check, of which there are as many
+// as demands and at most four.
 const ENTERED: &[(&[&str], &[u8], u64)] = &[
     (CUTS, ONE_LINK_TEXT, 1),
     (CUTS, BUTTERFLY_TEXT, 11),
@@ -98,8 +59,9 @@ const ENTERED: &[(&[&str], &[u8], u64)] = &[
     (COMPILE, BUTTERFLY_TEXT, 11),
     (COMPILE, TWO_LINKS_TEXT, 111),
     (COMPILE, THREE_CORES_TEXT, 1111),
-    (CHECK, BUTTERFLY, 1),
-    (SEND, BUTTERFLY, 1),
+    (CHECK, ONE_LINK, 1),
+    (CHECK, BUTTERFLY, 11),
+    (SEND, BUTTERFLY, 11),
     (&["order", "in"], BUTTERFLY_TEXT, 0),
 ];
 
@@ -132,17 +94,28 @@ fn wide(alloc: Global) -> Result<Vec<u8>, AllocError> {
     Ok(text)
 }
 
+// Whether a command on the file at `in` has four jobs, of which each meets another one.
+fn four_meet<R: Threads + Sync>(rt: &R, alloc: Global, words: &[&str], file: &[u8]) -> bool {
+    let gate = Meeting::new();
+    ended(rt, alloc, words, file, &gate) == Some(Status::Done) && gate.is_met(1111)
+}
+
 #[test]
 fn certificates_are_made_side_by_side(rt: HostRuntime) -> Result<(), test::Fail> {
     let text = wide(rt.alloc())?;
     for words in [CUTS, COMPILE] {
-        let gate = Meeting {
-            counted: AtomicU64::new(0),
-            alone: AtomicU64::new(0),
-        };
-        assert!(rt; ended(&rt, rt.alloc(), words, &text, &gate) == Some(Status::Done));
-        assert!(rt; gate.counted.load(Ordering::SeqCst) == 1111);
-        assert!(rt; gate.alone.load(Ordering::SeqCst) == 0);
+        assert!(rt; four_meet(&rt, rt.alloc(), words, &text));
     }
+    Ok(())
+}
+
+#[test]
+fn codes_are_checked_side_by_side(rt: HostRuntime) -> Result<(), test::Fail> {
+    let text = wide(rt.alloc())?;
+    let mut store = store_of(rt.alloc(), &text)?;
+    let line = "compiled rate 1 field 8 demands 256\n";
+    run(&rt, rt.alloc(), &compiles(line), &mut store, &Status::Done)?;
+    let code = store.file("code").unwrap_or(&[]);
+    assert!(rt; four_meet(&rt, rt.alloc(), CHECK, code));
     Ok(())
 }

@@ -1,9 +1,10 @@
 //! The check of the examples, read from their files.
 use super::codes::{WIDE_ROWS, changed, is_file_of};
-use crate::codes::checked_of;
+use crate::codes::{checked_of, code_of};
 use crate::files::{BUTTERFLY, CUT_BUTTERFLY, DOUBLED_ONE_LINK, ONE_LINK, TWO_WAYS, WIDE_ONE_LINK};
-use code_checker::CheckRefusal;
+use crate::gates::{Entries, Meeting};
 use code_checker::CheckRefusal::NotIdentity;
+use code_checker::{CheckRefusal, check};
 use std::alloc::Global;
 use std::thread::Threads;
 
@@ -58,7 +59,7 @@ const REFUSED: &[Row] = &[
         },
     ),
     (CUT_BUTTERFLY, &[], CUT),
-    // The second sink fails where no link does, and is gone through first.
+    // The second sink fails where no link does, in a later batch.
     (CUT_BUTTERFLY, &[(190, 2)], CUT),
     // The first sink fails where no link does.
     (
@@ -106,4 +107,40 @@ fn the_first_demand_that_fails_is_named(rt: HostRuntime) {
             "row {row}"
         );
     }
+}
+
+// The codes of files, and which jobs enter the gate of their checks: one for each demand, and at most four.
+const ENTERED: &[(&[u8], u64)] = &[(ONE_LINK, 1), (BUTTERFLY, 11), (CUT_BUTTERFLY, 1111)];
+
+// What enters the gate of the check of the code of a file.
+fn entries_of<R: Threads + Sync>(rt: &R, alloc: Global, file: &[u8]) -> Option<u64> {
+    let gate = Entries::new();
+    let code = code_of(alloc, file).ok()?;
+    let _ = check(rt, alloc, code, &gate);
+    Some(gate.counted())
+}
+
+#[test]
+fn batches_enter_the_gate(rt: HostRuntime) {
+    for &(file, entries) in ENTERED {
+        assert_eq!(rt; entries_of(&rt, rt.alloc(), file), Some(entries));
+    }
+}
+
+// Whether the check of the code of a file has such jobs, of which each meets another one.
+fn jobs_meet<R: Threads + Sync>(rt: &R, alloc: Global, file: &[u8], jobs: u64) -> bool {
+    let gate = Meeting::new();
+    match code_of(alloc, file) {
+        Ok(code) => {
+            let _ = check(rt, alloc, code, &gate);
+            gate.is_met(jobs)
+        }
+        Err(_) => false,
+    }
+}
+
+#[test]
+fn demands_are_checked_side_by_side(rt: HostRuntime) {
+    assert!(rt; jobs_meet(&rt, rt.alloc(), BUTTERFLY, 11));
+    assert!(rt; jobs_meet(&rt, rt.alloc(), CUT_BUTTERFLY, 1111));
 }

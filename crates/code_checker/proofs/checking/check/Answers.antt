@@ -1,25 +1,26 @@
-use Rattle.std.proofs.Common.{length, subst}
+use Rattle.std.proofs.Common.{subst}
 use Rattle.std.specs.Prelude.{Option}
 use Rattle.cut_bound.proofs.RateLaws.{accepted-within_cuts}
+use Rattle.net_model.specs.Demands.{demand_count}
+use Rattle.code_checker.proofs.BatchSteps.{accepted}
 use Rattle.code_checker.proofs.CheckingLaws.{FailsFirst-refuses}
-use Rattle.code_checker.specs.First.{IsFirstBefore}
+use Rattle.code_checker.specs.First.{IsFirstIn}
 use Rattle.code_checker.specs.declared.products.Failure.{Failure}
-use Rattle.code_checker.proofs.FirstSteps.{accepted, fails_first}
 use Rattle.code_checker.proofs.checking.check.Goals as goal
 
 pub of-requires : goal.of-requires
 of-requires g c =
-    let First : Option Failure → Type 0 = IsFirstBefore c.args.code (length c.args.code.net.patterns) 0 in
+    let First : Option Failure → Type 0 = IsFirstIn c.args.code 0 (demand_count c.args.code.net) in
     accepted c.args.code (subst First c.in-Ok-None.field-0-is c.in-Ok-None.ensures)
 
 pub returns-in-Ok-None-clause-cuts : goal.returns-in-Ok-None-clause-cuts
 returns-in-Ok-None-clause-cuts g c =
-    let First : Option Failure → Type 0 = IsFirstBefore c.args.code (length c.args.code.net.patterns) 0 in
+    let First : Option Failure → Type 0 = IsFirstIn c.args.code 0 (demand_count c.args.code.net) in
     accepted-within_cuts c.args.code (accepted c.args.code (subst First c.in-Ok-None.field-0-is c.in-Ok-None.ensures))
 
 pub returns-in-Ok-Some-clause-rejected : goal.returns-in-Ok-Some-clause-rejected
 returns-in-Ok-Some-clause-rejected g c =
     let failure = c.in-Ok-Some.failure in
-    let First : Option Failure → Type 0 = IsFirstBefore c.args.code (length c.args.code.net.patterns) 0 in
+    let First : Option Failure → Type 0 = IsFirstIn c.args.code 0 (demand_count c.args.code.net) in
     λ other. FailsFirst-refuses c.args.code failure.demand failure.row failure.column failure.found
-    (fails_first c.args.code failure (subst First c.in-Ok-Some.field-0-is c.in-Ok-Some.ensures))
+    (subst First c.in-Ok-Some.field-0-is c.in-Ok-Some.ensures)

@@ -1,22 +1,34 @@
-use Rattle.std.proofs.Common.{refl, subst, sym, ℕ}
-use Rattle.node_program.specs.Decoding.{decoder_matrix, decoder_vectors}
-use Rattle.code_checker.specs.Checking.{demand_product, DiffersFirst}
-use Rattle.code_checker.proofs.DifferenceSteps.{identity_shown, difference_shown}
+use Rattle.std.proofs.Common.{◌≡◌, ◌<◌, ℕ, refl, slice_index, subst}
+use Rattle.std.specs.Prelude.{Option, IfNone, IfSome}
+use Rattle.linear_algebra.specs.Elements.{elements_of}
+use Rattle.linear_algebra.specs.Rows.{unit_row}
+use Rattle.code_checker.proofs.ProductSteps.{identity_all, identity_differs, identity_more, identity_none}
+use Rattle.code_checker.specs.WideRows.{DiffersAt}
 use Rattle.code_checker.proofs.products.difference.Goals as goal
 
-pub returns-in-Ok-clause-none : goal.returns-in-Ok-clause-none
-returns-in-Ok-clause-none g c =
-    let L = g.met.F.Field in
-    let code = c.args.code.now in
-    identity_shown L.field L.numbering code.field c.requires.field code.rate (decoder_matrix code c.args.demand) (decoder_vectors code c.args.demand)
-    c.in_ok-matrix.matrix c.in_ok-carried.carried c.in_ok-matrix.ensures c.in_ok-carried.ensures c.in-Ok.ensures.ok
+pub loop-row-init : goal.loop-row-init
+loop-row-init c = identity_none c.args.code.now c.args.demand
 
-pub returns-clause-some : goal.returns-clause-some
-returns-clause-some g c =
-    let L = g.met.F.Field in
+pub loop-row-preserved : goal.loop-row-preserved
+loop-row-preserved c =
     let code = c.args.code.now in
-    let differs = difference_shown L.field L.numbering code.field c.requires.field code.rate (decoder_matrix code c.args.demand) (decoder_vectors code c.args.demand)
-    c.in_ok-matrix.matrix c.in_ok-carried.carried c.in_ok-matrix.ensures c.in_ok-carried.ensures
-    c.in-Err.entry.row c.in-Err.entry.column c.in-Err.entry.found c.in-Err.ensures.err in
-    let Found : ℕ → Type 0 = DiffersFirst code.rate (demand_product code c.args.demand) c.in-Err.entry.row c.in-Err.entry.column in
-    (refl, subst Found (sym c.number.ensures.value) differs)
+    let row = c.loop-row.row in
+    let bytes = c.product_row-product.result in
+    let Same : Type 0 = (j : ℕ) → j < code.rate → slice_index (elements_of code.field bytes) j ≡ slice_index (unit_row code.rate row) j in
+    let If : Option (ℕ × ℕ) → Type 0 = λ entry. IfNone entry Same in
+    identity_more code c.args.demand c.requires.demand row c.loop-row-test.true c.loop-row.invariant bytes c.product_row-product.ensures
+    (subst If c.in_default.is c.differing.ensures.none)
+
+pub returns-in-Some-clause-some : goal.returns-in-Some-clause-some
+returns-in-Some-clause-some c =
+    let code = c.args.code.now in
+    let row = c.loop-row.row in
+    let bytes = c.product_row-product.result in
+    let If : Option (ℕ × ℕ) → Type 0 = λ found. IfSome found (λ entry. DiffersAt code.rate row (elements_of code.field bytes) entry.0 entry.1) in (
+      refl,
+      identity_differs code c.args.demand c.requires.demand row c.loop-row-test.true c.loop-row.invariant bytes c.product_row-product.ensures
+          c.in-Some.column c.in-Some.found (subst If c.in-Some.is c.differing.ensures.some),
+    )
+
+pub returns-clause-none : goal.returns-clause-none
+returns-clause-none c = identity_all c.args.code.now c.args.demand c.requires.demand c.loop-row.row c.loop-row-test.false c.loop-row.invariant

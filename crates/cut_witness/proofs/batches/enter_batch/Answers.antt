@@ -1,5 +1,5 @@
 use Rattle.std.proofs.Common.{◌+◌, arith}
-use Rattle.cut_witness.proofs.BatchSteps.{batch_within}
+use Rattle.failure_patterns.proofs.BatchLaws.{batch_within}
 use Rattle.cut_witness.proofs.batches.enter_batch.Goals as goal
 
 pub certify_batch-requires-clause-within : goal.certify_batch-requires-clause-within

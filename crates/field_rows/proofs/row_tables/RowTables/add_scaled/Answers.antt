@@ -1,8 +1,11 @@
 use Rattle.std.proofs.Common.{◌≡◌, ◌<◌, ◌/◌, ◌%◌, refl, arith, length}
 use Rattle.gf_tables.specs.Product.{product}
 use Rattle.field_rows.proofs.PairProducts.{pairs_added}
-use Rattle.field_rows.proofs.PlainSums.{row_added}
+use Rattle.field_rows.proofs.PlainSums.{row_added, row_kept}
 use Rattle.field_rows.proofs.row_tables.RowTables.add_scaled.Goals as goal
+
+pub returns-then-by-eq0-clause-sum : goal.returns-then-by-eq0-clause-sum
+returns-then-by-eq0-clause-sum c = rw c.if-by-eq0.true (row_kept c.args.field c.args.into.now c.args.from.now c.requires.same_length c.requires.whole)
 
 pub returns-then-by-eq1-clause-sum : goal.returns-then-by-eq1-clause-sum
 returns-then-by-eq1-clause-sum c =
