@@ -1,5 +1,5 @@
 -- Laws of rows of 64 bytes: their elements, and rows with zeros behind them.
-use Rattle.std.specs.Prelude.{◌≡◌, ℕ, ◌<◌, ◌≤◌, ◌+◌, ◌-◌, ◌*◌, ◌%◌, ◌==◌, List, [], ◌∷◌, ◌++◌, length, map, slice_index, if◌then◌else◌}
+use Rattle.std.specs.Prelude.{◌≡◌, ℕ, ◌<◌, ◌≤◌, ◌+◌, ◌-◌, ◌*◌, ◌==◌, List, [], ◌∷◌, ◌++◌, length, map, slice_index, if◌then◌else◌}
 use Rattle.std.proofs.Common.{arith, refl, sym, ap, ◌∙◌, set, inl, inr}
 use Rattle.std.proofs.lemmas.Bool.{cases_eq, cases_lt, eq-eqb, ne_eqb}
 use Rattle.std.proofs.lemmas.List.{ext_get_or, get_or-append_right, get_or-replicate, get_or-set_other, get_or-set_same, get_or_append_left, length-append, length-replicate, length-set, replicate-append-replicate}
@@ -18,11 +18,6 @@ use Rattle.code_checker.specs.WideRows.{wide_bytes, wide_width, widened}
 pub wide_elements : (field : FieldKind) → wide_bytes ≡ bytes_of_element field * wide_width field
 wide_elements Eight = refl
 wide_elements Sixteen = refl
-
--- and whole ones
-pub wide_whole : (field : FieldKind) → wide_bytes % bytes_of_element field ≡ 0
-wide_whole Eight = refl
-wide_whole Sixteen = refl
 
 -- there is room for the highest rate
 pub wide_room : (field : FieldKind) → 32 ≤ wide_width field

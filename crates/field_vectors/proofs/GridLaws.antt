@@ -1,9 +1,8 @@
 -- Laws of matrices: their rows and entries, and what a change of one leaves.
-use Rattle.std.specs.Prelude.{◌≡◌, ◌≢◌, ℕ, ◌<◌, List, [], All, length, get_or, set}
-use Rattle.std.proofs.Common.{ap, ◌∙◌}
+use Rattle.std.specs.Prelude.{◌≡◌, ◌≢◌, ℕ, ◌<◌, List, [], All, length}
 use Rattle.std.proofs.lemmas.List.{get_or-set_same, get_or-set_other}
 use Rattle.std.proofs.lemmas.List.Elements.{All-set, All-get_or}
-use Rattle.field_vectors.specs.Grid.{Grid, row_of, entry_of, with_row, IsMatrix}
+use Rattle.field_vectors.specs.Grid.{Grid, row_of, with_row, IsMatrix}
 
 -- what holds of each element holds of each entry
 pub IsMatrix-map : {A : Type 0} {P Q : A → Type 0} (m : Grid A) → ((x : A) → P x → Q x) → IsMatrix P m → IsMatrix Q m
@@ -31,19 +30,3 @@ with_row-IsMatrix {A} {P} m i row h wide elements = record {
   widths = All-set (λ (r : List A). length r ≡ m.columns) m.rows i row wide h.widths;
   elements = All-set (All P) m.rows i row elements h.elements;
 }
-
--- an entry that was written
-pub entry_of-set : {A : Type 0} (nought : A) (m : Grid A) (i j : ℕ) (value : A) → i < length m.rows → j < length (row_of m i)
-    → entry_of nought (with_row m i (set (row_of m i) j value)) i j ≡ value
-entry_of-set {A} nought m i j value below inside =
-    ap (λ (row : List A). get_or row j nought) (row_of-with_row m i (set (row_of m i) j value) below) ∙ get_or-set_same (row_of m i) j value nought inside
-
--- an entry of the same row that stays
-pub entry_of-set_column : {A : Type 0} (nought : A) (m : Grid A) (i j k : ℕ) (value : A) → i < length m.rows → k ≢ j
-    → entry_of nought (with_row m i (set (row_of m i) j value)) i k ≡ entry_of nought m i k
-entry_of-set_column {A} nought m i j k value below other =
-    ap (λ (row : List A). get_or row k nought) (row_of-with_row m i (set (row_of m i) j value) below) ∙ get_or-set_other (row_of m i) j k value nought other
-
--- an entry of a row that stays
-pub entry_of-with_other : {A : Type 0} (nought : A) (m : Grid A) (i j k : ℕ) (row : List A) → j ≢ i → entry_of nought (with_row m i row) j k ≡ entry_of nought m j k
-entry_of-with_other {A} nought m i j k row other = ap (λ (r : List A). get_or r k nought) (row_of-with_other m i j row other)
