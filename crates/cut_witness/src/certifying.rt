@@ -2,6 +2,7 @@
 ghost use Rattle.std.specs.Prelude.{◌≡◌, ◌≤◌, ◌<◌, IfOk, length};
 ghost use Rattle.failure_patterns.specs.UsedField.{pair_demands};
 ghost use Rattle.cut_witness.specs.Certificate.{AreCertificates, IsCertificate, IsDemand, IsLeastValue};
+ghost use Rattle.link_chains.specs.Wiring.{IsWiring};
 ghost use Rattle.net_model.specs.Demands.{demand_count};
 ghost use Rattle.unit_flow.specs.Visits.{AreFewVisits};
 
@@ -10,7 +11,7 @@ use crate::batches::{certify_along, certify_batches};
 use counted_steps::Steps;
 use failure_patterns::demands;
 use lif_outside::Gate;
-use link_chains::wiring_of;
+use link_chains::{Wiring, wiring_of};
 use net_model::{Demand, Net};
 use std::alloc::{AllocError, Global};
 use std::sync::ledger::Ledger;
@@ -48,8 +49,25 @@ pub fn certify_all<G: Gate + Sync, R: Threads + Sync>(
     ensures { IfOk result (λ certs. AreCertificates net.now certs.items) }
 {
     let wiring = wiring_of(alloc, net)?;
+    certify_all_along(rt, alloc, net, &wiring, workers, gate)
+}
+
+/// The same as [`certify_all`], where the chains of the network's links are given.
+pub fn certify_all_along<G: Gate + Sync, R: Threads + Sync>(
+    rt: &R,
+    alloc: Global,
+    net: &Net,
+    wiring: &Wiring,
+    workers: u32,
+    gate: &G,
+) -> Result<Vec<Cert>, AllocError>
+    requires wiring { IsWiring net.now.links (length net.now.nodes) wiring.now }
+    requires workers { 1 ≤ workers }
+    requires few { demand_count net.now ≤ pair_demands }
+    ensures { IfOk result (λ certs. AreCertificates net.now certs.items) }
+{
     let batches = demands(net).min(workers as u64) as u32;
-    certify_batches(rt, alloc, net, &wiring, batches, gate)
+    certify_batches(rt, alloc, net, wiring, batches, gate)
 }
 
 /// The least value of certificates: where they are those of all demands, the rate of their network.

@@ -8,4 +8,4 @@ mod crossing;
 mod sharing;
 
 pub use cert::Cert;
-pub use certifying::{certify, certify_all, rate};
+pub use certifying::{certify, certify_all, certify_all_along, rate};

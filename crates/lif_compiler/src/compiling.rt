@@ -4,6 +4,7 @@ ghost use Rattle.counted_steps.specs.Steps.{RoseByAtMost};
 ghost use Rattle.cut_witness.specs.Certificate.{AreCertificates, IsLeastValue};
 ghost use Rattle.failure_patterns.specs.Rate.{IsRate};
 ghost use Rattle.gf_tables.specs.Kind.{IsOfKind};
+ghost use Rattle.link_chains.specs.Wiring.{IsWiring};
 ghost use Rattle.net_model.specs.Demands.{demand_count};
 ghost use Rattle.net_model.specs.Limits.{highest_rate};
 ghost use Rattle.net_model.specs.Renumbering.{HasEachOnce, IsRenumbered};
@@ -24,16 +25,17 @@ use crate::rating::bounded_rate;
 use crate::routes::routes_of;
 use crate::{CompileRefusal, HopList};
 use counted_steps::Steps;
-use cut_witness::{Cert, certify_all};
+use cut_witness::{Cert, certify_all_along};
 use failure_patterns::demands;
 use gf_tables::Field;
 use lif_outside::Gate;
+use link_chains::{Wiring, wiring_of};
 use net_model::Net;
 use node_program::{Code, DecoderTable, OperandTable, choice_of};
 use std::alloc::{AllocError, Global};
 use std::sync::ledger::Ledger;
 use std::thread::Threads;
-use topo_order::order;
+use topo_order::order_along;
 
 /// The most jobs that certificates are cut into.
 const WORKERS: u32 = 4;
@@ -124,20 +126,23 @@ pub fn compile<F: Field, G: Gate + Sync, L: Ledger, R: Threads + Sync>(
     ensures ticks { (rate : ℕ) → IsRate net.now rate → RoseByAtMost
         (choice_bound (length net.now.links) (demand_count net.now) rate) steps.old steps.new }
 {
-    let order = order(alloc, net)?;
-    compile_in_order::<F, G, L, R>(rt, alloc, net, &order, gate, steps)
+    let wiring = wiring_of(alloc, net)?;
+    let order = order_along(alloc, net, &wiring)?;
+    compile_along::<F, G, L, R>(rt, alloc, net, &wiring, &order, gate, steps)
 }
 
-/// The same for a network without a cycle, whose order is at hand.
-pub fn compile_in_order<F: Field, G: Gate + Sync, L: Ledger, R: Threads + Sync>(
+/// The same as [`compile`] for a network without a cycle, where the chains of its links and their order are given.
+pub fn compile_along<F: Field, G: Gate + Sync, L: Ledger, R: Threads + Sync>(
     rt: &R,
     alloc: Global,
     net: &Net,
+    wiring: &Wiring,
     order: &[u32],
     gate: &G,
     steps: &mut Steps<L>,
 ) -> Result<(Code, Vec<Cert>), CompileRefusal>
     requires field { IsOfKind (marked_kind F.MARK) F.SIZE F.BYTES F.MARK F.product }
+    requires wiring { IsWiring net.now.links (length net.now.nodes) wiring.now }
     requires order { order.now ≡ order_of net.now.links }
     requires acyclic { IsAcyclic net.now.links }
     ensures compiled { IfOk result (λ made.
@@ -150,7 +155,7 @@ pub fn compile_in_order<F: Field, G: Gate + Sync, L: Ledger, R: Threads + Sync>(
     if count > u64::from(F::SIZE) {
         return Err(CompileRefusal::TooManyDemands { count });
     }
-    let certs = certify_all(rt, alloc, net, WORKERS, gate)?;
+    let certs = certify_all_along(rt, alloc, net, wiring, WORKERS, gate)?;
     let rate = bounded_rate(alloc, net, &certs)?;
     let code = build::<F, L>(alloc, net, order, &certs, rate, steps)?;
     Ok((code, certs))

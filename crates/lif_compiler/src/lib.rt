@@ -18,6 +18,6 @@ mod starting;
 mod table;
 mod visiting;
 
-pub use compiling::{compile, compile_in_order};
+pub use compiling::{compile, compile_along};
 pub use hops::{Hop, HopList};
 pub use refusal::CompileRefusal;

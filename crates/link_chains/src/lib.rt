@@ -4,5 +4,5 @@
 mod chains;
 mod wiring;
 
-pub use chains::{Chains, LinkEnd, chains_of};
+pub use chains::{Chains, LinkEnd};
 pub use wiring::{Wiring, wiring_of};

@@ -1,6 +1,7 @@
 //! A network that is read from its text and put in order.
 ghost use Rattle.std.specs.Prelude.{◌≡◌, ◌≢◌, ◌≤◌, ℕ, List, Ok, Err, IfOk, IfErr, length};
 ghost use Rattle.lif_outside.specs.Calls.{MakesCalls};
+ghost use Rattle.link_chains.specs.Wiring.{IsWiring};
 ghost use Rattle.net_reader.specs.Text.{net_limit, network_of, parts_of};
 ghost use Rattle.topo_order.specs.Order.{IsShownCycle, order_of};
 ghost use Rattle.top_base.specs.Lines.{refused_name};
@@ -12,15 +13,17 @@ use crate::outcome::Outcome;
 use crate::reading::read_whole;
 use crate::status::{NetWhy, Status};
 use lif_outside::Store;
+use link_chains::{Wiring, wiring_of};
 use net_model::{LinkList, Net};
 use net_reader::{NET_LIMIT, ReadRefusal, node_name, read_net};
 use std::alloc::{AllocError, Global};
-use topo_order::{OrderRefusal, order};
+use topo_order::{OrderRefusal, order_along};
 
-/// A network without a cycle, and its links in order.
+/// A network without a cycle, the chains of its links, and its links in order.
 #[derive(Drop)]
 pub struct Ordered {
     pub net: Net,
+    pub wiring: Wiring,
     pub order: Vec<u32>,
 }
 
@@ -74,6 +77,8 @@ fn cyclic<'a>(alloc: Global, net: &Net, links: LinkList) -> Outcome<'a>
 fn parse<'a>(alloc: Global, text: &[u8]) -> Result<Ordered, Outcome<'a>>
     requires { length text.now ≤ net_limit }
     ensures net { IfOk result (λ ordered. IsNetOf text.now ordered.net) }
+    ensures wiring { IfOk result (λ ordered.
+        IsWiring ordered.net.links (length ordered.net.nodes) ordered.wiring) }
     ensures order { IfOk result (λ ordered. ordered.order.items ≡ order_of ordered.net.links) }
     ensures refused { IfErr result (λ outcome. RefusesNetOrLosesIt text.now outcome) }
 {
@@ -81,8 +86,9 @@ fn parse<'a>(alloc: Global, text: &[u8]) -> Result<Ordered, Outcome<'a>>
         Ok(net) => net,
         Err(why) => return Err(unread(alloc, text, why)),
     };
-    match order(alloc, &net) {
-        Ok(order) => Ok(Ordered { net, order }),
+    let wiring = wiring_of(alloc, &net)?;
+    match order_along(alloc, &net, &wiring) {
+        Ok(order) => Ok(Ordered { net, wiring, order }),
         Err(OrderRefusal::Cyclic { links }) => Err(cyclic(alloc, &net, links)),
         Err(OrderRefusal::OutOfMemory) => Err(Outcome::out_of_memory()),
     }
@@ -94,6 +100,8 @@ pub fn read_ordered<'a, S: Store>(
     store: &mut S,
     path: &str,
 ) -> Result<Ordered, Outcome<'a>>
+    ensures wiring { IfOk result (λ ordered.
+        IsWiring ordered.net.links (length ordered.net.nodes) ordered.wiring) }
     ensures had { IfOk result
         (λ ordered. MakesCalls S.Store store.old store.new (ReadsNet path.now (Ok ordered.net))) }
     ensures order { IfOk result (λ ordered. ordered.order.items ≡ order_of ordered.net.links) }

@@ -1,10 +1,11 @@
 //! The command `compile`.
-ghost use Rattle.std.specs.Prelude.{◌≡◌, ◌∷◌, [], OnErr, OnOk, ℕ};
+ghost use Rattle.std.specs.Prelude.{◌≡◌, ◌∷◌, [], OnErr, OnOk, ℕ, length};
 ghost use Rattle.std.specs.Option.{option_map};
 ghost use Rattle.lif_outside.specs.Calls.{MakesCalls};
 ghost use Rattle.lif_outside.specs.Runs.{StopsWithin};
 ghost use Rattle.lif_outside.specs.Sequences.{Are};
 ghost use Rattle.lif_outside.specs.Writes.{writes_of};
+ghost use Rattle.link_chains.specs.Wiring.{IsWiring};
 ghost use Rattle.net_model.specs.Walks.{IsAcyclic};
 ghost use Rattle.net_model.specs.declared.net.Net.{Net};
 ghost use Rattle.topo_order.specs.Order.{order_of};
@@ -16,6 +17,7 @@ ghost use Rattle.top_tools.specs.Compile.Ready.{IsReady, files_of};
 
 use crate::making::{Made, make};
 use lif_outside::{Failed, Gate, Store};
+use link_chains::Wiring;
 use net_model::Net;
 use std::alloc::Global;
 use std::thread::Threads;
@@ -75,22 +77,24 @@ fn write<'a, S: Store>(words: &CompileWords<'a>, made: Made<'a>, store: &mut S) 
     }
 }
 
-// Compiles a network without a cycle, whose order is at hand, and writes its code and report.
+// Compiles a network without a cycle, whose order and chains are at hand, and writes its code and report.
 fn compile_net<'a, S: Store, G: Gate + Sync, R: Threads + Sync>(
     rt: &R,
     alloc: Global,
     words: &CompileWords<'a>,
     net: &Net,
+    wiring: &Wiring,
     order: &[u32],
     store: &mut S,
     gate: &G,
 ) -> Outcome<'a>
+    requires wiring { IsWiring net.now.links (length net.now.nodes) wiring.now }
     requires order { order.now ≡ order_of net.now.links }
     requires acyclic { IsAcyclic net.now.links }
     ensures { MakesCalls S.Store store.old store.new
         (Compiles (compile_given_in words.now) net.now result.status result.line) }
 {
-    match make(rt, alloc, net, order, gate) {
+    match make(rt, alloc, net, wiring, order, gate) {
         Ok(made) => write(words, made, store),
         Err(refused) => refused,
     }
@@ -116,8 +120,8 @@ pub fn compile<'a, S: Store, G: Gate + Sync, R: Threads + Sync>(
     }
     match read_ordered(alloc, store, words.net) {
         Ok(ordered) => {
-            let order = ordered.order.as_slice();
-            compile_net(rt, alloc, words, &ordered.net, order, store, gate)
+            let (wiring, order) = (&ordered.wiring, ordered.order.as_slice());
+            compile_net(rt, alloc, words, &ordered.net, wiring, order, store, gate)
         }
         Err(refused) => refused,
     }

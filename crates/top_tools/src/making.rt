@@ -1,8 +1,9 @@
 //! A code of a network and its report, as they are written.
-ghost use Rattle.std.specs.Prelude.{◌≡◌, ◌<◌, IfErr, IfOk, IsNone};
+ghost use Rattle.std.specs.Prelude.{◌≡◌, ◌<◌, IfErr, IfOk, IsNone, length};
 ghost use Rattle.gf_tables.specs.Kind.{IsOfKind};
 ghost use Rattle.lif_compiler.specs.Compiled.{IsCompiled, marked_kind};
 ghost use Rattle.lif_compiler.specs.Refused.{IsRefusal};
+ghost use Rattle.link_chains.specs.Wiring.{IsWiring};
 ghost use Rattle.net_model.specs.Walks.{IsAcyclic};
 ghost use Rattle.topo_order.specs.Order.{order_of};
 ghost use Rattle.top_tools.specs.Compile.Made.{IsServedBy};
@@ -15,8 +16,9 @@ use counted_steps::Steps;
 use cut_witness::Cert;
 use failure_patterns::used_field;
 use gf_tables::{Field, Gf8, Gf16};
-use lif_compiler::{CompileRefusal, compile_in_order};
+use lif_compiler::{CompileRefusal, compile_along};
 use lif_outside::Gate;
+use link_chains::Wiring;
 use net_model::{FieldChoice, Net};
 use node_program::Code;
 use std::alloc::{AllocError, Global};
@@ -78,16 +80,18 @@ fn unmade<'a>(alloc: Global, net: &Net, why: CompileRefusal) -> Outcome<'a>
     }
 }
 
-// The code over the field `F` of a network whose order is at hand, with a counter of its own.
+// The code over the field `F` of a network whose order and chains are at hand, with a counter of its own.
 fn code_in<F: Field, G: Gate + Sync, L: Ledger, R: Threads + Sync>(
     rt: &R,
     alloc: Global,
     net: &Net,
+    wiring: &Wiring,
     order: &[u32],
     gate: &G,
     blank: Blank,
 ) -> Result<(Code, Vec<Cert>), CompileRefusal>
     requires field { IsOfKind (marked_kind F.MARK) F.SIZE F.BYTES F.MARK F.product }
+    requires wiring { IsWiring net.now.links (length net.now.nodes) wiring.now }
     requires order { order.now ≡ order_of net.now.links }
     requires acyclic { IsAcyclic net.now.links }
     requires name { blank.name ≡ L.name }
@@ -98,7 +102,7 @@ fn code_in<F: Field, G: Gate + Sync, L: Ledger, R: Threads + Sync>(
     ensures refused { IfErr result (IsRefusal net.now F.SIZE) }
 {
     let steps = &mut Steps::<L>::start(blank);
-    compile_in_order::<F, G, L, R>(rt, alloc, net, order, gate, steps)
+    compile_along::<F, G, L, R>(rt, alloc, net, wiring, order, gate, steps)
 }
 
 // What is written and said of a network whose demands the field `F` serves.
@@ -106,40 +110,44 @@ fn make_over<'a, F: Field, G: Gate + Sync, R: Threads + Sync>(
     rt: &R,
     alloc: Global,
     net: &Net,
+    wiring: &Wiring,
     order: &[u32],
     gate: &G,
 ) -> Result<Made<'a>, Outcome<'a>>
     requires field { IsOfKind (marked_kind F.MARK) F.SIZE F.BYTES F.MARK F.product }
     requires served { IsServedBy net.now (marked_kind F.MARK) }
+    requires wiring { IsWiring net.now.links (length net.now.nodes) wiring.now }
     requires order { order.now ≡ order_of net.now.links }
     requires acyclic { IsAcyclic net.now.links }
     ensures ready { IfOk result (IsReady net.now) }
     ensures refused { IfErr result (RefusesOrLosesIt net.now) }
 {
-    match code_in::<F, G, Brand, R>(rt, alloc, net, order, gate, Blank::new(1)) {
+    match code_in::<F, G, Brand, R>(rt, alloc, net, wiring, order, gate, Blank::new(1)) {
         Ok((code, certs)) => Ok(of_code(alloc, net, &code, &certs)?),
         Err(why) => Err(unmade(alloc, net, why)),
     }
 }
 
-/// Compiles a network without a cycle, whose order is at hand, over the field that serves its demands, and takes all
-/// memory that its code and report need.
+/// Compiles a network without a cycle, whose order and chains are at hand, over the field that serves its demands, and
+/// takes all memory that its code and report need.
 #[tactic(auto, unfolding(gf_tables::specs::Product::product))]
 pub fn make<'a, G: Gate + Sync, R: Threads + Sync>(
     rt: &R,
     alloc: Global,
     net: &Net,
+    wiring: &Wiring,
     order: &[u32],
     gate: &G,
 ) -> Result<Made<'a>, Outcome<'a>>
+    requires wiring { IsWiring net.now.links (length net.now.nodes) wiring.now }
     requires order { order.now ≡ order_of net.now.links }
     requires acyclic { IsAcyclic net.now.links }
     ensures ready { IfOk result (IsReady net.now) }
     ensures refused { IfErr result (RefusesOrLosesIt net.now) }
 {
     match used_field(net) {
-        Some(FieldChoice::Eight) => make_over::<Gf8, G, R>(rt, alloc, net, order, gate),
-        Some(FieldChoice::Sixteen) => make_over::<Gf16, G, R>(rt, alloc, net, order, gate),
+        Some(FieldChoice::Eight) => make_over::<Gf8, G, R>(rt, alloc, net, wiring, order, gate),
+        Some(FieldChoice::Sixteen) => make_over::<Gf16, G, R>(rt, alloc, net, wiring, order, gate),
         Some(FieldChoice::Any) => unreachable!(),
         None => Err(crowded(net)),
     }

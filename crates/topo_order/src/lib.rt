@@ -8,5 +8,5 @@ mod queue;
 mod refusal;
 mod sharing;
 
-pub use ordering::order;
+pub use ordering::{order, order_along};
 pub use refusal::OrderRefusal;

@@ -23,18 +23,19 @@ pub(crate) struct Placing {
 pub(crate) fn nothing_placed(
     alloc: Global,
     net: &Net,
-    first_into: Vec<u32>,
+    first_into: &[u32],
 ) -> Result<Placing, AllocError>
-    requires { AreFirstsAt net.now Head first_into.items }
+    requires { AreFirstsAt net.now Head first_into.now }
     ensures empty { IfOk result (λ placing. placing.order.items ≡ []) }
     ensures placing { IfOk result (IsPlacingIn net.now) }
 {
     let order = Vec::with_capacity(alloc, net.links.len())?;
     let placed = vec![in alloc; false; net.links.len()]?;
+    let into = Vec::from_slice(alloc, first_into)?;
     Ok(Placing {
         order,
         placed,
-        into: first_into,
+        into,
     })
 }
 

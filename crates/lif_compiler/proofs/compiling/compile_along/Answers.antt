@@ -1,7 +1,7 @@
 use Rattle.std.proofs.Common.{sym, subst}
 use Rattle.cut_witness.specs.Certificate.{AreCertificates}
 use Rattle.lif_compiler.proofs.BuildSteps.{rate_ticks}
-use Rattle.lif_compiler.proofs.compiling.compile_in_order.Goals as goal
+use Rattle.lif_compiler.proofs.compiling.compile_along.Goals as goal
 
 pub returns-in_err-code-clause-ticks : goal.returns-in_err-code-clause-ticks
 returns-in_err-code-clause-ticks g c =

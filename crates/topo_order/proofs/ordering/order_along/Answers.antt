@@ -1,6 +1,6 @@
 use Rattle.std.proofs.Common.{◌≡◌, length, arith}
 use Rattle.topo_order.proofs.OrderLaws.{IsAcyclic-from_whole}
-use Rattle.topo_order.proofs.ordering.order.Goals as goal
+use Rattle.topo_order.proofs.ordering.order_along.Goals as goal
 
 pub returns-clause-acyclic : goal.returns-clause-acyclic
 returns-clause-acyclic c =
