@@ -4,9 +4,9 @@
 pub mod accepting;
 pub mod blocks;
 pub mod codes;
+pub mod draws;
 pub mod files;
 pub mod links;
-pub mod odd;
 pub mod orders;
 pub mod products;
 pub mod runs;
