@@ -9,5 +9,6 @@ pub mod CallLaws
 pub mod DeedLaws
 mod Contents
 mod MemoryCalls
+mod HostileLaws
 pub mod PushLaws
 pub mod OpenLaws

@@ -19,4 +19,5 @@ pub mod MoveLaws
 pub mod Seeded
 pub mod Calls
 pub mod Picks
+pub mod Spoils
 pub mod Listed

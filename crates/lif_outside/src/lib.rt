@@ -11,7 +11,7 @@ mod store;
 
 pub use gate::{Gate, NoGate};
 pub use links::{Flight, Links};
-pub use listed::ListLinks;
+pub use listed::{ListLinks, Spoil};
 pub use memory::{Call, Fail, MemSink, MemStore};
 pub use seeded::SeedLinks;
 pub use sink::Sink;

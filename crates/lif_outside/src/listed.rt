@@ -1,27 +1,35 @@
 //! Links in memory that give what flies as a list says, and fail where they are told to.
-ghost use Rattle.std.specs.Prelude.{◌≡◌, ◌≤◌, ◌<◌, ◌++◌, ◌∷◌, ◌⊎◌, [], length, Contains, IsErr, OnOk, OnErr};
+ghost use Rattle.std.specs.Prelude.{◌≡◌, ◌≤◌, ◌<◌, ◌++◌, ◌∷◌, ◌⊎◌, [], if◌then◌else◌, length, remove, All, Contains, IsErr, OnOk, OnErr};
 ghost use Rattle.std.specs.Vec.{vec_capacity};
 ghost use Rattle.lif_outside.specs.Counts.{one_more};
+ghost use Rattle.lif_outside.specs.Spoils.{is_in_payload};
 
+mod spoils;
 #[cfg(test)]
 mod tests;
 
+pub use spoils::Spoil;
+
 use crate::memory::parts::{count_one, failed, place_of};
 use crate::{Failed, Flight, Links};
+use spoils::spoiled;
 use std::alloc::{AllocError, Global};
 
-/// Links in memory that give each frame as it was put, and tell all that was put and given.
+/// Links in memory that tell all that was put and given.
 ///
 /// The take of number k, counted from 0, gives the flying pair at the place that the list `picks` has at k,
 /// or the last where fewer fly, and the pair at place 0 where the list has no place k. The others keep their
-/// order. A put fails where it is listed and where the list of the pairs put can't grow, a take where it is
-/// listed and where the list of the pairs given can't.
+/// order. The pair stays where the take is listed in `keeps`, and what is given of it is changed where the
+/// take is listed in `spoils`. A put fails where it is listed and where the list of the pairs put can't grow,
+/// a take where it is listed and where the list of the pairs given can't.
 #[derive(Drop)]
 pub struct ListLinks {
     flying: Vec<Flight>,
     sent: Vec<Flight>,
     given: Vec<Flight>,
     picks: Vec<u32>,
+    keeps: Vec<u64>,
+    spoils: Vec<Spoil>,
     put_fails: Vec<u64>,
     take_fails: Vec<u64>,
     puts: u64,
@@ -30,13 +38,28 @@ pub struct ListLinks {
     room: u32,
     seed: u64,
     ghost enough: { room ≤ vec_capacity flying },
+    ghost in_payload: { All is_in_payload spoils.items },
+}
+
+// The pair at a place leaves where it isn't kept.
+fn let_go(flying: &mut Vec<Flight>, place: usize, is_kept: bool)
+    requires { place < length flying.old.items }
+    ensures items { flying.new.items
+        ≡ (if is_kept then flying.old.items else remove flying.old.items place) }
+    ensures capacity { vec_capacity flying.new ≡ vec_capacity flying.old }
+{
+    if !is_kept {
+        flying.remove(place);
+    }
 }
 
 impl ListLinks {
     ghost use Rattle.std.specs.Prelude.{Some};
-    ghost use Rattle.lif_outside.specs.Listed.{held_in, sent_in, given_in, faults_in, picks_in, put_fails_in, take_fails_in, puts_in, takes_in};
+    ghost use Rattle.std.specs.List.Sorted.{IsStrictlyIncreasing};
+    ghost use Rattle.lif_outside.specs.Listed.{held_in, sent_in, given_in, faults_in, picks_in, keeps_in, spoils_in, put_fails_in, take_fails_in, puts_in, takes_in, keeps_next};
 
-    /// Links with no room. The puts and the takes that are listed fail, counted from 1. It takes no memory.
+    /// Links with no room, which keep no pair and give each frame as it was put. The puts and the takes that
+    /// are listed fail, counted from 1. It takes no memory.
     pub fn new(
         alloc: Global,
         picks: Vec<u32>,
@@ -47,6 +70,38 @@ impl ListLinks {
         ensures sent { sent_in result ≡ Some [] }
         ensures given { given_in result ≡ Some [] }
         ensures picks { picks_in result ≡ picks.items }
+        ensures keeps { keeps_in result ≡ [] }
+        ensures spoils { spoils_in result ≡ [] }
+        ensures put_fails { put_fails_in result ≡ put_fails.items }
+        ensures take_fails { take_fails_in result ≡ take_fails.items }
+        ensures puts { puts_in result ≡ 0 }
+        ensures takes { takes_in result ≡ 0 }
+        ensures faults { faults_in result ≡ 0 }
+    {
+        let keeps = Vec::new(alloc);
+        let spoils = Vec::new(alloc);
+        ListLinks::hostile(alloc, picks, keeps, spoils, put_fails, take_fails)
+    }
+
+    /// Links with no room. The takes that `keeps` lists keep the pair that they give, and those that `spoils`
+    /// lists change what they give. The puts and the takes that are listed fail, counted from 1. It takes no
+    /// memory.
+    pub fn hostile(
+        alloc: Global,
+        picks: Vec<u32>,
+        keeps: Vec<u64>,
+        spoils: Vec<Spoil>,
+        put_fails: Vec<u64>,
+        take_fails: Vec<u64>,
+    ) -> ListLinks
+        requires rising { IsStrictlyIncreasing keeps.items }
+        requires in_payload { All is_in_payload spoils.items }
+        ensures empty { (held_in result).flying ≡ [] }
+        ensures sent { sent_in result ≡ Some [] }
+        ensures given { given_in result ≡ Some [] }
+        ensures picks { picks_in result ≡ picks.items }
+        ensures keeps { keeps_in result ≡ keeps.items }
+        ensures spoils { spoils_in result ≡ spoils.items }
         ensures put_fails { put_fails_in result ≡ put_fails.items }
         ensures take_fails { take_fails_in result ≡ take_fails.items }
         ensures puts { puts_in result ≡ 0 }
@@ -58,6 +113,8 @@ impl ListLinks {
             sent: Vec::new(alloc),
             given: Vec::new(alloc),
             picks,
+            keeps,
+            spoils,
             put_fails,
             take_fails,
             puts: 0,
@@ -66,6 +123,13 @@ impl ListLinks {
             room: 0,
             seed: 0,
         }
+    }
+
+    // Whether the take that comes keeps the pair that it gives.
+    fn keeps_next(&self) -> bool
+        ensures { result ≡ keeps_next self.now }
+    {
+        self.takes < u64::MAX && self.keeps.contains(&(self.takes + 1))
     }
 }
 
@@ -158,6 +222,7 @@ impl Links for ListLinks {
         ensures faults_err { OnErr result (faults_in self.new ≡ one_more (faults_in self.old)) }
     {
         let number = self.takes;
+        let is_kept = self.keeps_next();
         let nth = count_one(&mut self.takes);
         if self.take_fails.contains(&nth) {
             return Err(failed(&mut self.faults));
@@ -166,11 +231,15 @@ impl Links for ListLinks {
             return Ok(None);
         }
         let place = place_of(self.picks.as_slice(), number, self.flying.len());
-        let flight = self.flying[place];
+        let pair = self.flying[place];
+        let flight = Flight {
+            link: pair.link,
+            frame: spoiled(self.spoils.as_slice(), nth, &pair.frame),
+        };
         if self.given.push(flight).is_err() {
             return Err(failed(&mut self.faults));
         }
-        self.flying.remove(place);
+        let_go(&mut self.flying, place, is_kept);
         Ok(Some(flight))
     }
 }

@@ -4,10 +4,10 @@
 pub mod accepting;
 pub mod blocks;
 pub mod codes;
+pub mod draws;
 pub mod files;
 pub mod gates;
 pub mod links;
-pub mod odd;
 pub mod orders;
 pub mod products;
 pub mod runs;

@@ -12,8 +12,9 @@ pub struct Calls {
     pub opened: Option<(u64, u32)>,
     /// The pairs of all puts, also of those that failed.
     pub puts: Vec<Flight>,
-    /// How often a pair was asked for.
+    /// How often a pair was asked for, and those that were given.
     pub takes: u32,
+    pub given: Vec<Flight>,
     /// How many puts and takes have failed, and how many calls were made after the first that did.
     pub faults: u32,
     pub late: u32,
@@ -27,6 +28,7 @@ impl Calls {
             opened: None,
             puts: Vec::new(alloc),
             takes: 0,
+            given: Vec::new(alloc),
             faults: 0,
             late: 0,
         }
@@ -57,6 +59,11 @@ impl Calls {
     fn take(&mut self) {
         self.come();
         self.takes = self.takes.saturating_add(1);
+    }
+
+    // A pair was given. Where there is no memory for it, it isn't told.
+    fn give(&mut self, flight: Flight) {
+        let _ = self.given.push(flight);
     }
 
     // A call was answered.
@@ -145,6 +152,9 @@ impl<K: Links> Links for Watched<K> {
         self.calls.take();
         let answer = self.links.take();
         self.calls.go(answer.is_err());
+        if let Ok(Some(flight)) = answer {
+            self.calls.give(flight);
+        }
         answer
     }
 }

@@ -1,8 +1,10 @@
 //! `send` over links in memory: how it ends, what is put on the links, and what comes to the sinks.
 mod faults;
 mod frames;
+mod model;
 mod opening;
 mod orders;
 mod repeats;
+mod schedules;
 mod sending;
 mod windows;

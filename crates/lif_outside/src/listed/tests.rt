@@ -68,3 +68,40 @@ fn what_cannot_be_told_is_a_fault(rt: HostRuntime) -> Result<(), test::Fail> {
     assert_eq!(rt; (links.sent.len(), links.flying.len()), (put, put));
     Ok(())
 }
+
+// Takes by the trait, and says the link with the first two bytes of the payload.
+fn given<L: Links>(links: &mut L) -> Result<Option<(u32, u8, u8)>, Failed> {
+    Ok(links.take()?.map(|flight| (flight.link, flight.frame[12], flight.frame[13])))
+}
+
+#[test]
+fn listed_takes_keep_their_pair_and_change_it(rt: HostRuntime) -> Result<(), test::Fail> {
+    let alloc = rt.alloc();
+    let none = Vec::new(alloc);
+    let keeps = vec![in alloc; 2]?;
+    let spoil = Spoil {
+        nth: 2,
+        byte: 1,
+        mask: 0xf0,
+    };
+    let spoils = vec![in alloc; spoil]?;
+    let put_fails = Vec::new(alloc);
+    let mut links = ListLinks::hostile(alloc, none, keeps, spoils, put_fails, Vec::new(alloc));
+    links.open(alloc, 5, 6)?;
+    for link in [10, 11] {
+        assert_eq!(rt; launch(&mut links, link), Ok(()), "link {link}");
+    }
+    for (take, found) in [
+        Ok(Some((10, 10, 10))),
+        Ok(Some((11, 11, 0xfb))),
+        Ok(Some((11, 11, 11))),
+        Ok(None),
+    ]
+    .into_iter()
+    .enumerate()
+    {
+        assert_eq!(rt; given(&mut links), found, "take {take}");
+    }
+    assert_eq!(rt; (links.takes, links.given.len()), (4, 3));
+    Ok(())
+}

@@ -6,7 +6,7 @@ use std::test;
 use std::thread::Threads;
 use worked_rows::codes::checked_of;
 use worked_rows::files::{BUTTERFLY, DOUBLED_ONE_LINK, ONE_LINK, TWO_WAYS, WIDE_ONE_LINK};
-use worked_rows::orders::listed;
+use worked_rows::orders::{PLAIN, Script, hostile, listed};
 use worked_rows::runs::source_of;
 
 // Whether two blocks come through a code in an order that a number decides.
@@ -77,5 +77,34 @@ fn a_list_says_the_order(rt: HostRuntime) {
                 );
             }
         }
+    }
+}
+
+// Whether a window of four blocks comes through a code over links that keep the pairs of every second take.
+fn by_repeats<R: Threads + Sync>(rt: &R, alloc: Global, file: &[u8]) -> Option<bool> {
+    let code = checked_of(rt, alloc, file).ok()?;
+    let source = source_of(alloc, 16384)?;
+    let mut keeps = Vec::new(alloc);
+    for half in 0..1000u64 {
+        keeps.push(2 * half + 1).ok()?;
+    }
+    let script = Script {
+        keeps: &keeps,
+        ..PLAIN
+    };
+    let course = Course {
+        pattern: 0,
+        seed: 0,
+        blocks: 4,
+        windows: 1,
+    };
+    let mut links = hostile(alloc, &script)?;
+    Some(carries(alloc, &code, course, &mut links, &source))
+}
+
+#[test]
+fn pairs_may_come_again(rt: HostRuntime) {
+    for (name, file, _) in CODES {
+        assert!(rt; by_repeats(&rt, rt.alloc(), file) == Some(true), "{name}");
     }
 }

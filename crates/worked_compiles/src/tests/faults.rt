@@ -118,6 +118,23 @@ fn each_call_of_compile_fails_in_turn(rt: HostRuntime) -> Result<(), test::Fail>
 }
 
 #[test]
+fn there_are_two_calls_of_each_kind(rt: HostRuntime) -> Result<(), test::Fail> {
+    let alloc = rt.alloc();
+    for call in [Call::Read, Call::Create, Call::Append] {
+        let third = Fail {
+            call,
+            nth: 3,
+            keep: 0,
+        };
+        let mut store = store_with(alloc, 65536, &[third], "net", THREE_CORES_TEXT)?;
+        let said = compiles(THREE_CORES_LINE);
+        run(&rt, alloc, &said, &mut store, &Status::Done)?;
+        assert!(rt; store.file("code").is_some() && store.file("report").is_some());
+    }
+    Ok(())
+}
+
+#[test]
 fn an_unsaid_line_is_a_fault(rt: HostRuntime) -> Result<(), test::Fail> {
     let alloc = rt.alloc();
     let mut store = store_of(alloc, THREE_CORES_TEXT)?;

@@ -4,11 +4,12 @@ mod rule;
 use super::{COMPILE, Said, accept, call, compiles, refuse, run, store_of};
 use lif_outside::{MemSink, MemStore};
 use lif_top::Status;
-use rule::{Draws, network};
+use rule::network;
 use std::alloc::{AllocError, Global};
 use std::process::Abort;
 use std::test;
 use std::thread::Threads;
+use worked_rows::draws::Draws;
 use worked_rows::runs::words_of;
 use worked_rows::texts::numbered;
 

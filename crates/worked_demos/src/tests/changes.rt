@@ -1,7 +1,36 @@
 //! Links that change a byte of a payload.
 use super::running::ends;
+use lif_outside::Spoil;
+use std::alloc::Global;
 use std::test;
-use worked_rows::odd::OddLinks;
+use std::thread::Threads;
+use worked_rows::orders::{PLAIN, Script, hostile};
+
+// Whether `demo` is done and says these lines, over links that change the fifth byte of the first payload by a mask.
+fn shows_changed<R: Threads + Sync>(
+    rt: &R,
+    alloc: Global,
+    words: &[&str],
+    mask: u8,
+    lines: &str,
+) -> bool {
+    let spoil = Spoil {
+        nth: 1,
+        byte: 4,
+        mask,
+    };
+    let script = Script {
+        spoils: &[spoil],
+        ..PLAIN
+    };
+    match hostile(alloc, &script) {
+        Some(links) => {
+            let mut links = links;
+            ends(rt, alloc, words, &mut links, 0, lines)
+        }
+        None => false,
+    }
+}
 
 // The source's bytes are 5 and 172. The first frame is of the source's first link, which carries the first row as it is.
 // Behind the count of the block's bytes, the fifth byte of its payload is the first byte of the source. So one sink of two,
@@ -30,8 +59,7 @@ fn the_sum_is_that_of_what_came(rt: HostRuntime) {
             "demo 2 2\nnodes 4\nlinks 4\ndemands 1\nfield 8\nrate 2\ngenerations 1\nframes 32\nbytes 2\nsinks 1\nsum 176\n",
         ),
     ] {
-        let mut links = OddLinks::new(rt.alloc(), 0, mask);
-        let ended = ends(&rt, rt.alloc(), &words, &mut links, 0, lines);
-        assert!(rt; ended, "{} {} {mask}", words[1], words[2]);
+        let shown = shows_changed(&rt, rt.alloc(), &words, mask, lines);
+        assert!(rt; shown, "{} {} {mask}", words[1], words[2]);
     }
 }

@@ -52,6 +52,22 @@ pub(super) fn has(store: &MemStore, path: &str, bytes: &[u8]) -> bool {
     store.file(path) == Some(bytes)
 }
 
+/// The number of the status with which a run ends, and what it says.
+pub(super) fn ended<R: Threads + Sync, K: Links>(
+    rt: &R,
+    alloc: Global,
+    words: &[&str],
+    store: &mut MemStore,
+    links: &mut K,
+) -> Option<(u8, MemSink)>
+    requires { K.flying links.old ≡ [] }
+{
+    let words = words_of(alloc, words).ok()?;
+    let mut say = MemSink::new(alloc, Vec::new(alloc));
+    let status = lif(rt, alloc, words.as_slice(), store, &mut say, links, &NoGate);
+    Some((status.code(), say))
+}
+
 /// Whether a run ends with the status of this number and says this line.
 pub(super) fn ends<R: Threads + Sync, K: Links>(
     rt: &R,
@@ -64,12 +80,10 @@ pub(super) fn ends<R: Threads + Sync, K: Links>(
 ) -> bool
     requires { K.flying links.old ≡ [] }
 {
-    let Ok(words) = words_of(alloc, words) else {
-        return false;
-    };
-    let mut say = MemSink::new(alloc, Vec::new(alloc));
-    let ended = lif(rt, alloc, words.as_slice(), store, &mut say, links, &NoGate);
-    ended.code() == status && say.bytes() == line.as_bytes()
+    match ended(rt, alloc, words, store, links) {
+        Some((number, say)) => number == status && say.bytes() == line.as_bytes(),
+        None => false,
+    }
 }
 
 /// Whether a source is sent, and stands at each output then.

@@ -4,30 +4,7 @@ ghost use Rattle.std.specs.Prelude.{◌<◌};
 use super::Network;
 use crate::tests::fields::push_line;
 use std::alloc::{AllocError, Global};
-
-// Numbers that look random, each made of the one before (a linear congruential generator).
-#[derive(Drop)]
-pub(super) struct Draws {
-    state: u32,
-}
-
-impl Draws {
-    // The numbers that begin with a seed.
-    pub(super) fn of(seed: u32) -> Draws {
-        Draws {
-            state: seed.wrapping_mul(2654435769),
-        }
-    }
-
-    // A number below a bound.
-    pub(super) fn below(&mut self, bound: u32) -> u32
-        requires { 0 < bound }
-        ensures { result < bound }
-    {
-        self.state = self.state.wrapping_mul(1664525).wrapping_add(1013904223);
-        self.state / 256 % bound
-    }
-}
+use worked_rows::draws::Draws;
 
 // A link into a node, from the source or from a node of the layer before.
 fn push_link(
