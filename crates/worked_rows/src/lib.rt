@@ -5,6 +5,7 @@ pub mod accepting;
 pub mod blocks;
 pub mod codes;
 pub mod files;
+pub mod gates;
 pub mod links;
 pub mod odd;
 pub mod orders;

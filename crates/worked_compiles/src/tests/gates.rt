@@ -8,6 +8,7 @@ use std::sync::atomic::{AtomicU64, Ordering};
 use std::test;
 use std::thread::Threads;
 use worked_rows::files::BUTTERFLY;
+use worked_rows::gates::Meeting;
 use worked_rows::runs::words_of;
 use worked_rows::texts::{BUTTERFLY_TEXT, ONE_LINK_TEXT, THREE_CORES_TEXT, TWO_LINKS_TEXT};
 
@@ -21,30 +22,6 @@ impl Gate for Entries {
     fn enter(&self, job: u32) {
         let one = 10u64.saturating_pow(job);
         self.counted.fetch_add(one, Ordering::SeqCst);
-    }
-}
-
-// A gate at which each job turns until another one has entered. It counts the entries as `Entries` does, and the jobs
-// that no other one met.
-#[derive(Drop)]
-struct Meeting {
-    counted: AtomicU64,
-    alone: AtomicU64,
-}
-
-// How often a job turns at most.
-const MOST_TURNS: u32 = 1_000_000_000;
-
-impl Gate for Meeting {
-    fn enter(&self, job: u32) {
-        let one = 10u64.saturating_pow(job);
-        self.counted.fetch_add(one, Ordering::SeqCst);
-        for _turn in 0..MOST_TURNS {
-            if self.counted.load(Ordering::SeqCst) != one {
-                return;
-            }
-        }
-        self.alone.fetch_add(1, Ordering::SeqCst);
     }
 }
 
@@ -88,7 +65,7 @@ const CHECK: &[&str] = &["check", "in"];
 const SEND: &[&str] = &["send", "in", "none", "1", "in", "out"];
 
 // Commands, their files, and what enters: a job for each run of certificates, of which there are as many as demands and
-// at most four, and one for a check.
+// at most four, one for a check, and for each window that is sent a job for each run of sinks.
 const ENTERED: &[(&[&str], &[u8], u64)] = &[
     (CUTS, ONE_LINK_TEXT, 1),
     (CUTS, BUTTERFLY_TEXT, 11),
@@ -99,7 +76,7 @@ const ENTERED: &[(&[&str], &[u8], u64)] = &[
     (COMPILE, TWO_LINKS_TEXT, 111),
     (COMPILE, THREE_CORES_TEXT, 1111),
     (CHECK, BUTTERFLY, 1),
-    (SEND, BUTTERFLY, 1),
+    (SEND, BUTTERFLY, 12),
     (&["order", "in"], BUTTERFLY_TEXT, 0),
 ];
 
@@ -136,13 +113,9 @@ fn wide(alloc: Global) -> Result<Vec<u8>, AllocError> {
 fn certificates_are_made_side_by_side(rt: HostRuntime) -> Result<(), test::Fail> {
     let text = wide(rt.alloc())?;
     for words in [CUTS, COMPILE] {
-        let gate = Meeting {
-            counted: AtomicU64::new(0),
-            alone: AtomicU64::new(0),
-        };
+        let gate = Meeting::new();
         assert!(rt; ended(&rt, rt.alloc(), words, &text, &gate) == Some(Status::Done));
-        assert!(rt; gate.counted.load(Ordering::SeqCst) == 1111);
-        assert!(rt; gate.alone.load(Ordering::SeqCst) == 0);
+        assert!(rt; gate.met() == Some(1111));
     }
     Ok(())
 }
