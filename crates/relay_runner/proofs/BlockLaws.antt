@@ -1,5 +1,5 @@
 -- The sink at a place of a runner that has carried a window: it stands at the node of that place, and has all that it decodes.
-use Rattle.std.specs.Prelude.{◌≡◌, ◌≢◌, ◌<◌, ◌==◌, ◌+◌, ◌-◌, ℕ, Bool, true, List, [], None, Option, Some, cond, length, nat_eq, nat_lt, position, slice_get, slice_index_or}
+use Rattle.std.specs.Prelude.{◌≡◌, ◌≢◌, ◌<◌, ◌≤◌, ◌==◌, ◌+◌, ◌-◌, ◌*◌, ℕ, Bool, true, List, [], None, Option, Some, cond, length, nat_eq, nat_lt, position, slice_get, slice_index_or}
 use Rattle.std.specs.List.{AllPairs, position_or_len}
 use Rattle.std.proofs.Common.{◌∙◌, ap, arith, get_or, subst, sym}
 use Rattle.std.proofs.lemmas.Bool.{and_parts, eq-eqb, lt-ltb, ltb-true, ne_eqb}
@@ -101,7 +101,7 @@ module _ (runner : Running) (carried : HasCarried runner) where
   receiver-at place within =
       let node = get_or runner.code.net.sinks place 0 in
       let at : slice_get runner.code.net.sinks place ≡ Some node = slice_get-get_or runner.code.net.sinks place 0 within in
-      let sink = get_or runner.sinks node None in
+      let sink : Option Receiver = get_or runner.sinks node None in
       let found : slice_get runner.sinks node ≡ Some sink =
       slice_get-get_or runner.sinks node None (omega (arith, node-within runner.code place node at, carried.running.shown.receivers.count)) in
       let stand =

@@ -4,7 +4,7 @@ use Rattle.std.proofs.Common.{◌∙◌, ap, refl, subst, sym}
 use Rattle.std.proofs.Math.Bool.{or-false}
 use Rattle.coded_traffic.specs.Traffic.{IsKey, Key, Window, block_at, is_same_key, key_of}
 use Rattle.generation_frame.specs.declared.frame.Packet.{Packet}
-use Rattle.lif_outside.specs.Moves.{flights_given}
+use Rattle.lif_outside.specs.Moves.{Move, flights_given}
 use Rattle.lif_outside.specs.declared.links.Flight.{Flight}
 use Rattle.lif_outside.specs.declared.links.Links.{Ghosts as LinksGhosts}
 use Rattle.node_program.specs.Decoding.{IsAccepted}
@@ -18,8 +18,9 @@ use Rattle.relay_core.specs.Runs.{AreRelayed, Reaches}
 use Rattle.relay_node.specs.Relay.{Relay}
 use Rattle.relay_runner.proofs.CameLaws.{relayed-told}
 use Rattle.relay_runner.proofs.FaithfulLaws.{decodes-of, held-of, held-sent, quiet}
-use Rattle.relay_runner.specs.Carried.{CarriesWindow}
+use Rattle.relay_runner.specs.Carried.{CarriesWindow, HasCarriedBy}
 use Rattle.relay_runner.specs.Carrying.{Carries}
+use Rattle.relay_runner.specs.Decoding.{with_decoded}
 use Rattle.relay_runner.specs.Runner.{IsSameWork}
 use Rattle.relay_runner.specs.Running.{IsRunning, Running}
 use Rattle.run_states.proofs.GivenLaws.{packets_in-given, payload-flights, run-fit}
@@ -139,3 +140,16 @@ has-sent g start now work window same_first same_count accepted before after car
     sends g now window (work.first ∙ same_first) (work.count ∙ same_count) (subst IsAccepted (sym work.code) accepted) before after
     (subst (λ (code : Code). Carries g code now.pattern window before after now.relays now.sinks) (sym work.code)
     (subst (λ (pattern : ℕ). Carries g start.code pattern window before after now.relays now.sinks) (sym work.pattern) carries))
+
+-- a runner that has carried a window has carried it once it has decoded it
+pub by-decoded : (runner : Running) (decoded : List (List ℕ)) (moves : List Move) → HasCarriedBy runner moves → HasCarriedBy (with_decoded runner decoded) moves
+by-decoded runner decoded moves by = record {
+  window = by.window;
+  run = by.run;
+  state = by.state;
+  same_first = by.same_first;
+  same_count = by.same_count;
+  running = by.running;
+  held = by.held;
+  gives = by.gives;
+}

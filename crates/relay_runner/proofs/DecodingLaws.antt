@@ -1,11 +1,12 @@
 -- The blocks of a window, one after another, as the sinks of a code decode them.
-use Rattle.std.specs.Prelude.{◌≡◌, ◌<◌, ◌≤◌, ◌+◌, ◌-◌, ◌*◌, ◌/◌, ◌%◌, ℕ, List, None, Option, Some, drop, length, min, slice_get, take}
-use Rattle.std.proofs.Common.{◌∙◌, ap, arith, get_or, refl, sym}
+use Rattle.std.specs.Prelude.{◌≡◌, ◌<◌, ◌≤◌, ◌+◌, ◌-◌, ◌*◌, ℕ, List, None, Option, Some, drop, length, slice_get, take}
+use Rattle.std.specs.Option.{option_map}
+use Rattle.std.proofs.Common.{◌∙◌, ap, arith, get_or, inl, inr, refl, subst, sym}
 use Rattle.std.proofs.Math.Nat.{add-mul, mul-le-mul_right}
-use Rattle.std.proofs.lemmas.List.{length-drop, length-map, length-take-le}
+use Rattle.std.proofs.lemmas.Bool.{cases_lt}
+use Rattle.std.proofs.lemmas.List.{length-map}
 use Rattle.std.proofs.lemmas.Option.{none-some, same_Some, slice_get-map, slice_get_read, slice_get_within}
 use Rattle.std.proofs.lemmas.Slice.{between-put_mid, between_is, take-put_mid_below}
-use Rattle.std.specs.Option.{option_map}
 use Rattle.node_program.specs.declared.code.Code.{Code}
 use Rattle.node_stations.specs.declared.station.Station.{Station}
 use Rattle.relay_runner.specs.Decoding.{CanDecode, StandsAt, block_in}
@@ -20,33 +21,39 @@ block-end place count size low =
     let few : (place + 1) * size ≤ count * size = mul-le-mul_right size (omega (arith, low)) in
     omega (arith, next, few)
 
--- a block has its size
-pub length-block_in : (size : ℕ) (blocks : List ℕ) (place : ℕ) → place * size + size ≤ length blocks → length (block_in size blocks place) ≡ size
-length-block_in size blocks place within =
-    length-take-le size (drop (place * size) blocks) (omega (arith, within, length-drop (place * size) blocks))
-
 -- one that is written stands at its place
 module _ (size : ℕ) (blocks block : List ℕ) (place : ℕ) (within : place * size + size ≤ length blocks) (long : length block ≡ size) where
   abbrev written : ℕ → List ℕ
   written k = put_mid (place * size) k blocks block
 
-  pub block-written : (k : ℕ) → block_in size (written k) place ≡ block
+  block-written : (k : ℕ) → block_in size (written k) place ≡ block
   block-written k =
       let width : (place * size + size) - place * size ≡ size = omega arith in
       ap (λ n. take n (drop (place * size) (written k))) (sym width)
       ∙ between-put_mid (place * size) k blocks block (place * size + size) (omega (arith, within)) (long ∙ sym width)
 
-  -- and those before it stay
-  pub block-before : (k before : ℕ) → before < place → block_in size (written k) before ≡ block_in size blocks before
+  -- those before it stay
+  block-before : (k before : ℕ) → before < place → block_in size (written k) before ≡ block_in size blocks before
   block-before k before earlier =
       let end = before * size + size in
       let width : end - before * size ≡ size = omega arith in
       let below : end ≤ place * size = block-end before place size earlier in
       ap (λ n. take n (drop (before * size) (written k))) (sym width)
       ∙ between_is (written k) (before * size) end
-      ∙ ap (drop (before * size)) (take-put_mid_below (place * size) k blocks block end below (omega (arith, within)))
+      ∙ ap (λ (bytes : List ℕ). drop (before * size) bytes) (take-put_mid_below (place * size) k blocks block end below (omega (arith, within)))
       ∙ sym (between_is blocks (before * size) end)
       ∙ ap (λ n. take n (drop (before * size) blocks)) width
+
+  -- so where each is what it is to be, they are it up to that place
+  pub blocks-more : (k : ℕ) (due : ℕ → List ℕ) → block ≡ due place
+      → ((before : ℕ) → before < place → block_in size blocks before ≡ due before)
+      → (before : ℕ) → before < place + 1 → block_in size (written k) before ≡ due before
+  blocks-more k due here there before low = elim (cases_lt before place) [
+    | inl earlier ↦ block-before k before earlier ∙ there before earlier
+    | inr from ↦
+        let same : place ≡ before = omega (arith, low, from) in
+        subst (λ n. block_in size (written k) n ≡ due n) same (block-written k ∙ here)
+  ]
 
 -- the sink of a station, among those of all
 sink-at : {F : Type 0} (stations : List (Station F)) (node : ℕ) (station : Station F) → node < length stations → station ≡ get_or stations node station
@@ -85,7 +92,3 @@ module _ {F : Type 0} (code : Code) (stations : List (Station F)) (first count s
 
     pub stands-there : (receiver : Receiver) → station.sink ≡ Some receiver → StandsAt code (sinks_of stations) sink receiver
     stands-there receiver some = record { node = node; at = at; found = sink-at stations node station node-station is ∙ ap Some some }
-
--- a run of some elements has some, and its number is low
-pub some-run : (n : ℕ) → 0 < n → 0 < n / 4 + min 1 (n % 4)
-some-run n some = search (arith, some)
