@@ -1,5 +1,5 @@
 -- A window that was carried, told by the calls on the links alone.
-use Rattle.std.specs.Prelude.{◌≡◌, ◌<◌, ◌≤◌, ◌+◌, ◌-◌, ◌||◌, ◌∷◌, ◌↔◌, ℕ, Bool, true, false, List, [], Option, length, map}
+use Rattle.std.specs.Prelude.{◌≡◌, ◌<◌, ◌≤◌, ◌+◌, ◌||◌, ◌∷◌, ◌↔◌, ℕ, Bool, true, false, List, [], Option, length, map}
 use Rattle.std.proofs.Common.{◌∙◌, ap, refl, subst, sym}
 use Rattle.std.proofs.Math.Bool.{or-false}
 use Rattle.coded_traffic.specs.Traffic.{IsKey, Key, Window, block_at, is_same_key, key_of}
