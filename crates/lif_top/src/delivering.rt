@@ -40,7 +40,7 @@ fn cut_blocks(bytes: &[u8], rate: u32, count: usize, blocks: &mut [u8])
     }
 }
 
-impl<'c, F: Field + Send + Sync> Delivery<'c, F> {
+impl<'c, F: Field> Delivery<'c, F> {
     /// Creates each sink's file, in order.
     pub fn create_outputs<S: Store>(&self, store: &mut S) -> Result<(), Failed>
         ensures created { OnOk result (MakesCalls S.Store store.old store.new
@@ -142,6 +142,40 @@ impl<'c, F: Field + Send + Sync> Delivery<'c, F> {
         Ok(())
     }
 
+    // Gathers as many bytes as a window still has room for, from a place on, and answers the place behind them.
+    fn fill(&mut self, bytes: &[u8], from: usize) -> usize
+        requires from { from < length bytes.now }
+        requires room { vec_len self.old.gathered < 4 * capacity self.old.runner.code.rate }
+        ensures runner { self.new.runner ≡ self.old.runner }
+        ensures outputs { self.new.outputs ≡ self.old.outputs }
+        ensures more { from < result }
+        ensures within { result ≤ length bytes.now }
+        ensures gathered { self.new.gathered.items
+            ≡ self.old.gathered.items ++ slice_range bytes.now from result }
+    {
+        let room = WINDOW * cap(self.rate) as usize - self.gathered.len();
+        let end = bytes.len().min(from + room);
+        let Ok(()) = self.gathered.extend_from_slice(&bytes[from..end]) else {
+            unreachable!()
+        };
+        end
+    }
+
+    /// How much was sent of a source of so many bytes.
+    pub fn counts(&self, bytes: u64) -> SentCounts
+        requires { bytes ≤ 2 ^ 41 }
+        ensures { (source : List ℕ) → length source ≡ bytes
+            → AreCounts self.now.runner.code source result }
+    {
+        SentCounts {
+            bytes,
+            generations: bytes / u64::from(cap(self.rate)) + 1,
+            sinks: self.outputs.len() as u64,
+        }
+    }
+}
+
+impl<'c, F: Field + Send + Sync> Delivery<'c, F> {
     // Carries what was gathered over the links, as so many blocks, and adds what comes of them to each sink's file.
     fn carry_gathered<S: Store, K: Links, G: Gate + Sync, R: Threads + Sync>(
         &mut self,
@@ -184,25 +218,6 @@ impl<'c, F: Field + Send + Sync> Delivery<'c, F> {
             Ok(()) => Ok(()),
             Err(_) => Err(DeliveryFault::Write),
         }
-    }
-
-    // Gathers as many bytes as a window still has room for, from a place on, and answers the place behind them.
-    fn fill(&mut self, bytes: &[u8], from: usize) -> usize
-        requires from { from < length bytes.now }
-        requires room { vec_len self.old.gathered < 4 * capacity self.old.runner.code.rate }
-        ensures runner { self.new.runner ≡ self.old.runner }
-        ensures outputs { self.new.outputs ≡ self.old.outputs }
-        ensures more { from < result }
-        ensures within { result ≤ length bytes.now }
-        ensures gathered { self.new.gathered.items
-            ≡ self.old.gathered.items ++ slice_range bytes.now from result }
-    {
-        let room = WINDOW * cap(self.rate) as usize - self.gathered.len();
-        let end = bytes.len().min(from + room);
-        let Ok(()) = self.gathered.extend_from_slice(&bytes[from..end]) else {
-            unreachable!()
-        };
-        end
     }
 
     // Carries what was gathered, where that fills a window.
@@ -323,19 +338,6 @@ impl<'c, F: Field + Send + Sync> Delivery<'c, F> {
     {
         let count = self.gathered.len() / cap(self.rate) as usize + 1;
         self.carry_gathered(rt, store, links, count, gate)
-    }
-
-    /// How much was sent of a source of so many bytes.
-    pub fn counts(&self, bytes: u64) -> SentCounts
-        requires { bytes ≤ 2 ^ 41 }
-        ensures { (source : List ℕ) → length source ≡ bytes
-            → AreCounts self.now.runner.code source result }
-    {
-        SentCounts {
-            bytes,
-            generations: bytes / u64::from(cap(self.rate)) + 1,
-            sinks: self.outputs.len() as u64,
-        }
     }
 
     /// Carries a source over the links, window by window, to the sinks' files, in each generation sink by sink.
