@@ -1,5 +1,5 @@
 -- A delivery, window by window: some blocks are delivered, and then more, or the delivery ends there.
-use Rattle.std.specs.Prelude.{◌≡◌, ◌<◌, ◌≤◌, ◌+◌, ◌*◌, ◌/◌, ◌^◌, ℕ, zero, suc, Bool, List, [], ◌∷◌, ◌++◌, drop, length, map, take}
+use Rattle.std.specs.Prelude.{◌≡◌, ◌<◌, ◌≤◌, ◌+◌, ◌*◌, ◌/◌, ◌^◌, ℕ, zero, suc, Bool, false, List, [], ◌∷◌, ◌++◌, drop, length, map, take}
 use Rattle.std.specs.List.{AllByRecursion, concat, range_with_len}
 use Rattle.std.proofs.Common.{refl, sym, ap, ◌∙◌, subst, arith}
 use Rattle.std.proofs.Math.Nat.{add-mul, mul-div_left, mul-le-mul_left}
@@ -11,17 +11,18 @@ use Rattle.generation_frame.specs.Blocks.{block_count, capacity, piece_of, row_b
 use Rattle.lif_outside.proofs.SequenceLaws.{stops_behind}
 use Rattle.lif_outside.specs.Calls.{Calls}
 use Rattle.lif_outside.specs.Events.{Event}
-use Rattle.lif_outside.specs.Moves.{Move}
+use Rattle.lif_outside.specs.Moves.{FollowMoves, InFlight, Move, opened}
 use Rattle.lif_outside.specs.Runs.{StopsWithin, appends_of}
 use Rattle.lif_outside.specs.Sequences.{Are}
 use Rattle.node_program.specs.declared.code.Code.{Code}
 use Rattle.relay_runner.specs.Carried.{packets_given}
-use Rattle.relay_runner.specs.Running.{AreBlocks, count_in, window_from}
+use Rattle.relay_runner.specs.Running.{AreBlocks, Running, count_in, window_from}
 use Rattle.station_table.specs.Fed.{window_of}
 use Rattle.lif_top.proofs.CarriedLaws.{blocks_from-append, carried-then, decoded-next, decoded-still, length-blocks_from}
 use Rattle.lif_top.proofs.TurnLaws.{turns-alike, turns-append}
 use Rattle.lif_top.specs.Send.Carried.{blocks_from}
-use Rattle.lif_top.specs.Send.Delivering.{BreaksBlocks, DeliversBlocks, DeliversSome, Interrupts, InterruptsBlocks, InterruptsBytes, calls_join}
+use Rattle.lif_top.specs.Send.Delivering.{BreaksBlocks, CanCarry, DeliversBlocks, DeliversSome, Interrupts, InterruptsBlocks, InterruptsBytes, calls_join}
+use Rattle.lif_top.specs.Send.Runs.{room_for}
 use Rattle.lif_top.specs.Send.Turns.{turns_before, turns_from}
 use Rattle.lif_top.specs.declared.delivery.DeliveryFault.{DeliveryFault}
 use Rattle.lif_top.specs.declared.delivery.DeliveryFault.TheVariants as fault
@@ -157,6 +158,21 @@ module _ (faithful : Bool) (code : Code) (pattern : ℕ) (paths : List (List ℕ
               ∙ ap (λ n. appends_of (turns_before paths code pattern (packets_given (is.front.on_links ++ is.later.on_links)) n)) count
               ∙ ap (λ moves. appends_of (turns_before paths code pattern (packets_given moves) is.before)) (sym moves_are);
         }
+
+-- links that were just opened for a code carry blocks of it
+pub opened-can : (seed : ℕ) (code : Code) (runner : Running) → runner.code ≡ code → runner.pattern < length code.net.patterns → runner.has_failed ≡ false
+    → (as_put : Bool) (old new : InFlight) → FollowMoves as_put (opened seed (room_for code) ∷ []) old new → CanCarry runner new.flying new.room
+opened-can seed code runner at_work known works as_put old new moved =
+    let is = moved.1 in
+    let after : new ≡ moved.0 = moved.2 in
+    let links : length runner.code.net.links ≡ length code.net.links = ap (λ (code : Code). length code.net.links) at_work in
+    let room : new.room ≡ moved.0.room = ap (λ (held : InFlight). held.room) after in
+    record {
+      known = omega (arith, known, ap (λ (code : Code). length code.net.patterns) at_work);
+      works = works;
+      quiet = ap (λ (held : InFlight). held.flying) after ∙ is.nothing_flies;
+      has_room = omega (arith, is.has_room, links, room);
+    }
 
 -- numbers of generations that carry so many bytes are of 32 bits, with room for a window
 pub numbered : (code : Code) (generations : ℕ) → generations * capacity code.rate ≤ 2 ^ 41 → generations + 4 ≤ 2 ^ 32

@@ -16,6 +16,7 @@ use Rattle.top_base.specs.declared.status.Status.{Status}
 use Rattle.top_base.specs.declared.status.Status.TheVariants.{OutOfMemory}
 use Rattle.top_base.specs.Words.{Demo}
 use Rattle.lif_top.proofs.CarriedLaws.{carried-some, length-blocks_from, over-are}
+use Rattle.lif_top.proofs.DeliveryLaws.{opened-can}
 use Rattle.lif_top.proofs.FrameLaws.{length-put, length-traffic}
 use Rattle.lif_top.proofs.TallyLaws.{sum-turns, tallies-unstopped}
 use Rattle.lif_top.proofs.TurnLaws.{turns-are}
@@ -38,17 +39,8 @@ none-there demo code made =
 -- links that were just opened carry a block of it
 pub can-carry : (demo : Demo) (code : Code) → IsDemoCode demo code → (runner : Running) → runner.code ≡ code → runner.pattern ≡ 0 → runner.has_failed ≡ false
     → (as_put : Bool) (old new : InFlight) → FollowMoves as_put (opened demo_seed (room_for code) ∷ []) old new → CanCarry runner new.flying new.room
-can-carry demo code made runner at_work none works as_put old new moved =
-    let is = moved.1 in
-    let after : new ≡ moved.0 = moved.2 in
-    let links : length runner.code.net.links ≡ length code.net.links = ap (λ (code : Code). length code.net.links) at_work in
-    let room : new.room ≡ moved.0.room = ap (λ (held : InFlight). held.room) after in
-    record {
-      known = omega (arith, none, ap (λ (code : Code). length code.net.patterns) at_work, none-there demo code made);
-      works = works;
-      quiet = ap (λ (held : InFlight). held.flying) after ∙ is.nothing_flies;
-      has_room = omega (arith, is.has_room, links, room);
-    }
+can-carry demo code made runner at_work none works =
+    opened-can demo_seed code runner at_work (omega (arith, none, none-there demo code made)) works
 
 -- the links weren't called, or refused to be opened
 pub not-begun : (faithful : Bool) (demo : Demo) (code : Code) → IsDemoCode demo code → (status : Status) (line : List ℕ) → status ≡ OutOfMemory → line ≡ out_of_memory_line

@@ -1,6 +1,9 @@
 -- What `send` is given, by what its functions are given.
-use Rattle.std.proofs.Common.{◌≡◌, ℕ, List, Option, Some, sym, ap, subst, ◌∙◌}
-use Rattle.std.specs.Prelude.{position, unwrap_or}
+use Rattle.std.proofs.Common.{◌≡◌, ℕ, Bool, true, false, List, None, Option, Some, cond, length, nat_lt, refl, sym, ap, subst, ◌∙◌}
+use Rattle.std.proofs.lemmas.Bool.{ltb-true}
+use Rattle.std.proofs.lemmas.Option.{none-some, same_Some}
+use Rattle.std.specs.List.{position_or_len}
+use Rattle.std.specs.Prelude.{◌<◌, position, unwrap_or}
 use Rattle.std.specs.Str.{bytes_eq}
 use Rattle.node_program.specs.declared.code.Code.{Code}
 use Rattle.top_base.specs.Given.{given_in}
@@ -29,3 +32,15 @@ subst-three D {a' = a'} {b = b} {b' = b'} {c = c} one two three holds =
 -- the pattern of a code at work, where it is the one that is named
 pub pattern-at_work : (send : Send) (code : Code) (pattern : ℕ) → pattern_of send code ≡ Some pattern → pattern ≡ pattern_in send code
 pattern-at_work send code pattern named = sym (ap (λ (found : Option ℕ). unwrap_or found 0) named)
+
+-- and it is one of the code's
+pub pattern-within : (send : Send) (code : Code) (pattern : ℕ) → pattern_of send code ≡ Some pattern → pattern < length code.net.patterns
+pattern-within send code pattern named = by_test _ refl named
+  where
+    first : ℕ
+    first = position_or_len (λ pattern. bytes_eq pattern.name send.pattern) code.net.patterns
+
+    by_test : (within : Bool) → nat_lt first (length code.net.patterns) ≡ within → cond within (Some first) None ≡ Some pattern
+        → pattern < length code.net.patterns
+    by_test true within same = subst (λ n. n < length code.net.patterns) (same_Some first pattern same) (ltb-true _ _ within)
+    by_test false beyond none = absurd (none-some pattern none)

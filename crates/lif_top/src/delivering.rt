@@ -11,12 +11,13 @@ ghost use Rattle.lif_top.specs.Send.Delivering.{CanCarry, DeliversBlocks, Delive
 ghost use Rattle.lif_top.specs.Send.Ready.{AreCounts, paths_of};
 ghost use Rattle.lif_top.specs.Send.Turns.{parts_from, turn_at, turns_from};
 ghost use Rattle.relay_runner.specs.Carried.{HasCarriedBy, packets_given};
-ghost use Rattle.relay_runner.specs.Running.{HasCarried};
+ghost use Rattle.relay_runner.specs.Decoding.{HasDecoded};
 
 use crate::delivery::{Delivery, DeliveryFault, SentCounts, WINDOW};
 use generation_frame::{ROW, cap, counted, cut};
 use gf_tables::Field;
-use lif_outside::{Failed, Links, Store};
+use lif_outside::{Failed, Gate, Links, Store};
+use std::thread::Threads;
 
 // Cuts bytes into so many blocks of a rate, which stand one after another from the beginning of the room on.
 fn cut_blocks(bytes: &[u8], rate: u32, count: usize, blocks: &mut [u8])
@@ -64,7 +65,7 @@ impl<'c, F: Field> Delivery<'c, F> {
         requires sink { sink < vec_len self.old.outputs }
         requires place { place < self.old.runner.count }
         requires few { self.old.runner.count ≤ 4 }
-        requires carried { HasCarried self.old.runner }
+        requires decoded { HasDecoded self.old.runner }
         requires made { (path : List ℕ) → Contains (paths_of self.old) path
             → S.made store.old path }
         ensures runner { self.new.runner ≡ self.old.runner }
@@ -93,7 +94,7 @@ impl<'c, F: Field> Delivery<'c, F> {
     fn append_block<S: Store>(&mut self, store: &mut S, place: usize) -> Result<(), Failed>
         requires place { place < self.old.runner.count }
         requires few { self.old.runner.count ≤ 4 }
-        requires carried { HasCarried self.old.runner }
+        requires decoded { HasDecoded self.old.runner }
         requires made { (path : List ℕ) → Contains (paths_of self.old) path
             → S.made store.old path }
         ensures runner { self.new.runner ≡ self.old.runner }
@@ -120,7 +121,7 @@ impl<'c, F: Field> Delivery<'c, F> {
     fn append_window<S: Store>(&mut self, store: &mut S, count: usize) -> Result<(), Failed>
         requires all { count ≡ self.old.runner.count }
         requires few { count ≤ 4 }
-        requires carried { HasCarried self.old.runner }
+        requires decoded { HasDecoded self.old.runner }
         requires made { (path : List ℕ) → Contains (paths_of self.old) path
             → S.made store.old path }
         ensures runner { self.new.runner ≡ self.old.runner }
@@ -141,12 +142,48 @@ impl<'c, F: Field> Delivery<'c, F> {
         Ok(())
     }
 
+    // Gathers as many bytes as a window still has room for, from a place on, and answers the place behind them.
+    fn fill(&mut self, bytes: &[u8], from: usize) -> usize
+        requires from { from < length bytes.now }
+        requires room { vec_len self.old.gathered < 4 * capacity self.old.runner.code.rate }
+        ensures runner { self.new.runner ≡ self.old.runner }
+        ensures outputs { self.new.outputs ≡ self.old.outputs }
+        ensures more { from < result }
+        ensures within { result ≤ length bytes.now }
+        ensures gathered { self.new.gathered.items
+            ≡ self.old.gathered.items ++ slice_range bytes.now from result }
+    {
+        let room = WINDOW * cap(self.rate) as usize - self.gathered.len();
+        let end = bytes.len().min(from + room);
+        let Ok(()) = self.gathered.extend_from_slice(&bytes[from..end]) else {
+            unreachable!()
+        };
+        end
+    }
+
+    /// How much was sent of a source of so many bytes.
+    pub fn counts(&self, bytes: u64) -> SentCounts
+        requires { bytes ≤ 2 ^ 41 }
+        ensures { (source : List ℕ) → length source ≡ bytes
+            → AreCounts self.now.runner.code source result }
+    {
+        SentCounts {
+            bytes,
+            generations: bytes / u64::from(cap(self.rate)) + 1,
+            sinks: self.outputs.len() as u64,
+        }
+    }
+}
+
+impl<'c, F: Field + Send + Sync> Delivery<'c, F> {
     // Carries what was gathered over the links, as so many blocks, and adds what comes of them to each sink's file.
-    fn carry_gathered<S: Store, K: Links>(
+    fn carry_gathered<S: Store, K: Links, G: Gate + Sync, R: Threads + Sync>(
         &mut self,
+        rt: &R,
         store: &mut S,
         links: &mut K,
         count: usize,
+        gate: &G,
     ) -> Result<(), DeliveryFault>
         requires some { 1 ≤ count }
         requires few { count ≤ 4 }
@@ -176,36 +213,20 @@ impl<'c, F: Field> Delivery<'c, F> {
         let Ok(()) = self.runner.carry(window, links) else {
             return Err(DeliveryFault::Links);
         };
+        self.runner.decode_all(rt, gate);
         match self.append_window(store, count) {
             Ok(()) => Ok(()),
             Err(_) => Err(DeliveryFault::Write),
         }
     }
 
-    // Gathers as many bytes as a window still has room for, from a place on, and answers the place behind them.
-    fn fill(&mut self, bytes: &[u8], from: usize) -> usize
-        requires from { from < length bytes.now }
-        requires room { vec_len self.old.gathered < 4 * capacity self.old.runner.code.rate }
-        ensures runner { self.new.runner ≡ self.old.runner }
-        ensures outputs { self.new.outputs ≡ self.old.outputs }
-        ensures more { from < result }
-        ensures within { result ≤ length bytes.now }
-        ensures gathered { self.new.gathered.items
-            ≡ self.old.gathered.items ++ slice_range bytes.now from result }
-    {
-        let room = WINDOW * cap(self.rate) as usize - self.gathered.len();
-        let end = bytes.len().min(from + room);
-        let Ok(()) = self.gathered.extend_from_slice(&bytes[from..end]) else {
-            unreachable!()
-        };
-        end
-    }
-
     // Carries what was gathered, where that fills a window.
-    fn carry_full<S: Store, K: Links>(
+    fn carry_full<S: Store, K: Links, G: Gate + Sync, R: Threads + Sync>(
         &mut self,
+        rt: &R,
         store: &mut S,
         links: &mut K,
+        gate: &G,
     ) -> Result<(), DeliveryFault>
         requires can { CanCarry self.old.runner (K.flying links.old) (K.room links.old) }
         requires numbered { self.old.runner.next + 4 ≤ 2 ^ 32 }
@@ -237,16 +258,18 @@ impl<'c, F: Field> Delivery<'c, F> {
         if self.gathered.len() < WINDOW * cap(self.rate) as usize {
             return Ok(());
         }
-        self.carry_gathered(store, links, WINDOW)
+        self.carry_gathered(rt, store, links, WINDOW, gate)
     }
 
     /// Gathers bytes of the source behind those that were gathered, and carries each window of whole blocks that they
     /// fill.
-    pub fn gather<S: Store, K: Links>(
+    pub fn gather<S: Store, K: Links, G: Gate + Sync, R: Threads + Sync>(
         &mut self,
+        rt: &R,
         store: &mut S,
         links: &mut K,
         bytes: &[u8],
+        gate: &G,
     ) -> Result<(), DeliveryFault>
         requires room { vec_len self.old.gathered < 4 * capacity self.old.runner.code.rate }
         requires short { self.old.runner.next * capacity self.old.runner.code.rate
@@ -279,16 +302,18 @@ impl<'c, F: Field> Delivery<'c, F> {
         let mut place = 0;
         while place < bytes.len() {
             place = self.fill(bytes, place);
-            self.carry_full(store, links)?;
+            self.carry_full(rt, store, links, gate)?;
         }
         Ok(())
     }
 
     /// Carries what was gathered, which is the end of the source, with a block that isn't full.
-    pub fn carry_last<S: Store, K: Links>(
+    pub fn carry_last<S: Store, K: Links, G: Gate + Sync, R: Threads + Sync>(
         &mut self,
+        rt: &R,
         store: &mut S,
         links: &mut K,
+        gate: &G,
     ) -> Result<(), DeliveryFault>
         requires room { vec_len self.old.gathered < 4 * capacity self.old.runner.code.rate }
         requires short { self.old.runner.next * capacity self.old.runner.code.rate
@@ -312,28 +337,17 @@ impl<'c, F: Field> Delivery<'c, F> {
             (block_count self.old.gathered.items self.old.runner.code.rate)) fault)) }
     {
         let count = self.gathered.len() / cap(self.rate) as usize + 1;
-        self.carry_gathered(store, links, count)
-    }
-
-    /// How much was sent of a source of so many bytes.
-    pub fn counts(&self, bytes: u64) -> SentCounts
-        requires { bytes ≤ 2 ^ 41 }
-        ensures { (source : List ℕ) → length source ≡ bytes
-            → AreCounts self.now.runner.code source result }
-    {
-        SentCounts {
-            bytes,
-            generations: bytes / u64::from(cap(self.rate)) + 1,
-            sinks: self.outputs.len() as u64,
-        }
+        self.carry_gathered(rt, store, links, count, gate)
     }
 
     /// Carries a source over the links, window by window, to the sinks' files, in each generation sink by sink.
-    pub fn carry_source<S: Store, K: Links>(
+    pub fn carry_source<S: Store, K: Links, G: Gate + Sync, R: Threads + Sync>(
         &mut self,
+        rt: &R,
         store: &mut S,
         links: &mut K,
         source: &[u8],
+        gate: &G,
     ) -> Result<SentCounts, DeliveryFault>
         requires short { length source.now ≤ 2 ^ 41 }
         requires from_start { self.old.runner.next ≡ 0 }
@@ -351,8 +365,8 @@ impl<'c, F: Field> Delivery<'c, F> {
             (Interrupts (K.faithful links.old) self.old.runner.code self.old.runner.pattern
             (paths_of self.old) source.now fault)) }
     {
-        self.gather(store, links, source)?;
-        self.carry_last(store, links)?;
+        self.gather(rt, store, links, source, gate)?;
+        self.carry_last(rt, store, links, gate)?;
         Ok(self.counts(source.len() as u64))
     }
 }

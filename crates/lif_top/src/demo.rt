@@ -102,11 +102,13 @@ fn begin<'c, F: Field, K: Links>(
 }
 
 // Carries the source over links that were opened, and says what came.
-fn run<'a, F: Field, K: Links>(
+fn run<'a, F: Field + Send + Sync, K: Links, G: Gate + Sync, R: Threads + Sync>(
+    rt: &R,
     words: &DemoWords,
     code: &Checked,
     begun: Begun<'_, F>,
     links: &mut K,
+    gate: &G,
 ) -> Outcome<'a>
     requires made { IsDemoCode (demo_given_in words.now) code.now }
     requires begun { IsBegun (demo_given_in words.now) code.now begun }
@@ -121,7 +123,7 @@ fn run<'a, F: Field, K: Links>(
         frames,
     } = begun;
     let mut tally = Tally { sum: 0 };
-    match delivery.carry_source(&mut tally, links, &source) {
+    match delivery.carry_source(rt, &mut tally, links, &source, gate) {
         Ok(counts) => Outcome {
             status: Status::Done,
             line: Line::demo(
@@ -138,11 +140,13 @@ fn run<'a, F: Field, K: Links>(
 }
 
 // Shows a code, of which `F` is the field.
-fn show<'a, F: Field, K: Links>(
+fn show<'a, F: Field + Send + Sync, K: Links, G: Gate + Sync, R: Threads + Sync>(
+    rt: &R,
     alloc: Global,
     words: &DemoWords,
     code: &Checked,
     links: &mut K,
+    gate: &G,
 ) -> Outcome<'a>
     requires field { IsOfKind code.now.field F.SIZE F.BYTES F.MARK F.product }
     requires made { IsDemoCode (demo_given_in words.now) code.now }
@@ -151,7 +155,7 @@ fn show<'a, F: Field, K: Links>(
         (demo_given_in words.now) result.status result.line (link_calls moves)) }
 {
     match begin::<F, K>(alloc, words, code, links) {
-        Ok(begun) => run(words, code, begun, links),
+        Ok(begun) => run(rt, words, code, begun, links, gate),
         Err(_) => Outcome::out_of_memory(),
     }
 }
@@ -172,7 +176,7 @@ pub fn demo<'a, K: Links, G: Gate + Sync, R: Threads + Sync>(
         return Outcome::out_of_memory();
     };
     match code.code().field {
-        FieldKind::Eight => show::<Gf8, K>(alloc, words, &code, links),
-        FieldKind::Sixteen => show::<Gf16, K>(alloc, words, &code, links),
+        FieldKind::Eight => show::<Gf8, K, G, R>(rt, alloc, words, &code, links, gate),
+        FieldKind::Sixteen => show::<Gf16, K, G, R>(rt, alloc, words, &code, links, gate),
     }
 }

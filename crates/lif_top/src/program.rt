@@ -55,7 +55,7 @@ fn carry_out<'a, S: Store, L: Links, G: Gate + Sync, R: Threads + Sync>(
 /// - `demo N K BYTES` compiles the network with a sink behind each K of N nodes, carries BYTES bytes over the links, opened
 ///   with 1, to its sinks, and says how many frames that took and the sum of the bytes that came.
 ///
-/// The jobs of certificates, of a compilation and of a check enter the gate.
+/// The jobs of certificates, of a compilation, of a check and of the sinks that decode enter the gate.
 pub fn lif<S: Store, C: Sink, L: Links, G: Gate + Sync, R: Threads + Sync>(
     rt: &R,
     alloc: Global,

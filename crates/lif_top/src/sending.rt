@@ -33,12 +33,21 @@ fn interrupted<'a>(fault: StreamFault) -> Outcome<'a>
 }
 
 // Creates the sinks' files, over links that were opened, and streams the source to them.
-fn deliver<'a, F: Field, S: Store, K: Links>(
+fn deliver<
+    'a,
+    F: Field + Send + Sync,
+    S: Store,
+    K: Links,
+    G: Gate + Sync,
+    R: Threads + Sync,
+>(
+    rt: &R,
     words: &SendWords<'a>,
     code: &Checked,
     mut delivery: Delivery<'_, F>,
     store: &mut S,
     links: &mut K,
+    gate: &G,
 ) -> Outcome<'a>
     requires ready { IsReady (given_in words.now) code.now delivery }
     requires can { CanCarry delivery.runner (K.flying links.old) (K.room links.old) }
@@ -49,7 +58,7 @@ fn deliver<'a, F: Field, S: Store, K: Links>(
     let Ok(()) = delivery.create_outputs(store) else {
         return Outcome::write_fault();
     };
-    match delivery.stream(store, links, words.source, SOURCE_LIMIT as u64) {
+    match delivery.stream(rt, store, links, words.source, SOURCE_LIMIT as u64, gate) {
         Ok(counts) => Outcome {
             status: Status::Done,
             line: Line::sent(counts.bytes, counts.generations, counts.sinks),
@@ -59,12 +68,21 @@ fn deliver<'a, F: Field, S: Store, K: Links>(
 }
 
 // Sends the source through an accepted code, of which `F` is the field.
-fn send_over<'a, F: Field, S: Store, K: Links>(
+fn send_over<
+    'a,
+    F: Field + Send + Sync,
+    S: Store,
+    K: Links,
+    G: Gate + Sync,
+    R: Threads + Sync,
+>(
+    rt: &R,
     alloc: Global,
     words: &SendWords<'a>,
     code: &Checked,
     store: &mut S,
     links: &mut K,
+    gate: &G,
 ) -> Outcome<'a>
     requires field { IsOfKind code.now.field F.SIZE F.BYTES F.MARK F.product }
     requires nothing_flies { K.flying links.old ≡ [] }
@@ -72,26 +90,32 @@ fn send_over<'a, F: Field, S: Store, K: Links>(
         (Sends (K.faithful links.old) (given_in words.now) code.now result) }
 {
     match prepare::<F, K>(alloc, words, code, links) {
-        Ok(delivery) => deliver(words, code, delivery, store, links),
+        Ok(delivery) => deliver(rt, words, code, delivery, store, links, gate),
         Err(refused) => refused,
     }
 }
 
 // Sends the source through an accepted code.
-fn send_through<'a, S: Store, K: Links>(
+fn send_through<'a, S: Store, K: Links, G: Gate + Sync, R: Threads + Sync>(
+    rt: &R,
     alloc: Global,
     words: &SendWords<'a>,
     code: &Checked,
     store: &mut S,
     links: &mut K,
+    gate: &G,
 ) -> Outcome<'a>
     requires { K.flying links.old ≡ [] }
     ensures { MakesBoth S.Store K.Links store.old store.new links.old links.new
         (Sends (K.faithful links.old) (given_in words.now) code.now result) }
 {
     match code.code().field {
-        FieldKind::Eight => send_over::<Gf8, S, K>(alloc, words, code, store, links),
-        FieldKind::Sixteen => send_over::<Gf16, S, K>(alloc, words, code, store, links),
+        FieldKind::Eight => {
+            send_over::<Gf8, S, K, G, R>(rt, alloc, words, code, store, links, gate)
+        }
+        FieldKind::Sixteen => {
+            send_over::<Gf16, S, K, G, R>(rt, alloc, words, code, store, links, gate)
+        }
     }
 }
 
@@ -109,7 +133,7 @@ pub fn send<'a, S: Store, K: Links, G: Gate + Sync, R: Threads + Sync>(
         store.old store.new links.old links.new result }
 {
     match read_accepted(rt, alloc, store, words.code, gate) {
-        Ok(checked) => send_through(alloc, words, &checked, store, links),
+        Ok(checked) => send_through(rt, alloc, words, &checked, store, links, gate),
         Err(refused) => refused,
     }
 }

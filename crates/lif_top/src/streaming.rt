@@ -7,7 +7,8 @@ ghost use Rattle.lif_top.specs.declared.streaming.StreamFault.TheVariants.{Sinks
 
 use crate::delivery::{Delivery, DeliveryFault, SentCounts};
 use gf_tables::Field;
-use lif_outside::{Links, Store};
+use lif_outside::{Gate, Links, Store};
+use std::thread::Threads;
 use top_base::read_next;
 
 /// How many bytes are asked for at a time.
@@ -32,18 +33,20 @@ impl From<DeliveryFault> for StreamFault {
     }
 }
 
-impl<'c, F: Field> Delivery<'c, F> {
+impl<'c, F: Field + Send + Sync> Delivery<'c, F> {
     ghost use Rattle.lif_top.specs.Send.Streaming.{StopsStreaming, StreamsAll};
 
     /// Reads the file of a path from its start, and carries its blocks window by window as they come; what comes of them is
     /// added to the sinks' files, generation by generation, in each of them sink by sink. Of the source no more is held
     /// than a window and what is read at a time. It takes no memory.
-    pub fn stream<S: Store, K: Links>(
+    pub fn stream<S: Store, K: Links, G: Gate + Sync, R: Threads + Sync>(
         &mut self,
+        rt: &R,
         store: &mut S,
         links: &mut K,
         path: &str,
         limit: u64,
+        gate: &G,
     ) -> Result<SentCounts, StreamFault>
         requires limit { limit < 2 ^ 41 }
         requires from_start { self.old.runner.next ≡ 0 }
@@ -67,11 +70,11 @@ impl<'c, F: Field> Delivery<'c, F> {
                 return Err(StreamFault::Read);
             };
             if count == 0 {
-                self.carry_last(store, links)?;
+                self.carry_last(rt, store, links, gate)?;
                 return Ok(self.counts(at));
             }
             at += count as u64;
-            self.gather(store, links, &chunk[..count])?;
+            self.gather(rt, store, links, &chunk[..count], gate)?;
         }
         Err(StreamFault::TooLong)
     }

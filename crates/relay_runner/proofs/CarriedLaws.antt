@@ -1,32 +1,26 @@
 -- A window that was carried, told by the calls on the links alone.
-use Rattle.std.specs.Prelude.{◌≡◌, ◌<◌, ◌≤◌, ◌+◌, ◌-◌, ◌||◌, ◌∷◌, ◌↔◌, ℕ, Bool, true, false, All, List, [], Option, length, map}
-use Rattle.std.proofs.Common.{◌∙◌, ap, arith, refl, subst, sym}
+use Rattle.std.specs.Prelude.{◌≡◌, ◌<◌, ◌≤◌, ◌+◌, ◌||◌, ◌∷◌, ◌↔◌, ℕ, Bool, true, false, List, [], Option, length, map}
+use Rattle.std.proofs.Common.{◌∙◌, ap, refl, subst, sym}
 use Rattle.std.proofs.Math.Bool.{or-false}
-use Rattle.std.proofs.lemmas.List.Elements.{All-get_or, All-weaker}
-use Rattle.coded_traffic.specs.CodeBlocks.{IsBlockOf}
-use Rattle.coded_traffic.specs.Traffic.{IsKey, Key, Window, block_at, is_same_key, key_of, packet_of}
-use Rattle.failure_patterns.proofs.DemandLaws.{demand_of_number, number_within}
+use Rattle.coded_traffic.specs.Traffic.{IsKey, Key, Window, block_at, is_same_key, key_of}
 use Rattle.generation_frame.specs.declared.frame.Packet.{Packet}
-use Rattle.lif_outside.specs.Moves.{flights_given}
+use Rattle.lif_outside.specs.Moves.{Move, flights_given}
 use Rattle.lif_outside.specs.declared.links.Flight.{Flight}
 use Rattle.lif_outside.specs.declared.links.Links.{Ghosts as LinksGhosts}
-use Rattle.net_model.specs.Demands.{pattern_of_demand}
-use Rattle.net_model.specs.declared.Demand.{Demand}
-use Rattle.node_plans.proofs.OrderLaws.{live-below}
 use Rattle.node_program.specs.Decoding.{IsAccepted}
 use Rattle.node_program.specs.declared.code.Code.{Code}
 use Rattle.node_states.specs.Decoded.{decoded_of}
 use Rattle.node_stations.specs.Opening.{demand_of}
 use Rattle.node_stations.specs.Putting.{flight_of}
-use Rattle.relay_core.proofs.PacketLaws.{has_key-held_after, payload_of-known}
+use Rattle.relay_core.proofs.PacketLaws.{has_key-held_after}
 use Rattle.relay_core.specs.Core.{Delivery, IsFaithful, RelayState, has_key, held_after, held_of, payload_of}
 use Rattle.relay_core.specs.Runs.{AreRelayed, Reaches}
 use Rattle.relay_node.specs.Relay.{Relay}
 use Rattle.relay_runner.proofs.CameLaws.{relayed-told}
-use Rattle.relay_runner.proofs.DecodedBlockLaws.{CameOf, decoded-block}
-use Rattle.relay_runner.proofs.MeasureLaws.{flying-none}
-use Rattle.relay_runner.specs.Carried.{CarriesWindow}
+use Rattle.relay_runner.proofs.FaithfulLaws.{decodes-of, held-of, held-sent, quiet}
+use Rattle.relay_runner.specs.Carried.{CarriesWindow, HasCarriedBy}
 use Rattle.relay_runner.specs.Carrying.{Carries}
+use Rattle.relay_runner.specs.Decoding.{with_decoded}
 use Rattle.relay_runner.specs.Runner.{IsSameWork}
 use Rattle.relay_runner.specs.Running.{IsRunning, Running}
 use Rattle.run_states.proofs.GivenLaws.{packets_in-given, payload-flights, run-fit}
@@ -52,16 +46,12 @@ module _ (code : Code) (pattern : ℕ) (window : Window) (run : List Delivery) (
     (running : IsRunning code pattern window run relays sinks [] state) (reaches : Reaches code pattern window run state)
     (held : state.held ≡ held_of run []) where
   -- nothing flies in the state
-  quiet : state.flying ≡ []
-  quiet = flying-none state [] running.shown.flies refl
+  nothing : state.flying ≡ []
+  nothing = quiet code pattern window run relays sinks state running
 
   -- what was sent are the keys of the traffic
   sent-is : (key : Key) → (has_key key state.sent ≡ true) ↔ IsKey code pattern window key
-  sent-is key = (reaches.of_traffic key, reaches.all_sent quiet key)
-
-  -- and so is what is held
-  held-sent : (key : Key) → has_key key state.held ≡ has_key key state.sent
-  held-sent key = sym (reaches.sent_is key ∙ ap (λ (flying : List Packet). has_key key flying || has_key key state.held) quiet)
+  sent-is key = (reaches.of_traffic key, reaches.all_sent nothing key)
 
   module _ (given : List Flight) (gives : given ≡ map (λ delivery. flight_of (packet_given delivery)) run) where
     -- the packets that the links gave are those of the deliveries
@@ -77,8 +67,8 @@ module _ (code : Code) (pattern : ℕ) (window : Window) (run : List Delivery) (
         ap (has_key key) packets-are
         ∙ sym (has-held_of key run [])
         ∙ ap (has_key key) (sym held)
-        ∙ held-sent key in
-        (λ has. reaches.of_traffic key (sym same ∙ has), λ is. same ∙ reaches.all_sent quiet key is)
+        ∙ held-sent code pattern window run relays sinks state running key in
+        (λ has. reaches.of_traffic key (sym same ∙ has), λ is. same ∙ reaches.all_sent nothing key is)
 
     -- and the first payloads are those held
     payload-held : (key : Key) → payload_of state.held key ≡ payload_of (packets_in given) key
@@ -90,32 +80,15 @@ module _ (code : Code) (pattern : ℕ) (window : Window) (run : List Delivery) (
     relayed-came : AreRelayed code pattern window state.held state.sent → AreRelayed code pattern window (packets_in given) state.sent
     relayed-came = relayed-told code pattern window state.held (packets_in given) state.sent payload-held
 
-    -- where all was given as it was put, what came on a live link are the pieces of the block
-    came-of : IsFaithful run → (generation : ℕ) → window.first ≤ generation → generation < window.first + length window.blocks
-        → CameOf code pattern (block_at window generation) (packets_in given) generation
-    came-of faithful generation begun numbered link piece live low =
-        let key : Key = record { link = link; generation = generation; piece = piece } in
-        let is_key : IsKey code pattern window key =
-        record { begun = begun; numbered = numbered; of_link = live-below code pattern link live; live = live; of_piece = low } in
-        let known : Key → List ℕ = λ key. (packet_of code pattern window key).payload in
-        let payloads : All (λ packet. packet.payload ≡ known (key_of packet)) state.held =
-        All-weaker (λ packet. packet ≡ packet_of code pattern window (key_of packet)) (λ packet. packet.payload ≡ known (key_of packet))
-        (λ packet same. ap (λ (p : Packet). p.payload) same) state.held (reaches.faithful faithful).held in
-        sym (payload-held key) ∙ payload_of-known known key state.held payloads (held-sent key ∙ reaches.all_sent quiet key is_key)
-
-    -- which each sink decodes to the block
+    -- where all was given as it was put, each sink decodes what came to the block
     decodes : IsAccepted code → IsFaithful run → (place generation : ℕ) → place < length code.net.sinks → window.first ≤ generation
         → generation < window.first + length window.blocks
         → decoded_of code (demand_of code pattern place) (packets_in given) generation ≡ block_at window generation
     decodes accepted faithful place generation here begun numbered =
-        let block = block_at window generation in
-        let demand : Demand = record { sink = place; pattern = pattern } in
-        let of_pattern : pattern_of_demand code.net (demand_of code pattern place) ≡ pattern =
-        ap (λ (demand : Demand). demand.pattern) (demand_of_number code.net demand running.pattern_is) in
-        decoded-block code (demand_of code pattern place) block accepted (number_within code.net demand here running.pattern_is)
-        (All-get_or (IsBlockOf code) window.blocks (generation - window.first) [] (omega (arith, begun, numbered)) running.is_window.blocks)
-        (packets_in given) generation
-        (subst (λ (pattern : ℕ). CameOf code pattern block (packets_in given) generation) (sym of_pattern) (came-of faithful generation begun numbered))
+        decodes-of code pattern window run relays sinks state running accepted place generation here begun numbered (packets_in given)
+        (λ link piece live low.
+        sym (payload-held (record { link = link; generation = generation; piece = piece }))
+        ∙ held-of code pattern window run relays sinks state running faithful generation begun numbered link piece live low)
 
 -- a runner that has carried the window of its first number and its count has sent it
 pub sends : {L : Type 0} (g : LinksGhosts L) (runner : Running) (window : Window) → runner.first ≡ window.first
@@ -167,3 +140,16 @@ has-sent g start now work window same_first same_count accepted before after car
     sends g now window (work.first ∙ same_first) (work.count ∙ same_count) (subst IsAccepted (sym work.code) accepted) before after
     (subst (λ (code : Code). Carries g code now.pattern window before after now.relays now.sinks) (sym work.code)
     (subst (λ (pattern : ℕ). Carries g start.code pattern window before after now.relays now.sinks) (sym work.pattern) carries))
+
+-- a runner that has carried a window has carried it once it has decoded it
+pub by-decoded : (runner : Running) (decoded : List (List ℕ)) (moves : List Move) → HasCarriedBy runner moves → HasCarriedBy (with_decoded runner decoded) moves
+by-decoded runner decoded moves by = record {
+  window = by.window;
+  run = by.run;
+  state = by.state;
+  same_first = by.same_first;
+  same_count = by.same_count;
+  running = by.running;
+  held = by.held;
+  gives = by.gives;
+}

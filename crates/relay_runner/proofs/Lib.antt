@@ -2,6 +2,8 @@ pub mod BlockLaws
 pub mod CameLaws
 pub mod CarriedLaws
 pub mod DecodedBlockLaws
+pub mod DecodingLaws
+pub mod FaithfulLaws
 pub mod JoinLaws
 pub mod MeasureLaws
 pub mod PlannedLaws

@@ -89,8 +89,8 @@ module _ {L : Type 0} (g : LinksGhosts L) {F : Type 0} (code : Code) (pattern : 
         planned code pattern window under.run (relays_of (after_puts new)) (sinks_of (after_puts new)) (g.flying after) under.state under.running
 
   -- a runner with these stations, and what it is then
-  abbrev at_work : ℕ → ℕ → ℕ → Bool → List (Station F) → Running
-  at_work first count next failed made =
+  abbrev at_work : ℕ → ℕ → ℕ → List (List ℕ) → Bool → List (Station F) → Running
+  at_work first count next decoded failed made =
       record {
         code = code;
         pattern = pattern;
@@ -99,18 +99,20 @@ module _ {L : Type 0} (g : LinksGhosts L) {F : Type 0} (code : Code) (pattern : 
         first = first;
         count = count;
         next = next;
+        decoded = decoded;
         has_failed = failed;
       }
 
   -- it is on its way
-  pub first-way : Account g → (first count next : ℕ) (failed : Bool) (start : Running) → at_work first count next failed stations ≡ start
+  pub first-way : Account g → (first count next : ℕ) (decoded : List (List ℕ)) (failed : Bool) (start : Running)
+      → at_work first count next decoded failed stations ≡ start
       → start.has_failed ≡ false → CanStart start → 32 * length start.code.net.links ≤ g.room before
       → (new : Relay) (after : L) → PutsDue g before after station.node new
-      → IsOnWay g start (at_work first count next failed (after_puts new)) before after
-  first-way accounts first count next failed start view works can room new after due =
+      → IsOnWay g start (at_work first count next decoded failed (after_puts new)) before after
+  first-way accounts first count next decoded failed start view works can room new after due =
       let follows = (accounts (puts_of due.puts.packets) before after due.puts.calls).follows in
       let held = holding g.flying g.room g.opened_with g.repeats in
-      let now = at_work first count next failed (after_puts new) in
+      let now = at_work first count next decoded failed (after_puts new) in
       subst (λ (runner : Running). IsOnWay g runner now before after) view (record {
         room =
             omega (

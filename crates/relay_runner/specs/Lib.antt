@@ -1,4 +1,5 @@
 pub mod Running
+pub mod Decoding
 pub mod Stepping
 pub mod Carrying
 pub mod Carried

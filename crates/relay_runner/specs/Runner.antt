@@ -3,14 +3,18 @@ use Rattle.std.specs.Prelude.{◌≡◌, ◌⊎◌, ◌<◌, ◌∷◌, ℕ, Boo
 use Rattle.lif_outside.specs.Moves.{Move, open_refused}
 use Rattle.node_program.specs.declared.code.Code.{Code}
 use Rattle.relay_node.specs.Relay.{Relay}
+use Rattle.relay_runner.specs.Decoding.{AreRooms}
 use Rattle.relay_runner.specs.Running.{Running}
 use Rattle.sink_decoder.specs.Receiving.{Receiver}
 use Rattle.station_table.specs.Table.{ArePlanned}
 
--- the pattern is one of the code's, and as long as no call has failed the nodes and sinks have their plans
-pub record IsRunner (code : Code) (pattern : ℕ) (relays : List Relay) (sinks : List (Option Receiver)) (failed : Bool) : Type 0 where
+-- The pattern is one of the code's, as long as no call has failed the nodes and sinks have their plans, and there is room for what
+-- each sink decodes.
+pub record IsRunner (code : Code) (pattern : ℕ) (relays : List Relay) (sinks : List (Option Receiver)) (decoded : List (List ℕ)) (failed : Bool) : Type 0 where
   pub pattern_is : pattern < length code.net.patterns
   pub planned : failed ≡ false → ArePlanned code pattern relays sinks
+  pub each_sink : length decoded ≡ length code.net.sinks
+  pub rooms : AreRooms code decoded
 
 -- the code, the pattern and the window stay
 pub record IsSameWork (old new : Running) : Type 0 where

@@ -13,7 +13,7 @@ use Rattle.sink_decoder.specs.Receiving.{Receiver}
 use Rattle.station_table.specs.Fed.{window_of}
 
 -- A runner: its code and pattern, the nodes and the sinks at them, the window that it carried last, by its first number and its
--- count, the number of the next generation, and whether a call has failed.
+-- count, the number of the next generation, what each of the code's sinks decoded, and whether a call has failed.
 pub record Running : Type 0 where
   pub code : Code
   pub pattern : ℕ
@@ -22,6 +22,7 @@ pub record Running : Type 0 where
   pub first : ℕ
   pub count : ℕ
   pub next : ℕ
+  pub decoded : List (List ℕ)
   pub has_failed : Bool
 
 -- the most blocks of a window

@@ -9,22 +9,26 @@ ghost use Rattle.node_states.specs.Decoded.{decoded_of};
 ghost use Rattle.node_stations.specs.Opening.{demand_of};
 ghost use Rattle.relay_core.specs.Core.{Delivery, IsFaithful, RelayState};
 
+use crate::decoding::{DecodedBlocks, decode_sinks, open_blocks};
 use crate::running::step;
 use crate::starting::start_window;
 use crate::{LinkFault, Turn};
 use code_checker::Checked;
+use generation_frame::ROW;
 use gf_tables::Field;
-use lif_outside::Links;
+use lif_outside::{Gate, Links};
 use node_stations::{Station, put_due};
 use station_table::open_stations;
 use std::alloc::{AllocError, Global};
 use std::marker::Model;
+use std::thread::Threads;
 
 /// How many frames may fly for each link: those of 4 generations, of 8 pieces each.
 const FRAMES: u32 = 32;
 
 /// A code at work under one pattern, over links: one station for each node. Contracts see the code, the pattern, what the
-/// nodes and sinks show, the window carried last, the number of the next generation, and whether a call has failed.
+/// nodes and sinks show, the window carried last, the number of the next generation, what the sinks decoded, and whether a
+/// call has failed.
 #[derive(Drop)]
 pub struct Runner<'c, F> {
     code: &'c Checked,
@@ -33,6 +37,7 @@ pub struct Runner<'c, F> {
     first: u32,
     count: u32,
     next: u64,
+    decoded: Vec<DecodedBlocks>,
     failed: bool,
 }
 
@@ -52,16 +57,18 @@ impl<'c, F> Model for Runner<'c, F> {
       first = r.first;
       count = r.count;
       next = r.next;
+      decoded = r.decoded.items;
       has_failed = r.failed;
     } };
 
     ghost invariant = { λ r. IsRunner r.code.now r.pattern
-        (relays_of r.stations.items) (sinks_of r.stations.items) r.failed };
+        (relays_of r.stations.items) (sinks_of r.stations.items) r.decoded.items r.failed };
 }
 
 impl<'c, F: Field> Runner<'c, F> {
     ghost use Rattle.relay_runner.specs.Carried.{CarriesWindow, HasCarriedBy, IsStopped, packets_given};
     ghost use Rattle.relay_runner.specs.Carrying.{Carries};
+    ghost use Rattle.relay_runner.specs.Decoding.{HasDecoded};
     ghost use Rattle.relay_runner.specs.Runner.{IsRefused, IsSameWork};
     ghost use Rattle.relay_runner.specs.Running.{AreBlocks, CanStart, HasCarried, IsRunning, StandAt, Starts, count_in, window_from};
     ghost use Rattle.relay_runner.specs.Stepping.{Steps, StopsStepping};
@@ -88,6 +95,7 @@ impl<'c, F: Field> Runner<'c, F> {
             (32 * length code.now.net.links) links.old links.new) }
     {
         let stations = open_stations(alloc, code, pattern)?;
+        let decoded = open_blocks(alloc, code.code())?;
         links.open(alloc, seed, FRAMES * code.code().net.links.len() as u32)?;
         Ok(Runner {
             code,
@@ -96,6 +104,7 @@ impl<'c, F: Field> Runner<'c, F> {
             first: 0,
             count: 0,
             next: 0,
+            decoded,
             failed: false,
         })
     }
@@ -202,10 +211,10 @@ impl<'c, F: Field> Runner<'c, F> {
         self.run(links)
     }
 
-    /// Writes the block that a sink decodes, of those carried last, by its place. The sink is given by its place among the
+    /// Writes the block that a sink decoded, of those carried last, by its place. The sink is given by its place among the
     /// network's sinks. It takes no memory.
     pub fn block(&self, sink: u32, place: u32, into: &mut [u8])
-        requires carried { HasCarried self.now }
+        requires decoded { HasDecoded self.now }
         requires sink { sink < length self.now.code.net.sinks }
         requires place { place < self.now.count }
         requires room { length into.old ≡ self.now.code.rate * row_bytes }
@@ -216,10 +225,30 @@ impl<'c, F: Field> Runner<'c, F> {
             → IsRunning self.now.code self.now.pattern window run self.now.relays self.now.sinks
             [] state → IsFaithful run → into.new ≡ slice_index_or window.blocks place [] }
     {
-        let node = *self.code.code().net.sinks.at(sink as usize);
-        match &self.stations[node as usize].sink {
-            Some(decoder) => decoder.block(self.first + place, into),
-            None => unreachable!(),
-        }
+        let size = self.code.code().rate as usize * ROW;
+        into.copy_from_slice(self.decoded[sink as usize].block(place as usize, size));
+    }
+}
+
+impl<'c, F: Field + Send + Sync> Runner<'c, F> {
+    ghost use Rattle.relay_runner.specs.Decoding.{HasDecoded, with_decoded};
+    ghost use Rattle.relay_runner.specs.Running.{HasCarried};
+
+    /// Decodes the blocks carried last, at all sinks. The sinks are cut into at most four runs, each of which enters the gate
+    /// before; the runs are done side by side. It takes no memory.
+    pub fn decode_all<G: Gate + Sync, R: Threads + Sync>(&mut self, rt: &R, gate: &G)
+        requires carried { HasCarried self.old }
+        ensures decoded { HasDecoded self.new }
+        ensures rest { self.new ≡ with_decoded self.old self.new.decoded }
+    {
+        decode_sinks(
+            rt,
+            self.code.code(),
+            &self.stations,
+            self.first,
+            self.count,
+            &mut self.decoded,
+            gate,
+        );
     }
 }

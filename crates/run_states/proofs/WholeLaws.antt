@@ -1,15 +1,13 @@
--- Where nothing flies each sink has all that it decodes, and by faithful links that is the traffic.
+-- Where nothing flies each sink has all that it decodes.
 use Rattle.std.specs.Prelude.{◌≡◌, ◌<◌, ◌≤◌, ◌+◌, ◌*◌, ◌-◌, ◌||◌, ℕ, Bool, true, false, not, All, List, [], length, take, drop}
 use Rattle.std.proofs.Common.{refl, sym, ap, ◌∙◌, arith, get_or, inl, inr}
 use Rattle.std.proofs.lemmas.Bool.{cases_Bool}
 use Rattle.std.proofs.lemmas.List.{get_or-drop, get_or-map, get_or-take, get_or_default, length-map, length-take}
-use Rattle.std.proofs.lemmas.List.Elements.{All-get_or, All-weaker}
 use Rattle.std.proofs.lemmas.List.Sums.{list_all-from_AllPass}
 use Rattle.coded_traffic.specs.CodeBlocks.{IsBlockOf}
-use Rattle.coded_traffic.specs.Traffic.{IsKey, Key, Window, block_at, key_of, packet_of, payload_in}
+use Rattle.coded_traffic.specs.Traffic.{IsKey, Key, Window}
 use Rattle.failure_patterns.proofs.DemandLaws.{demand_of_number, number_within}
 use Rattle.generation_frame.specs.Blocks.{pieces}
-use Rattle.generation_frame.specs.declared.frame.Packet.{Packet}
 use Rattle.held_rows.specs.Held as rows
 use Rattle.held_rows.specs.Held.{Held, is_held}
 use Rattle.net_model.specs.Demands.{demand_count, pattern_of_demand}
@@ -23,13 +21,12 @@ use Rattle.node_states.proofs.DecodedLaws.{decoded-shown}
 use Rattle.node_states.specs.Decoded.{decoded_of}
 use Rattle.node_states.specs.Shown.{IsWanted, ShowsSink}
 use Rattle.node_stations.specs.Opening.{demand_of}
-use Rattle.relay_core.proofs.PacketLaws.{payload_of-known}
 use Rattle.relay_core.proofs.RunLaws.{run-reaches}
-use Rattle.relay_core.specs.Core.{Delivery, IsFaithful, IsRun, RelayState, has_key, opening}
+use Rattle.relay_core.specs.Core.{Delivery, IsRun, RelayState, has_key, opening}
 use Rattle.relay_core.specs.Runs.{Reaches}
 use Rattle.sink_decoder.proofs.HeldLaws.{all_below}
 use Rattle.sink_decoder.proofs.PlaceLaws.{at-place_of, place_of-at, wanted-place}
-use Rattle.sink_decoder.specs.Receiving.{Receiver, SinkPlan, TakesTraffic, came_of, decoded, is_live_at, is_whole, links_of, place_of, sink_plan_of, wants}
+use Rattle.sink_decoder.specs.Receiving.{Receiver, SinkPlan, came_of, decoded, is_live_at, is_whole, links_of, place_of, sink_plan_of, wants}
 
 -- a row is whole of which all pieces have come
 whole-pieces : (held : Held) (row : ℕ) → ((piece : ℕ) → piece < pieces → is_held held row piece ≡ true) → rows.is_whole held row ≡ true
@@ -129,32 +126,3 @@ module _ (code : Code) (pattern : ℕ) (window : Window) (run : List Delivery) (
       (λ link piece wanted low.
       wanted-held (record { link = link; generation = generation; piece = piece })
       (record { wanted = wanted; begun = begun; numbered = numbered; of_piece = low }))
-
-  -- and what came is the traffic of the blocks
-  pub sink-traffic : IsFaithful run → TakesTraffic code demand window sink
-  sink-traffic faithful =
-      record {
-        plan = shows.plan;
-        first = shows.first;
-        count = shows.count;
-        blocks = λ generation begun.
-            All-get_or (IsBlockOf code) window.blocks (generation - window.first) []
-            (omega (arith, begun.from_first, begun.to_last, shows.first, shows.count)) blocks;
-        came = λ generation link piece begun wanted low came.
-            let key : Key = record { link = link; generation = generation; piece = piece } in
-            let is_wanted : IsWanted code demand window key =
-            record {
-              wanted = sym (ap (λ (plan : SinkPlan). wants plan link) shows.plan) ∙ wanted;
-              begun = omega (arith, shows.first, begun.from_first);
-              numbered = omega (arith, shows.first, shows.count, begun.to_last);
-              of_piece = low;
-            } in
-            let known : Key → List ℕ = λ key. (packet_of code pattern window key).payload in
-            let payloads : All (λ packet. packet.payload ≡ known (key_of packet)) state.held =
-            All-weaker (λ packet. packet ≡ packet_of code pattern window (key_of packet)) (λ packet. packet.payload ≡ known (key_of packet))
-            (λ packet same. ap (λ (p : Packet). p.payload) same) state.held (reaches.faithful faithful).held in
-            let has : has_key key state.held ≡ true = sym (shows.has key is_wanted) ∙ came in
-            shows.bytes key is_wanted has
-            ∙ payload_of-known known key state.held payloads has
-            ∙ ap (λ n. payload_in code n (block_at window generation) piece link) (sym (pattern-demand code pattern place here pattern_is));
-      }

@@ -2,4 +2,5 @@
 mod carrying;
 mod counts;
 mod faults;
+mod gates;
 mod orders;

@@ -2,14 +2,15 @@
 ghost use Rattle.std.specs.Prelude.{◌≡◌, ◌<◌, ◌≤◌, ◌+◌, ◌*◌, ◌^◌, [], length, false, true};
 ghost use Rattle.generation_frame.specs.Blocks.{row_bytes};
 ghost use Rattle.gf_tables.specs.Kind.{IsOfKind};
-ghost use Rattle.relay_runner.specs.Running.{HasCarried};
+ghost use Rattle.relay_runner.specs.Decoding.{HasDecoded};
 
 use code_checker::Checked;
 use generation_frame::ROW;
 use gf_tables::{Field, FieldKind, Gf8, Gf16};
-use lif_outside::Links;
+use lif_outside::{Gate, Links};
 use relay_runner::Runner;
 use std::alloc::Global;
+use std::thread::Threads;
 
 /// How a source goes through a code: under which pattern, by which number of the links, how many blocks of it at a time, and in
 /// how many windows.
@@ -29,7 +30,7 @@ fn sinks_have<F: Field>(
     block: &[u8],
     into: &mut [u8],
 ) -> bool
-    requires carried { HasCarried runner.now }
+    requires decoded { HasDecoded runner.now }
     requires sinks { sinks ≡ length runner.now.code.net.sinks }
     requires place { place < runner.now.count }
     requires room { length into.old ≡ runner.now.code.rate * row_bytes }
@@ -46,13 +47,15 @@ fn sinks_have<F: Field>(
 }
 
 // Whether a window of blocks comes to every sink.
-fn carries_window<F: Field, K: Links>(
+fn carries_window<F: Field + Send + Sync, K: Links, G: Gate + Sync, R: Threads + Sync>(
+    rt: &R,
     runner: &mut Runner<'_, F>,
     sinks: u32,
     size: usize,
     window: &[u8],
     links: &mut K,
     into: &mut [u8],
+    gate: &G,
 ) -> bool
     requires works { runner.old.has_failed ≡ false }
     requires nothing_flies { K.flying links.old ≡ [] }
@@ -78,6 +81,7 @@ fn carries_window<F: Field, K: Links>(
     if runner.carry(window, links).is_err() {
         return false;
     }
+    runner.decode_all(rt, gate);
     for place in 0..count as u32 {
         let start = place as usize * size;
         if !sinks_have(runner, sinks, place, &window[start..start + size], into) {
@@ -88,12 +92,14 @@ fn carries_window<F: Field, K: Links>(
 }
 
 // The same of all windows of a source, over the code's field.
-fn carries_over<F: Field, K: Links>(
+fn carries_over<F: Field + Send + Sync, K: Links, G: Gate + Sync, R: Threads + Sync>(
+    rt: &R,
     alloc: Global,
     checked: &Checked,
     course: Course,
     links: &mut K,
     source: &[u8],
+    gate: &G,
 ) -> bool
     requires field { IsOfKind checked.now.field F.SIZE F.BYTES F.MARK F.product }
     requires nothing_flies { K.flying links.old ≡ [] }
@@ -119,7 +125,7 @@ fn carries_over<F: Field, K: Links>(
     'windows: for turn in 0..course.windows {
         let start = turn as usize * width;
         let window = &source[start..start + width];
-        if !carries_window(&mut runner, sinks, size, window, links, into) {
+        if !carries_window(rt, &mut runner, sinks, size, window, links, into, gate) {
             return false;
         }
     }
@@ -128,17 +134,23 @@ fn carries_over<F: Field, K: Links>(
 
 /// Whether all windows of a source come to every sink of a code.
 #[tactic(auto, unfolding(gf_tables::specs::Product::product))]
-pub(super) fn carries<K: Links>(
+pub(super) fn carries<K: Links, G: Gate + Sync, R: Threads + Sync>(
+    rt: &R,
     alloc: Global,
     code: &Checked,
     course: Course,
     links: &mut K,
     source: &[u8],
+    gate: &G,
 ) -> bool
     requires nothing_flies { K.flying links.old ≡ [] }
 {
     match code.code().field {
-        FieldKind::Eight => carries_over::<Gf8, K>(alloc, code, course, links, source),
-        FieldKind::Sixteen => carries_over::<Gf16, K>(alloc, code, course, links, source),
+        FieldKind::Eight => {
+            carries_over::<Gf8, K, G, R>(rt, alloc, code, course, links, source, gate)
+        }
+        FieldKind::Sixteen => {
+            carries_over::<Gf16, K, G, R>(rt, alloc, code, course, links, source, gate)
+        }
     }
 }

@@ -1,6 +1,6 @@
 //! How many frames are put for a block, and which bytes they have.
 use super::carrying::{Course, carries};
-use lif_outside::SeedLinks;
+use lif_outside::{NoGate, SeedLinks};
 use std::alloc::Global;
 use std::test;
 use std::thread::Threads;
@@ -26,7 +26,7 @@ fn put_for<R: Threads + Sync>(
         windows: 1,
     };
     let mut links = watch(alloc, SeedLinks::new(alloc));
-    if !carries(alloc, &code, course, &mut links, block) {
+    if !carries(rt, alloc, &code, course, &mut links, block, &NoGate) {
         return None;
     }
     let puts = links.calls.puts.as_slice();

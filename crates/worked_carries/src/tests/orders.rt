@@ -1,6 +1,6 @@
 //! The order in which links deliver.
 use super::carrying::{Course, carries};
-use lif_outside::SeedLinks;
+use lif_outside::{NoGate, SeedLinks};
 use std::alloc::Global;
 use std::test;
 use std::thread::Threads;
@@ -14,7 +14,7 @@ fn by_seed<R: Threads + Sync>(rt: &R, alloc: Global, file: &[u8], course: Course
     let code = checked_of(rt, alloc, file).ok()?;
     let source = source_of(alloc, 16384)?;
     let mut links = SeedLinks::new(alloc);
-    Some(carries(alloc, &code, course, &mut links, &source))
+    Some(carries(rt, alloc, &code, course, &mut links, &source, &NoGate))
 }
 
 // Whether they do in an order that a list says.
@@ -28,7 +28,7 @@ fn by_list<R: Threads + Sync>(
     let code = checked_of(rt, alloc, file).ok()?;
     let source = source_of(alloc, 16384)?;
     let mut links = listed(alloc, rule)?;
-    Some(carries(alloc, &code, course, &mut links, &source))
+    Some(carries(rt, alloc, &code, course, &mut links, &source, &NoGate))
 }
 
 // Each code with its name, its file, and how many patterns it has.

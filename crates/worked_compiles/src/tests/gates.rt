@@ -49,7 +49,7 @@ const CHECK: &[&str] = &["check", "in"];
 const SEND: &[&str] = &["send", "in", "none", "1", "in", "out"];
 
 // Commands, their files, and what enters: a job for each batch of certificates or of a check, of which there are as many
-// as demands and at most four.
+// as demands and at most four, and for each window that is sent a job for each run of sinks.
 const ENTERED: &[(&[&str], &[u8], u64)] = &[
     (CUTS, ONE_LINK_TEXT, 1),
     (CUTS, BUTTERFLY_TEXT, 11),
@@ -61,7 +61,7 @@ const ENTERED: &[(&[&str], &[u8], u64)] = &[
     (COMPILE, THREE_CORES_TEXT, 1111),
     (CHECK, ONE_LINK, 1),
     (CHECK, BUTTERFLY, 11),
-    (SEND, BUTTERFLY, 11),
+    (SEND, BUTTERFLY, 12),
     (&["order", "in"], BUTTERFLY_TEXT, 0),
 ];
 

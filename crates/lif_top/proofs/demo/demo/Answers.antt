@@ -7,14 +7,14 @@ use Rattle.lif_top.proofs.demo.demo.Goals as goal
 
 pub show-requires-clause-field : goal.show-requires-clause-field
 unfolding product
-show-requires-clause-field g c =
+show-requires-clause-field g c κs within =
     let is : c.in-Ok.code.field ≡ Eight = ap (λ (code : Code). code.field) (sym c.code-2.ensures.value) ∙ c.in-Eight.is in
     subst (λ kind. IsOfKind kind 256 1 8 (octet_product 285)) (sym is)
     (record { size = refl; bytes = refl; mark = refl; product_at = λ a b h k. refl })
 
 pub show-requires-in-Sixteen-clause-field : goal.show-requires-in-Sixteen-clause-field
 unfolding product
-show-requires-in-Sixteen-clause-field g c =
+show-requires-in-Sixteen-clause-field g c κs within =
     let is : c.in-Ok.code.field ≡ Sixteen = ap (λ (code : Code). code.field) (sym c.code-2.ensures.value) ∙ c.in-Sixteen.is in
     subst (λ kind. IsOfKind kind 65536 2 16 (pair_product (octet_product 285) 256 32)) (sym is)
     (record { size = refl; bytes = refl; mark = refl; product_at = λ a b h k. refl })

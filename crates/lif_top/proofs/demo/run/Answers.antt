@@ -20,7 +20,7 @@ use Rattle.lif_top.specs.declared.delivery.DeliveryFault.TheVariants as fault
 use Rattle.lif_top.proofs.demo.run.Goals as goal
 
 pub carry_source-requires-clause-short : goal.carry_source-requires-clause-short
-carry_source-requires-clause-short g c =
+carry_source-requires-clause-short g c κs within =
     let words = c.args.words.now in
     omega (arith, ap length c.deref.ensures.value, ap length c.requires.begun.source, length-map-range_with_len source_byte 0 words.bytes, words.short)
 

@@ -9,7 +9,7 @@ use Rattle.lif_top.specs.Send.Runs.{link_calls, room_for}
 use Rattle.lif_top.proofs.demo.show.Goals as goal
 
 pub run-requires-clause-can : goal.run-requires-clause-can
-run-requires-clause-can g c =
+run-requires-clause-can g c κs within =
     let opening = g.met.K.Links.accounts (opened demo_seed (room_for c.args.code.now) ∷ []) _ _ c.in-Ok.ensures.opened in
     can-carry (demo_given_in c.args.words.now) c.args.code.now c.requires.made c.in-Ok.begun.delivery.runner c.in-Ok.ensures.begun.at_work c.in-Ok.ensures.begun.pattern c.in-Ok.ensures.begun.works
     (g.K.Links.faithful c.args.links.now) (holding g.K.Links.flying g.K.Links.room g.K.Links.opened_with g.K.Links.repeats c.args.links.now)

@@ -32,7 +32,7 @@ returns-in_default g c =
     (unmade faithful send code ready.clear outcome.line events c.write_fault.ensures.line (subst (λ paths. StopsWithin (creates_of paths) events) ready.paths stop)))
 
 pub stream-requires-clause-made : goal.stream-requires-clause-made
-stream-requires-clause-made g c = λ path there.
+stream-requires-clause-made g c κs within = λ path there.
     let creates = c.in-Ok.ensures.created in
     (g.met.S.Store.accounts creates.made _ _ creates.lead).makes path
     (subst (λ calls. Contains calls (created path)) (sym creates.holds) (created_there (paths_of c.args.delivery) path there))

@@ -2,10 +2,24 @@ use Rattle.std.specs.Prelude.{◌∷◌, [], Bool}
 use Rattle.std.proofs.Common.{subst}
 use Rattle.lif_outside.proofs.CallLaws.{both_behind_move, both_on_links}
 use Rattle.lif_outside.specs.Calls.{Calls}
+use Rattle.lif_outside.specs.LinksAccounts.{holding}
 use Rattle.lif_outside.specs.Moves.{opened}
 use Rattle.top_base.specs.Given.{given_in}
+use Rattle.lif_top.proofs.DeliveryLaws.{opened-can}
+use Rattle.lif_top.proofs.GivenLaws.{pattern-within}
 use Rattle.lif_top.specs.Send.Runs.{RunsCode, Sends, behind_open, link_calls, room_for}
 use Rattle.lif_top.proofs.sending.send_over.Goals as goal
+
+pub deliver-requires-clause-can : goal.deliver-requires-clause-can
+deliver-requires-clause-can g c κs within =
+    let send = given_in c.args.words.now in
+    let code = c.args.code.now in
+    let runner = c.in-Ok.delivery.runner in
+    let ready = c.in-Ok.ensures.ready in
+    let opening = g.met.K.Links.accounts (opened send.seed (room_for code) ∷ []) _ _ c.in-Ok.ensures.opened in
+    opened-can send.seed code runner ready.at_work (pattern-within send code runner.pattern ready.pattern) ready.works (g.K.Links.faithful c.args.links.now)
+    (holding g.K.Links.flying g.K.Links.room g.K.Links.opened_with g.K.Links.repeats c.args.links.now)
+    (holding g.K.Links.flying g.K.Links.room g.K.Links.opened_with g.K.Links.repeats c.prepare.new.links) opening.follows
 
 pub returns-in-Ok : goal.returns-in-Ok
 returns-in-Ok g c =

@@ -7,14 +7,14 @@ use Rattle.lif_top.proofs.sending.send_through.Goals as goal
 
 pub send_over-requires-clause-field : goal.send_over-requires-clause-field
 unfolding product
-send_over-requires-clause-field g c =
+send_over-requires-clause-field g c κs within =
     let is : c.args.code.now.field ≡ Eight = ap (λ (code : Code). code.field) (sym c.code.ensures.value) ∙ c.in-Eight.is in
     subst (λ kind. IsOfKind kind 256 1 8 (octet_product 285)) (sym is)
     (record { size = refl; bytes = refl; mark = refl; product_at = λ a b h k. refl })
 
 pub send_over-requires-in-Sixteen-clause-field : goal.send_over-requires-in-Sixteen-clause-field
 unfolding product
-send_over-requires-in-Sixteen-clause-field g c =
+send_over-requires-in-Sixteen-clause-field g c κs within =
     let is : c.args.code.now.field ≡ Sixteen = ap (λ (code : Code). code.field) (sym c.code.ensures.value) ∙ c.in-Sixteen.is in
     subst (λ kind. IsOfKind kind 65536 2 16 (pair_product (octet_product 285) 256 32)) (sym is)
     (record { size = refl; bytes = refl; mark = refl; product_at = λ a b h k. refl })

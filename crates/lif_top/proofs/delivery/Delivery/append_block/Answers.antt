@@ -6,7 +6,8 @@ use Rattle.lif_outside.specs.Events.{Event}
 use Rattle.lif_outside.specs.Moves.{Move}
 use Rattle.lif_outside.specs.Runs.{StopsWithin, appends_of}
 use Rattle.relay_runner.specs.Carried.{HasCarriedBy, packets_given}
-use Rattle.relay_runner.specs.Running.{HasCarried, Running}
+use Rattle.relay_runner.specs.Decoding.{HasDecoded}
+use Rattle.relay_runner.specs.Running.{Running}
 use Rattle.top_base.proofs.Exits.{on_err}
 use Rattle.lif_top.proofs.TurnLaws.{parts-appended, parts-stopped}
 use Rattle.lif_top.specs.Send.Ready.{paths_of}
@@ -26,8 +27,8 @@ loop-sink-init g c = record {
   calls = λ moves by. calls_of _ [] (g.met.S.Store.no_calls c.args.store.now) refl;
 }
 
-pub append_decoded-requires-clause-carried : goal.append_decoded-requires-clause-carried
-append_decoded-requires-clause-carried g c = subst HasCarried (sym c.loop-sink.invariant.runner) c.requires.carried
+pub append_decoded-requires-clause-decoded : goal.append_decoded-requires-clause-decoded
+append_decoded-requires-clause-decoded g c = subst HasDecoded (sym c.loop-sink.invariant.runner) c.requires.decoded
 
 pub append_decoded-requires-clause-place : goal.append_decoded-requires-clause-place
 append_decoded-requires-clause-place g c = omega (arith, c.requires.place, ap (λ (runner : Running). runner.count) c.loop-sink.invariant.runner)

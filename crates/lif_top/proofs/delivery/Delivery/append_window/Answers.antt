@@ -5,7 +5,8 @@ use Rattle.lif_outside.specs.Events.{Event}
 use Rattle.lif_outside.specs.Moves.{Move}
 use Rattle.lif_outside.specs.Runs.{StopsWithin, appends_of}
 use Rattle.relay_runner.specs.Carried.{HasCarriedBy, packets_given}
-use Rattle.relay_runner.specs.Running.{HasCarried, Running}
+use Rattle.relay_runner.specs.Decoding.{HasDecoded}
+use Rattle.relay_runner.specs.Running.{Running}
 use Rattle.top_base.proofs.Exits.{on_err}
 use Rattle.lif_top.proofs.TurnLaws.{turns-next, turns-stopped}
 use Rattle.lif_top.specs.Send.Ready.{paths_of}
@@ -34,8 +35,8 @@ append_block-requires-clause-place g c = omega (arith, c.requires.all, ap (λ (r
 pub append_block-requires-clause-few : goal.append_block-requires-clause-few
 append_block-requires-clause-few g c = omega (arith, c.requires.all, c.requires.few, ap (λ (runner : Running). runner.count) c.loop-place.invariant.runner)
 
-pub append_block-requires-clause-carried : goal.append_block-requires-clause-carried
-append_block-requires-clause-carried g c = subst HasCarried (sym c.loop-place.invariant.runner) c.requires.carried
+pub append_block-requires-clause-decoded : goal.append_block-requires-clause-decoded
+append_block-requires-clause-decoded g c = subst HasDecoded (sym c.loop-place.invariant.runner) c.requires.decoded
 
 pub append_block-requires-clause-made : goal.append_block-requires-clause-made
 append_block-requires-clause-made g c = λ path there.

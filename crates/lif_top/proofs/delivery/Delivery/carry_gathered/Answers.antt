@@ -1,5 +1,5 @@
-use Rattle.std.specs.Prelude.{◌+◌, ◌*◌}
-use Rattle.std.proofs.Common.{◌≡◌, List, ℕ, length, take, refl, ap, ◌∙◌, sym, subst, arith}
+use Rattle.std.specs.Prelude.{◌+◌, ◌*◌, ◌<◌}
+use Rattle.std.proofs.Common.{◌≡◌, List, ℕ, length, take, refl, ap, ◌∙◌, sym, subst, subst₂, arith}
 use Rattle.std.specs.List.{concat}
 use Rattle.std.proofs.lemmas.List.{take_at}
 use Rattle.generation_frame.specs.Blocks.{row_bytes}
@@ -8,12 +8,12 @@ use Rattle.lif_outside.specs.Runs.{StopsWithin}
 use Rattle.lif_outside.specs.Sequences.{Are}
 use Rattle.node_program.specs.declared.code.Code.{Code}
 use Rattle.relay_runner.specs.Carried.{IsStopped}
-use Rattle.relay_runner.specs.Running.{count_in, window_from}
+use Rattle.relay_runner.specs.Running.{Running, count_in, window_from}
 use Rattle.lif_top.proofs.CarriedLaws.{length-blocks_from}
 use Rattle.lif_top.proofs.DeliveryLaws.{are-blocks, blocks-count, blocks-window}
 use Rattle.lif_top.proofs.WindowLaws.{delivers}
 use Rattle.lif_top.specs.Send.Carried.{blocks_from}
-use Rattle.lif_top.specs.Send.Delivering.{BreaksBlocks, HasMoved}
+use Rattle.lif_top.specs.Send.Delivering.{BreaksBlocks, CanCarry, HasMoved}
 use Rattle.lif_top.specs.Send.Ready.{paths_of}
 use Rattle.lif_top.proofs.delivery.Delivery.carry_gathered.Given as given
 use Rattle.lif_top.proofs.delivery.Delivery.carry_gathered.Goals as goal
@@ -81,21 +81,38 @@ returns-in_default-clause-interrupted g c =
     })
 
 pub append_window-requires-clause-all : goal.append_window-requires-clause-all
-append_window-requires-clause-all g c = sym (c.in-Ok.ensures.count ∙ count g (goal.at.append_window-requires-clause-all g c).After-deref-2)
+append_window-requires-clause-all g c =
+    sym (ap (λ (runner : Running). runner.count) c.decode_all.ensures.rest ∙ c.in-Ok.ensures.count ∙ count g (goal.at.append_window-requires-clause-all g c).After-deref-2)
 
 pub returns-in-Ok-append_window-clause-moved : goal.returns-in-Ok-append_window-clause-moved
 returns-in-Ok-append_window-clause-moved g c =
     let is = count g (goal.at.returns-in-Ok-append_window-clause-moved g c).After-deref-2 in
     let runner = c.args.self.now.runner in
     let after = c.in-Ok.ensures in
+    let rest = c.decode_all.ensures.rest in
     subst (HasMoved c.args.count runner) (sym c.append_window.ensures.runner)
     (record {
-      code = after.code;
-      pattern = after.pattern;
-      first = after.first;
-      count = after.count ∙ is;
-      next = after.next ∙ ap (λ n. runner.next + n) is;
-      carried = after.whole;
+      code = ap (λ (runner : Running). runner.code) rest ∙ after.code;
+      pattern = ap (λ (runner : Running). runner.pattern) rest ∙ after.pattern;
+      first = ap (λ (runner : Running). runner.first) rest ∙ after.first;
+      count = ap (λ (runner : Running). runner.count) rest ∙ after.count ∙ is;
+      next = ap (λ (runner : Running). runner.next) rest ∙ after.next ∙ ap (λ n. runner.next + n) is;
+      carried = c.decode_all.ensures.decoded.carried;
+    })
+
+pub returns-in-Ok-append_window-clause-can : goal.returns-in-Ok-append_window-clause-can
+returns-in-Ok-append_window-clause-can g c =
+    let runner = c.args.self.now.runner in
+    let carried = c.carry.new.self in
+    let after = c.in-Ok.ensures in
+    let can = c.requires.can in
+    subst (λ (runner : Running). CanCarry runner (g.K.Links.flying c.carry.new.links) (g.K.Links.room c.carry.new.links))
+    (sym (c.append_window.ensures.runner ∙ c.decode_all.ensures.rest))
+    (record {
+      known = subst₂ (λ (code : Code) pattern. pattern < length code.net.patterns) (sym after.code) (sym after.pattern) can.known;
+      works = after.failed;
+      quiet = after.quiet;
+      has_room = omega (arith, can.has_room, after.room, ap (λ (code : Code). length code.net.links) after.code);
     })
 
 pub returns-in-Ok-append_window-clause-delivered : goal.returns-in-Ok-append_window-clause-delivered
@@ -105,9 +122,9 @@ returns-in-Ok-append_window-clause-delivered g c =
     let blocks = blocks_from self.gathered.items runner.code.rate 0 c.args.count in
     let long = length-blocks_from self.gathered.items runner.code.rate 0 c.args.count in
     let after = c.in-Ok.ensures in
-    delivers g.S.Store g.K.Links runner c.carry.new.self (paths_of self) blocks (window_from runner.code runner.next (bytes_of c.args.count c.args.self.now.rate c.deref-2.result.now)) c.args.count Are c.args.store.now c.append_window.new.store
+    delivers g.S.Store g.K.Links runner c.carry.new.self c.decode_all.new.self (paths_of self) blocks (window_from runner.code runner.next (bytes_of c.args.count c.args.self.now.rate c.deref-2.result.now)) c.args.count Are c.args.store.now c.append_window.new.store
     c.args.links.now c.carry.new.links after.sent after.code after.pattern after.first (window g (goal.at.returns-in-Ok-append_window-clause-delivered g c).After-deref-2)
-    (omega (arith, long, c.requires.some)) (sym long) (c.in-Ok-append_window.ensures.appended after.sent.moves after.sent.by)
+    (omega (arith, long, c.requires.some)) (sym long) c.decode_all.ensures.rest c.in-Ok-append_window.ensures.appended
 
 pub returns-in-Err-clause-interrupted : goal.returns-in-Err-clause-interrupted
 returns-in-Err-clause-interrupted g c =
@@ -116,6 +133,6 @@ returns-in-Err-clause-interrupted g c =
     let blocks = blocks_from self.gathered.items runner.code.rate 0 c.args.count in
     let long = length-blocks_from self.gathered.items runner.code.rate 0 c.args.count in
     let after = c.in-Ok.ensures in
-    delivers g.S.Store g.K.Links runner c.carry.new.self (paths_of self) blocks (window_from runner.code runner.next (bytes_of c.args.count c.args.self.now.rate c.deref-2.result.now)) c.args.count StopsWithin c.args.store.now c.append_window.new.store
+    delivers g.S.Store g.K.Links runner c.carry.new.self c.decode_all.new.self (paths_of self) blocks (window_from runner.code runner.next (bytes_of c.args.count c.args.self.now.rate c.deref-2.result.now)) c.args.count StopsWithin c.args.store.now c.append_window.new.store
     c.args.links.now c.carry.new.links after.sent after.code after.pattern after.first (window g (goal.at.returns-in-Err-clause-interrupted g c).After-deref-2)
-    (omega (arith, long, c.requires.some)) (sym long) (c.in-Err.ensures.failed after.sent.moves after.sent.by)
+    (omega (arith, long, c.requires.some)) (sym long) c.decode_all.ensures.rest c.in-Err.ensures.failed

@@ -18,7 +18,7 @@ use Rattle.lif_top.proofs.delivery.Delivery.carry_source.Goals as goal
 use Rattle.lif_top.proofs.delivery.Delivery.carry_source.Goals.{After-gather}
 
 pub gather-requires-clause-short : goal.gather-requires-clause-short
-gather-requires-clause-short g c =
+gather-requires-clause-short g c κs within =
     let self = c.args.self.now in
     let none : self.runner.next * capacity self.runner.code.rate ≡ 0 * capacity self.runner.code.rate = ap (λ n. n * capacity self.runner.code.rate) c.requires.from_start in
     omega (arith, none, ap length c.requires.nothing, c.requires.short)
@@ -39,11 +39,11 @@ rate : (g : given.Over) (c : After-gather g) → HasGoneOn c.args.self.now.runne
 rate g c gone_on = ap (λ (code : Code). code.rate) gone_on.code
 
 pub carry_last-requires-clause-room : goal.carry_last-requires-clause-room
-carry_last-requires-clause-room g c =
+carry_last-requires-clause-room g c κs within =
     subst (λ rate. vec_len c.gather.new.self.gathered < 4 * capacity rate) (sym (rate g (goal.at.carry_last-requires-clause-room g c).After-gather c.in_ok-gather.ensures.gone_on)) c.in_ok-gather.ensures.room
 
 pub carry_last-requires-clause-short : goal.carry_last-requires-clause-short
-carry_last-requires-clause-short g c =
+carry_last-requires-clause-short g c κs within =
     let at = (goal.at.carry_last-requires-clause-short g c).After-gather in
     let self = c.args.self.now in
     let size = capacity self.runner.code.rate in
@@ -56,7 +56,7 @@ carry_last-requires-clause-short g c =
     omega (arith, same, long, is.whole, ap length (all g at), c.requires.short)
 
 pub carry_last-requires-clause-made : goal.carry_last-requires-clause-made
-carry_last-requires-clause-made g c = λ path there.
+carry_last-requires-clause-made g c κs within = λ path there.
     let both = c.in_ok-gather.ensures.delivered in
     (g.met.S.Store.accounts both.calls.on_store _ _ both.on_store).counts.still_made path
     (c.requires.made path (subst (λ outputs. Contains (map string_bytes outputs.items) path) c.gather.ensures.outputs there))

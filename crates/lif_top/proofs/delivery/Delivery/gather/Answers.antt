@@ -94,11 +94,11 @@ retold D g c holds =
     (ap (λ (runner : Running). runner.code) (same g c) ∙ was.gone_on.code) (ap (λ (runner : Running). runner.pattern) (same g c) ∙ was.gone_on.pattern) holds))
 
 pub carry_full-requires-clause-can : goal.carry_full-requires-clause-can
-carry_full-requires-clause-can g c =
+carry_full-requires-clause-can g c κs within =
     subst (λ runner. CanCarry runner (g.K.Links.flying c.loop-place.links) (g.K.Links.room c.loop-place.links)) (sym c.fill-place.ensures.runner) c.loop-place.invariant.can
 
 pub carry_full-requires-clause-numbered : goal.carry_full-requires-clause-numbered
-carry_full-requires-clause-numbered g c =
+carry_full-requires-clause-numbered g c κs within =
     let self = c.args.self.now in
     let code = self.runner.code in
     let was = c.loop-place.invariant in
@@ -111,7 +111,7 @@ carry_full-requires-clause-numbered g c =
     omega (arith, all, next)
 
 pub carry_full-requires-clause-made : goal.carry_full-requires-clause-made
-carry_full-requires-clause-made g c = λ path there.
+carry_full-requires-clause-made g c κs within = λ path there.
     c.loop-place.invariant.made path
     (subst (λ outputs. Contains (map string_bytes outputs.items) path) (c.fill-place.ensures.outputs ∙ c.loop-place.invariant.outputs) there)
 

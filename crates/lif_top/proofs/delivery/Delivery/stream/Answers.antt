@@ -96,10 +96,10 @@ returns-in_default-clause-stopped g c =
     (omega arith)))
 
 pub carry_last-requires-clause-made : goal.carry_last-requires-clause-made
-carry_last-requires-clause-made g c = made g (goal.at.carry_last-requires-clause-made g c).After-read_next
+carry_last-requires-clause-made g c κs within = made g (goal.at.carry_last-requires-clause-made g c).After-read_next
 
 pub gather-requires-clause-made : goal.gather-requires-clause-made
-gather-requires-clause-made g c = made g (goal.at.gather-requires-clause-made g c).After-read_next
+gather-requires-clause-made g c κs within = made g (goal.at.gather-requires-clause-made g c).After-read_next
 
 -- the source, where the last read gave nothing
 ended : (g : given.Over) (c : After-read_next g) (count : ℕ) → c.read_next.result ≡ Ok count → count ≡ 0

@@ -1,79 +1,43 @@
-use Rattle.std.specs.Prelude.{◌≡◌, ◌+◌, ◌*◌, Some, slice_get, true}
-use Rattle.std.proofs.Common.{◌∙◌, ap, arith, subst, sym}
-use Rattle.node_program.specs.Decoding.{IsAccepted}
-use Rattle.coded_traffic.specs.Traffic.{block_at}
+use Rattle.std.specs.Prelude.{◌≡◌, ◌<◌, ◌*◌, [], length, slice_index_or}
+use Rattle.std.proofs.Common.{◌∙◌, ap, arith, subst, subst₂}
+use Rattle.std.proofs.lemmas.List.{get_or_default}
 use Rattle.generation_frame.specs.Blocks.{row_bytes}
+use Rattle.node_program.specs.Decoding.{IsAccepted}
 use Rattle.node_program.specs.declared.code.Code.{Code}
-use Rattle.relay_runner.proofs.BlockLaws.{IsAsked, begun-there, block-there, decoded-given, has-sink, is-asked, node-station, same-rate, whole-block}
+use Rattle.relay_runner.proofs.BlockLaws.{block-carried, block-given}
 use Rattle.relay_runner.proofs.runner.Runner.block.Goals as goal
-use Rattle.relay_runner.proofs.runner.Runner.block.Goals.{After-at-node, In-Some}
+use Rattle.relay_runner.proofs.runner.Runner.block.Goals.{After-copy_from_slice}
+use Rattle.relay_runner.specs.Decoding.{block_in}
 use Rattle.relay_runner.specs.Running.{Running}
-use Rattle.sink_decoder.specs.Receiving.{IsBegun, decoded, is_whole}
-use Rattle.station_table.specs.Table.{sinks_of}
 
 -- the code at hand is the runner's
-same_code : (g : _) (c : After-at-node g) → c.code.result.now ≡ c.args.self.now.code
+same_code : (g : _) (c : After-copy_from_slice g) → c.code.result.now ≡ c.args.self.now.code
 same_code g c = c.code.ensures.value ∙ ap (λ (runner : Running). runner.code) c.self.view_is
 
--- the node at hand is that of the place
-at : (g : _) (c : After-at-node g) → slice_get c.args.self.now.code.net.sinks c.args.sink ≡ Some c.at-node.result.now
-at g c = subst (λ (code : Code). slice_get code.net.sinks c.args.sink ≡ Some c.at-node.result.now) (same_code g c) c.at-node.ensures
-
--- the sinks that the runner shows are those of its stations
-same_sinks : (g : _) (c : After-at-node g) → c.args.self.now.sinks ≡ sinks_of c.self.inside.stations.items
-same_sinks g c = ap (λ (runner : Running). runner.sinks) (sym c.self.view_is)
-
--- the sink found is that of which the block is asked
-asked : (g : _) (c : In-Some g) → IsAsked c.args.self.now c.args.sink c.at-node.result.now c.args.place c.in-Some.decoder
-asked g c =
-    let node = (goal.at.In-Some g c).After-at-node in
-    is-asked c.args.self.now c.requires.carried c.args.sink c.at-node.result.now (at g node) c.self.inside.stations.items (same_sinks g node)
-    c.index.result.now c.index.ensures c.in-Some.decoder c.in-Some.is c.args.place c.requires.place
-
-pub index-requires : goal.index-requires
-index-requires g c =
-    let node = (goal.at.index-requires g c).After-at-node in
-    let stations = c.self.inside.stations in
-    omega (
-      arith,
-      node-station c.args.self.now c.requires.carried c.args.sink c.at-node.result.now (at g node) stations.items (same_sinks g node),
-      stations.ok.0,
-    )
-
-pub block-requires-clause-begun : goal.block-requires-clause-begun
-block-requires-clause-begun g c =
-    subst (λ (runner : Running). IsBegun c.in-Some.decoder (runner.first + c.args.place)) (sym c.self.view_is)
-    (begun-there c.args.self.now c.args.sink c.at-node.result.now c.args.place c.in-Some.decoder (asked g (goal.at.block-requires-clause-begun g c).In-Some))
-
-pub block-requires-clause-whole : goal.block-requires-clause-whole
-block-requires-clause-whole g c =
-    subst (λ (runner : Running). is_whole c.in-Some.decoder (runner.first + c.args.place) ≡ true) (sym c.self.view_is)
-    (whole-block c.args.self.now c.args.sink c.at-node.result.now c.args.place c.in-Some.decoder (asked g (goal.at.block-requires-clause-whole g c).In-Some))
-
-pub block-requires-clause-room : goal.block-requires-clause-room
-block-requires-clause-room g c =
-    c.requires.room
-    ∙ ap (λ rate. rate * row_bytes) (sym (same-rate c.args.self.now c.args.sink c.at-node.result.now c.args.place c.in-Some.decoder
-    (asked g (goal.at.block-requires-clause-room g c).In-Some)))
-
-pub unreachable-requires : goal.unreachable-requires
-unreachable-requires g c =
-    let node = (goal.at.unreachable-requires g c).After-at-node in
-    has-sink c.args.self.now c.requires.carried c.args.sink c.at-node.result.now (at g node) c.self.inside.stations.items (same_sinks g node)
-    c.index.result.now c.index.ensures c.in-None.is
+-- what was copied is what the sink decoded
+copied : (g : _) (c : After-copy_from_slice g)
+    → c.copy_from_slice.new.self
+    ≡ block_in (c.args.self.now.code.rate * row_bytes) (slice_index_or c.args.self.now.decoded c.args.sink []) c.args.place
+copied g c =
+    let within : c.args.sink < length c.self.inside.decoded.items =
+    omega (arith, c.requires.sink, c.self.invariant.each_sink, ap (λ (runner : Running). length runner.code.net.sinks) c.self.view_is) in
+    let there : c.index.result.now ≡ slice_index_or c.args.self.now.decoded c.args.sink [] =
+    c.index.ensures
+    ∙ get_or_default c.self.inside.decoded.items c.args.sink c.index.result.now [] within
+    ∙ ap (λ (runner : Running). slice_index_or runner.decoded c.args.sink []) c.self.view_is in
+    let rate : c.code.result.now.rate ≡ c.args.self.now.code.rate = ap (λ (code : Code). code.rate) (same_code g c) in
+    let block : c.copy_from_slice.new.self ≡ block_in (c.code.result.now.rate * row_bytes) c.index.result.now c.args.place =
+    c.copy_from_slice.ensures.after ∙ c.block.ensures in
+    subst₂ (λ rate blocks. c.copy_from_slice.new.self ≡ block_in (rate * row_bytes) blocks c.args.place) rate there block
 
 pub returns-clause-value : goal.returns-clause-value
 returns-clause-value g c = λ moves by.
-    c.block.ensures.value
-    ∙ ap (λ (runner : Running). decoded c.in-Some.decoder (runner.first + c.args.place)) c.self.view_is
-    ∙ decoded-given c.args.self.now c.args.sink c.at-node.result.now c.args.place c.in-Some.decoder (asked g (goal.at.returns-clause-value g c).In-Some) moves by
+    copied g (goal.at.returns-clause-value g c).After-copy_from_slice
+    ∙ block-given c.args.self.now c.requires.decoded c.args.sink c.args.place c.requires.sink c.requires.place moves by
 
 pub returns-clause-carried : goal.returns-clause-carried
 returns-clause-carried g c = λ window run state running faithful.
-    let accepted : IsAccepted c.args.self.now.code =
-    subst IsAccepted (same_code g (goal.at.returns-clause-carried g c).After-at-node) c.code.ensures.accepted in
-    block-there c.args.self.now c.args.sink c.at-node.result.now c.args.place c.in-Some.decoder (asked g (goal.at.returns-clause-carried g c).In-Some)
-    c.block.new.into window run state running faithful
-    (λ demand below takes.
-    c.block.ensures.traffic c.args.self.now.code demand window accepted below takes
-    ∙ ap (λ (runner : Running). block_at window (runner.first + c.args.place)) c.self.view_is)
+    let at = (goal.at.returns-clause-carried g c).After-copy_from_slice in
+    copied g at
+    ∙ block-carried c.args.self.now c.requires.decoded c.args.sink c.args.place c.requires.sink c.requires.place
+    (subst IsAccepted (same_code g at) c.code.ensures.accepted) window run state running faithful

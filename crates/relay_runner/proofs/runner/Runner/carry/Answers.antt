@@ -34,6 +34,7 @@ runner_begun g c =
       first = c.self.inside.next;
       count = c.start_window-count.result;
       next = c.self.inside.next + c.start_window-count.result;
+      decoded = c.self.inside.decoded.items;
       has_failed = c.self.inside.failed;
     }
 
@@ -65,6 +66,8 @@ invariant_of-self g c =
       pattern_is = c.self.invariant.pattern_is;
       planned = λ works. start-planned code c.self.inside.pattern (window_from code c.self.inside.next c.args.blocks.now) (relays_of (begun g at))
           (sinks_of (begun g at)) (starts g at);
+      each_sink = c.self.invariant.each_sink;
+      rooms = c.self.invariant.rooms;
     }
 
 pub run-requires-clause-start : goal.run-requires-clause-start

@@ -28,6 +28,8 @@ invariant_of-self g c =
       planned = λ works. first-planned g.K.Links c.self.inside.code.now c.self.inside.pattern c.self.inside.stations.items c.code.result.now.net.source
           c.index_mut.result.now place c.index_mut.ensures.value c.args.links.now c.requires.nothing_flies can.window can.starts g.met.K.Links.accounts
           c.put_due.new.node c.put_due.new.links c.in-Ok.ensures.put;
+      each_sink = c.self.invariant.each_sink;
+      rooms = c.self.invariant.rooms;
     }
 
 pub returns-in_default-clause-stopped : goal.returns-in_default-clause-stopped
@@ -45,7 +47,7 @@ turns-init g c =
     let place = ap (λ (code : Code). code.net.source) c.code.ensures.value in
     first-way g.K.Links c.self.inside.code.now c.self.inside.pattern c.self.inside.stations.items c.code.result.now.net.source c.index_mut.result.now
     place c.index_mut.ensures.value c.args.links.now c.requires.nothing_flies g.met.K.Links.accounts c.self.inside.first c.self.inside.count
-    c.self.inside.next c.self.inside.failed c.args.self.now c.self.view_is c.requires.works c.requires.start c.requires.room
+    c.self.inside.next c.self.inside.decoded.items c.self.inside.failed c.args.self.now c.self.view_is c.requires.works c.requires.start c.requires.room
     c.put_due.new.node c.put_due.new.links c.in-Ok.ensures.put
 
 pub returns-in_err-turn-clause-stopped : goal.returns-in_err-turn-clause-stopped

@@ -32,4 +32,6 @@ invariant_of-self g c =
       pattern_is = c.self.invariant.pattern_is;
       planned = λ works.
           subst (λ (stations : List (Station g.row.F.Denot)). ArePlanned code pattern (relays_of stations) (sinks_of stations)) (sym back) of_code;
+      each_sink = c.self.invariant.each_sink;
+      rooms = c.self.invariant.rooms;
     }
