@@ -50,7 +50,6 @@ abbrev pub faithful_ones : ListLinks → Bool
 faithful_ones links = length (spoils_in links) == 0
 
 -- the puts and the takes that are to fail
-
 abbrev pub put_fails_in : ListLinks → List ℕ
 put_fails_in links = links.put_fails.items
 
