@@ -115,7 +115,7 @@ fn codes_are_checked_side_by_side(rt: HostRuntime) -> Result<(), test::Fail> {
     let mut store = store_of(rt.alloc(), &text)?;
     let line = "compiled rate 1 field 8 demands 256\n";
     run(&rt, rt.alloc(), &compiles(line), &mut store, &Status::Done)?;
-    let code = store.file("code").unwrap_or(&[]);
+    let code = store.file("code").ok_or("no code")?;
     assert!(rt; four_meet(&rt, rt.alloc(), CHECK, code));
     Ok(())
 }
