@@ -41,7 +41,8 @@ fn calls_with<R: Threads + Sync>(rt: &R, alloc: Global, repeats: u64) -> Option<
 fn pairs_put<R: Threads + Sync>(rt: &R, alloc: Global) -> Option<Vec<Flight>> {
     let mut links = watch(alloc, SeedLinks::new(alloc));
     let sent = is_sent(rt, alloc, &SEVENS, &mut links);
-    sent.then_some(links.calls.puts)
+    let calls = links.calls;
+    sent.then_some(calls.puts)
 }
 
 // Whether each pair of a list is once in another.

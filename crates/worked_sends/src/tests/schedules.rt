@@ -113,7 +113,7 @@ fn spoils(alloc: Global, draws: &mut Draws) -> Option<Vec<Spoil>> {
 }
 
 // The schedule of a seed. One source in eight has two generations or more.
-fn schedule(alloc: Global, seed: u32) -> Option<Schedule> {
+fn drawn(alloc: Global, seed: u32) -> Option<Schedule> {
     let mut draws = Draws::of(seed);
     let longest = if draws.below(8) == 0 { 3000 } else { 500 };
     Some(Schedule {
@@ -218,7 +218,7 @@ fn runs_as_modelled<R: Threads + Sync>(
     plan: &Plan,
     seed: u32,
 ) -> Option<bool> {
-    let schedule = schedule(alloc, seed)?;
+    let schedule = drawn(alloc, seed)?;
     let source = source_of(alloc, schedule.length)?;
     let [put, take] = schedule.fails;
     let script = Script {
