@@ -77,9 +77,10 @@ fn goes<R: Threads + Sync>(
     line: &str,
     file: &[u8],
 ) -> bool {
-    let (Some(mut store), Some(links)) =
-        (store_of(alloc, ONE_LINK, b"\x41"), hostile(alloc, script))
-    else {
+    let (Some(mut store), Some(links)) = (
+        store_of(alloc, ONE_LINK, b"\x41"),
+        hostile(alloc, script),
+    ) else {
         return false;
     };
     let mut links = links;
@@ -107,7 +108,10 @@ const BYTES: &[(&str, Script<'static>, &[u8])] = &[
     (
         "all bits are changed",
         Script {
-            spoils: &[Spoil { mask: 0xff, ..SPOIL }],
+            spoils: &[Spoil {
+                mask: 0xff,
+                ..SPOIL
+            }],
             ..PLAIN
         },
         b"\xbe",

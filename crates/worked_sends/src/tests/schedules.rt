@@ -65,7 +65,7 @@ struct Schedule {
 // A number that no call has.
 const NEVER: u64 = 1_000_000;
 
-// The number of a call that fails: one in four times none does.
+// The number of a call that fails, where it is made: one in four times one is drawn.
 fn fail(draws: &mut Draws) -> u64 {
     if draws.below(4) == 0 {
         u64::from(draws.below(200)) + 1
@@ -159,7 +159,11 @@ fn fail_as_listed(calls: &Calls, fails: [u64; 2]) -> bool {
 // Whether all pairs were put, given and taken that a run makes which is done, each kept one once more.
 fn are_all(calls: &Calls, schedule: &Schedule, pairs: usize) -> bool {
     let given = calls.given.len();
-    let kept = schedule.keeps.iter().filter(|nth| **nth <= given as u64).count();
+    let kept = schedule
+        .keeps
+        .iter()
+        .filter(|nth| **nth <= given as u64)
+        .count();
     calls.puts.len() == pairs
         && given == pairs.saturating_add(kept)
         && calls.takes as usize == given.saturating_add(1)
