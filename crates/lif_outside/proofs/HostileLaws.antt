@@ -35,9 +35,9 @@ count_above-falls n (x ∷ xs) is =
     let counts = sum_by-cons (λ y. cond (nat_lt (n + 1) y) 1 0) x xs in
     let counts_before = sum_by-cons (λ y. cond (nat_lt n y) 1 0) x xs in
     ⊎_elim
-        (λ (here : (x == n + 1) ≡ true). omega (arith, counts, counts_before, above_listed n x here, count_above-le n (n + 1) (omega arith) xs))
-        (λ (later : list_any (λ y. y == n + 1) xs ≡ true). omega (arith, counts, counts_before, above_one n (n + 1) x (omega arith), count_above-falls n xs later))
-        (or_cases _ _ is)
+    (λ (here : (x == n + 1) ≡ true). omega (arith, counts, counts_before, above_listed n x here, count_above-le n (n + 1) (omega arith) xs))
+    (λ (later : list_any (λ y. y == n + 1) xs ≡ true). omega (arith, counts, counts_before, above_one n (n + 1) x (omega arith), count_above-falls n xs later))
+    (or_cases _ _ is)
 
 -- a take that keeps its pair is one of those that are still to come, until it is counted
 pub falls_at_kept : (takes after : ℕ) (keeps : List ℕ) → (nat_lt takes (2 ^ 64 - 1) && list_any (λ nth. nth == takes + 1) keeps) ≡ true → after ≡ one_more takes
@@ -79,8 +79,8 @@ goes_or_stays false flying left room seed keeps takes after place pair is items 
 front_one : (nth : ℕ) (frame : List ℕ) (spoil : Spoil) → take address_bytes (spoil_one nth frame spoil) ≡ take address_bytes frame
 front_one nth frame spoil =
     elim (spoil.nth == nth) as (λ b. take address_bytes (if b then slice_set frame (place_in_frame spoil) (bit_xor (slice_index frame (place_in_frame spoil)) spoil.mask) else frame) ≡ take address_bytes frame) [
-      true ↦ take-set-le address_bytes frame (place_in_frame spoil) _ (omega arith)
-    | false ↦ refl
+      | true ↦ take-set-le address_bytes frame (place_in_frame spoil) _ (omega arith)
+      | false ↦ refl
     ]
 
 front_spoiled : (spoils : List Spoil) (nth : ℕ) (frame : List ℕ) → take address_bytes (spoiled spoils nth frame) ≡ take address_bytes frame

@@ -8,10 +8,9 @@ mod spoils;
 #[cfg(test)]
 mod tests;
 
-pub use spoils::Spoil;
-
 use crate::memory::parts::{count_one, failed, place_of};
 use crate::{Failed, Flight, Links};
+pub use spoils::Spoil;
 use spoils::spoiled;
 use std::alloc::{AllocError, Global};
 

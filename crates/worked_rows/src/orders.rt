@@ -58,9 +58,7 @@ pub fn hostile(alloc: Global, script: &Script<'_>) -> Option<ListLinks>
     let spoils = Vec::from_slice(alloc, script.spoils).ok()?;
     let put_fails = Vec::from_slice(alloc, script.put_fails).ok()?;
     let take_fails = Vec::from_slice(alloc, script.take_fails).ok()?;
-    Some(ListLinks::hostile(
-        alloc, picks, keeps, spoils, put_fails, take_fails,
-    ))
+    Some(ListLinks::hostile(alloc, picks, keeps, spoils, put_fails, take_fails))
 }
 
 /// Links that give the pair at a listed place, for the first 400 takes: by rule 0 the oldest, by rule 1 the newest, by any

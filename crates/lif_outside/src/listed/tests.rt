@@ -71,7 +71,11 @@ fn what_cannot_be_told_is_a_fault(rt: HostRuntime) -> Result<(), test::Fail> {
 
 // Takes by the trait, and says the link with the first two bytes of the payload.
 fn given<L: Links>(links: &mut L) -> Result<Option<(u32, u8, u8)>, Failed> {
-    Ok(links.take()?.map(|flight| (flight.link, flight.frame[12], flight.frame[13])))
+    Ok(
+        links
+            .take()?
+            .map(|flight| (flight.link, flight.frame[12], flight.frame[13])),
+    )
 }
 
 #[test]

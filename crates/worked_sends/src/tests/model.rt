@@ -79,9 +79,12 @@ fn blocks_of(
     let room = size.saturating_sub(4).max(1);
     let mut blocks = Vec::new(alloc);
     for generation in 0..generations {
-        let rest = source.get(generation.saturating_mul(room)..).unwrap_or_default();
+        let rest = source
+            .get(generation.saturating_mul(room)..)
+            .unwrap_or_default();
         let bytes = rest.get(..room).unwrap_or(rest);
-        blocks.extend_from_slice(&(bytes.len() as u32).to_be_bytes())?;
+        let count = u32::try_from(bytes.len()).unwrap_or(u32::MAX);
+        blocks.extend_from_slice(&count.to_be_bytes())?;
         blocks.extend_from_slice(bytes)?;
         blocks.resize(generation.saturating_add(1).saturating_mul(size), 0)?;
     }
@@ -167,8 +170,13 @@ impl Model {
 
     // A piece of a row of a block.
     fn piece_of_row(&self, generation: usize, row: usize, piece: usize) -> Option<&[u8]> {
-        let rows = generation.saturating_mul(self.plan.rate).saturating_add(row);
-        let start = rows.saturating_mul(8).saturating_add(piece).saturating_mul(128);
+        let rows = generation
+            .saturating_mul(self.plan.rate)
+            .saturating_add(row);
+        let start = rows
+            .saturating_mul(8)
+            .saturating_add(piece)
+            .saturating_mul(128);
         self.blocks.get(start..start.saturating_add(128))
     }
 
@@ -203,13 +211,13 @@ impl Model {
 
     // Whether a pair that is put is due: a frame of its link, with what the link carries.
     fn is_due(&self, flight: &Flight) -> bool {
-        let [link, piece, generation] = [flight.link as u8, flight.frame[3], flight.frame[11]];
+        let Ok(link) = u8::try_from(flight.link) else {
+            return false;
+        };
+        let (piece, generation) = (flight.frame[3], flight.frame[11]);
         let address = [0x4c, 0x46, 1, piece, 0, 0, 0, link, 0, 0, 0, generation];
         let carried = self.carried(generation as usize, link as usize, piece as usize);
-        flight.link < 256
-            && piece < 8
-            && flight.frame.starts_with(&address)
-            && carried == Some(payload_of(flight))
+        piece < 8 && flight.frame.starts_with(&address) && carried == Some(payload_of(flight))
     }
 
     /// Whether all pairs that are put are due, and none is put twice.

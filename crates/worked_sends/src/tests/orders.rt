@@ -185,7 +185,8 @@ fn put_with<R: Threads + Sync>(rt: &R, alloc: Global, seed: &str) -> Option<Vec<
     };
     let mut links = watch(alloc, SeedLinks::new(alloc));
     let sent = is_sent(rt, alloc, &sending, &mut links);
-    sent.then_some(links.calls.puts)
+    let calls = links.calls;
+    sent.then_some(calls.puts)
 }
 
 // Whether a pair is put as often in both.

@@ -41,7 +41,8 @@ fn calls_with<R: Threads + Sync>(rt: &R, alloc: Global, repeats: u64) -> Option<
 fn pairs_put<R: Threads + Sync>(rt: &R, alloc: Global) -> Option<Vec<Flight>> {
     let mut links = watch(alloc, SeedLinks::new(alloc));
     let sent = is_sent(rt, alloc, &SEVENS, &mut links);
-    sent.then_some(links.calls.puts)
+    let calls = links.calls;
+    sent.then_some(calls.puts)
 }
 
 // Whether each pair of a list is once in another.
@@ -76,9 +77,10 @@ fn goes<R: Threads + Sync>(
     line: &str,
     file: &[u8],
 ) -> bool {
-    let (Some(mut store), Some(links)) =
-        (store_of(alloc, ONE_LINK, b"\x41"), hostile(alloc, script))
-    else {
+    let (Some(mut store), Some(links)) = (
+        store_of(alloc, ONE_LINK, b"\x41"),
+        hostile(alloc, script),
+    ) else {
         return false;
     };
     let mut links = links;
@@ -106,7 +108,10 @@ const BYTES: &[(&str, Script<'static>, &[u8])] = &[
     (
         "all bits are changed",
         Script {
-            spoils: &[Spoil { mask: 0xff, ..SPOIL }],
+            spoils: &[Spoil {
+                mask: 0xff,
+                ..SPOIL
+            }],
             ..PLAIN
         },
         b"\xbe",

@@ -65,7 +65,7 @@ struct Schedule {
 // A number that no call has.
 const NEVER: u64 = 1_000_000;
 
-// The number of a call that fails: one in four times none does.
+// The number of a call that fails, where it is made: one in four times one is drawn.
 fn fail(draws: &mut Draws) -> u64 {
     if draws.below(4) == 0 {
         u64::from(draws.below(200)) + 1
@@ -113,7 +113,7 @@ fn spoils(alloc: Global, draws: &mut Draws) -> Option<Vec<Spoil>> {
 }
 
 // The schedule of a seed. One source in eight has two generations or more.
-fn schedule(alloc: Global, seed: u32) -> Option<Schedule> {
+fn drawn(alloc: Global, seed: u32) -> Option<Schedule> {
     let mut draws = Draws::of(seed);
     let longest = if draws.below(8) == 0 { 3000 } else { 500 };
     Some(Schedule {
@@ -159,7 +159,11 @@ fn fail_as_listed(calls: &Calls, fails: [u64; 2]) -> bool {
 // Whether all pairs were put, given and taken that a run makes which is done, each kept one once more.
 fn are_all(calls: &Calls, schedule: &Schedule, pairs: usize) -> bool {
     let given = calls.given.len();
-    let kept = schedule.keeps.iter().filter(|nth| **nth <= given as u64).count();
+    let kept = schedule
+        .keeps
+        .iter()
+        .filter(|nth| **nth <= given as u64)
+        .count();
     calls.puts.len() == pairs
         && given == pairs.saturating_add(kept)
         && calls.takes as usize == given.saturating_add(1)
@@ -218,7 +222,7 @@ fn runs_as_modelled<R: Threads + Sync>(
     plan: &Plan,
     seed: u32,
 ) -> Option<bool> {
-    let schedule = schedule(alloc, seed)?;
+    let schedule = drawn(alloc, seed)?;
     let source = source_of(alloc, schedule.length)?;
     let [put, take] = schedule.fails;
     let script = Script {

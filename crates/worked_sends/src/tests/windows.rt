@@ -81,7 +81,8 @@ fn puts<R: Threads + Sync>(rt: &R, alloc: Global) -> Option<Vec<Flight>> {
     let mut links = watch(alloc, SeedLinks::new(alloc));
     let line = "sent 17000 bytes in 9 generations to 2 sinks\n";
     let ended = ends(rt, alloc, SEND, &mut store, &mut links, 0, line);
-    ended.then_some(links.calls.puts)
+    let calls = links.calls;
+    ended.then_some(calls.puts)
 }
 
 // Whether the frame of a pair has the number of this generation.
