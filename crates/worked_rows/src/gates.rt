@@ -1,4 +1,6 @@
 //! Gates that tell which jobs enter them.
+ghost use Rattle.std.specs.Prelude.{◌<◌};
+
 use lif_outside::Gate;
 use std::sync::atomic::{AtomicU64, Ordering};
 
@@ -64,6 +66,51 @@ impl Gate for Meeting {
         self.entries.enter(job);
         for _turn in 0..MOST_TURNS {
             if self.entries.counted() != one_of(job) {
+                return;
+            }
+        }
+        self.alone.fetch_add(1, Ordering::SeqCst);
+    }
+}
+
+/// A gate at which a job that enters for the n-th time turns until some other job has entered n times. So a job meets only
+/// those of its own stage, where each job enters once for each stage. It counts as `Entries` does, up to nine entries of a
+/// job, and the jobs that no other one met.
+#[derive(Drop)]
+pub struct Pairing {
+    counted: AtomicU64,
+    alone: AtomicU64,
+}
+
+impl Pairing {
+    /// One that no job has entered.
+    pub fn new() -> Pairing {
+        Pairing {
+            counted: AtomicU64::new(0),
+            alone: AtomicU64::new(0),
+        }
+    }
+
+    /// Whether each job met another one.
+    pub fn all_meet(&self) -> bool {
+        self.alone.load(Ordering::SeqCst) == 0
+    }
+}
+
+// How often a job has entered.
+fn times(counted: u64, job: u32) -> u64
+    ensures { result < 10 }
+{
+    counted.checked_div(one_of(job)).unwrap_or(0) % 10
+}
+
+impl Gate for Pairing {
+    fn enter(&self, job: u32) {
+        let before = self.counted.fetch_add(one_of(job), Ordering::SeqCst);
+        let nth = times(before, job) + 1;
+        for _turn in 0..MOST_TURNS {
+            let counted = self.counted.load(Ordering::SeqCst);
+            if (0..19).any(|other| other != job && times(counted, other) >= nth) {
                 return;
             }
         }

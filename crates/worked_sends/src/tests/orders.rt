@@ -10,7 +10,7 @@ use worked_rows::runs::source_of;
 use worked_rows::watched::watch;
 
 /// Four middle nodes, with a sink behind each two of them.
-const COMBINATION_TEXT: &[u8] = b"source s\n\
+pub(super) const COMBINATION_TEXT: &[u8] = b"source s\n\
     sink t1\n\
     sink t2\n\
     sink t3\n\
@@ -36,8 +36,13 @@ const COMBINATION_TEXT: &[u8] = b"source s\n\
 
 const SIX_SINKS: &[&str] = &["out.t1", "out.t2", "out.t3", "out.t4", "out.t5", "out.t6"];
 
-// The code that `compile` makes of a text, where it says this line.
-fn compiled<R: Threads + Sync>(rt: &R, alloc: Global, text: &[u8], line: &str) -> Option<Vec<u8>> {
+/// The code that `compile` makes of a text, where it says this line.
+pub(super) fn compiled<R: Threads + Sync>(
+    rt: &R,
+    alloc: Global,
+    text: &[u8],
+    line: &str,
+) -> Option<Vec<u8>> {
     let mut store = MemStore::new(alloc, 65536, Vec::new(alloc));
     store.put_file(alloc, "net", text).ok()?;
     let words = &["compile", "net", "code", "report"];
