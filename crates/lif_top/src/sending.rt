@@ -33,14 +33,7 @@ fn interrupted<'a>(fault: StreamFault) -> Outcome<'a>
 }
 
 // Creates the sinks' files, over links that were opened, and streams the source to them.
-fn deliver<
-    'a,
-    F: Field + Send + Sync,
-    S: Store,
-    K: Links,
-    G: Gate + Sync,
-    R: Threads + Sync,
->(
+fn deliver<'a, F: Field + Send + Sync, S: Store, K: Links, G: Gate + Sync, R: Threads + Sync>(
     rt: &R,
     words: &SendWords<'a>,
     code: &Checked,
@@ -68,14 +61,7 @@ fn deliver<
 }
 
 // Sends the source through an accepted code, of which `F` is the field.
-fn send_over<
-    'a,
-    F: Field + Send + Sync,
-    S: Store,
-    K: Links,
-    G: Gate + Sync,
-    R: Threads + Sync,
->(
+fn send_over<'a, F: Field + Send + Sync, S: Store, K: Links, G: Gate + Sync, R: Threads + Sync>(
     rt: &R,
     alloc: Global,
     words: &SendWords<'a>,

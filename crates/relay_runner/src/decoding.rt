@@ -67,13 +67,7 @@ impl DecodedBlocks {
 }
 
 // Writes the blocks of a size that a sink decodes of so many generations from one on, one after another.
-fn decode_blocks<F: Field>(
-    sink: &Decoder<F>,
-    size: usize,
-    first: u32,
-    count: u32,
-    into: &mut [u8],
-)
+fn decode_blocks<F: Field>(sink: &Decoder<F>, size: usize, first: u32, count: u32, into: &mut [u8])
     requires all { (rate : ℕ) × (size ≡ rate * row_bytes) × HasAll rate first count sink.now }
     requires last { first + count ≤ 2 ^ 32 }
     requires room { count * size ≤ length into.old }
@@ -146,7 +140,14 @@ fn decode_run<F: Field, G: Gate>(
 {
     gate.enter((start / size) as u32);
     for place in 0..blocks.len() {
-        decode_sink(code, stations, first, count, start + place, &mut blocks[place]);
+        decode_sink(
+            code,
+            stations,
+            first,
+            count,
+            start + place,
+            &mut blocks[place],
+        );
     }
 }
 
