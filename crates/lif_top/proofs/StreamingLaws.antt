@@ -19,7 +19,7 @@ use Rattle.lif_outside.specs.Sequences.{Are, IsFrontOf}
 use Rattle.lif_outside.specs.Streams.{gave_nothing, have_ended, is_read, is_write, reads_in, writes_in}
 use Rattle.lif_outside.proofs.RunLaws.{bytes_read-append, reads_more}
 use Rattle.lif_outside.proofs.SequenceLaws.{all_append, all_split, front_all, stops_behind}
-use Rattle.lif_outside.proofs.StreamLaws.{AreDue, AreWrites, due_all, due_none, due_stops, reads_of_all, stops_are_writes, whole_gave}
+use Rattle.lif_outside.proofs.StreamLaws.{AreDue, AreWrites, due_all, due_none, due_stops, reads_of_all, split_at_call, stops_are_writes, whole_gave}
 use Rattle.node_program.specs.declared.code.Code.{Code}
 use Rattle.relay_runner.specs.Carried.{packets_given}
 use Rattle.top_base.specs.Inputs.{ReadsAny}
