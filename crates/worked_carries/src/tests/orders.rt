@@ -99,7 +99,7 @@ fn by_repeats<R: Threads + Sync>(rt: &R, alloc: Global, file: &[u8]) -> Option<b
         windows: 1,
     };
     let mut links = hostile(alloc, &script)?;
-    Some(carries(alloc, &code, course, &mut links, &source))
+    Some(carries(rt, alloc, &code, course, &mut links, &source, &NoGate))
 }
 
 #[test]
