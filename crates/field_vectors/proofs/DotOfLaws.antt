@@ -52,6 +52,16 @@ module _ {A : Type 0} {P : A → Type 0} {nought one : A} {add mul : A → A →
       ap (mul x) (sym (F.zero_add nought F.zero_element)) ∙ F.mul_add x nought nought p F.zero_element F.zero_element
       ∙ F.add_self (mul x nought) (F.mul_element x nought p F.zero_element)
 
+  -- a row plus zero times another
+  pub plus_multiple-nought : (row other : List A) → All P row → All P other → length row ≡ length other → plus_multiple add mul row nought other ≡ row
+  plus_multiple-nought [] other h k same = refl
+  plus_multiple-nought (x ∷ row) [] h k same = absurd (omega arith)
+  plus_multiple-nought (x ∷ row) (y ∷ other) h k same =
+      let p = All-head P x row h in
+      let q = All-head P y other k in
+      ap₂ (λ (a b : _). a ∷ b) (ap (add x) (F.mul_comm nought y F.zero_element q ∙ mul-nought y q) ∙ add-nought x p)
+      (plus_multiple-nought row other (All-tail P x row h) (All-tail P y other k) (omega arith))
+
   -- an element times one
   pub mul-one : (x : A) → P x → mul x one ≡ x
   mul-one x p = F.mul_comm x one p F.one_element ∙ F.one_mul x p

@@ -5,7 +5,7 @@ use Rattle.std.proofs.Math.Logic.{∥∥₁_elim, ∥∥₁_prop, ∥∥₁_map�
 use Rattle.std.proofs.lemmas.Bool.Decides.{Decides-and, Decides-like}
 use mathlib.Core.HLevel.{Σ_prop_path, hedberg}
 use Rattle.gf_tables.specs.Field.{IsField}
-use Rattle.gf_tables.specs.Pairs.{pair, AreElements, pair_add, pair_mul, norm, pair_inv}
+use Rattle.gf_tables.specs.Pairs.{pair, AreElements, pair_add, pair_mul, product_by_sums, norm, pair_inv}
 use Rattle.gf_tables.specs.declared.quad.Quad.{Quad}
 
 -- a commutative ring in which each element is its own opposite
@@ -64,6 +64,10 @@ module _ {E : Type 0} {zero one : E} {add mul : E → E → E} (R : IsRing zero 
     one_mul = λ x. simp (one_mul, mul_zero, zero_mul, add_zero);
     mul_add = λ x y z. simp (mul_add, add_assoc, add_comm, add_left_comm);
   }
+
+  -- the product of two pairs by that of their sums
+  mul-by_sums : (root : E) (x y : Quad E) → pair_mul add mul root x y ≡ product_by_sums add mul root x y
+  mul-by_sums root x y = simp (mul_add, add_mul, mul_assoc, add_assoc, add_comm, add_left_comm, add_self, zero_add)
 
   -- where d is one divided by the norm, the inverse is what its name says
   mul-inv : (root : E) (x : Quad E) (d : E) → mul (norm add mul root x.low x.high) d ≡ one → pair_mul add mul root x (pair_inv add mul root (λ _. d) x) ≡ pair one zero
@@ -152,6 +156,17 @@ module _ {A : Type 0} {is_element : A → Type 0} {zero one : A} {add mul : A �
   }
 
   module _ {root : A} (root_element : is_element root) where
+    -- the product of two pairs of elements by that of their sums
+    pub pair_mul-by_sums : (x y : Quad A) → AreElements is_element x → AreElements is_element y → pair_mul add mul root x y ≡ product_by_sums add mul root x y
+    pair_mul-by_sums x y p q = ap pair_of_values (mul-by_sums elements (with_proof root root_element) (pair_of_elements x p) (pair_of_elements y q))
+
+    -- a product of pairs with zero
+    pub pair_zero_mul : (x : Quad A) → AreElements is_element x → pair_mul add mul root (pair zero zero) x ≡ pair zero zero
+    pair_zero_mul x p = ap pair_of_values (zero_mul (pairs elements (with_proof root root_element)) (pair_of_elements x p))
+
+    pub pair_mul_zero : (x : Quad A) → AreElements is_element x → pair_mul add mul root x (pair zero zero) ≡ pair zero zero
+    pair_mul_zero x p = ap pair_of_values (mul_zero (pairs elements (with_proof root root_element)) (pair_of_elements x p))
+
     -- a norm is an element
     norm_element : (a b : A) → is_element a → is_element b → is_element (norm add mul root a b)
     norm_element a b p q = search (F.add_element, F.mul_element)

@@ -117,11 +117,17 @@ impl<F: NoRoot> Field for Quad<F> {
     }
 
     fn mul(self, other: Self) -> Self {
-        let top = self.high.mul(other.high);
-        let cross = self.low.mul(other.high).add(self.high.mul(other.low));
+        // `number` tells that the parts are elements, over which products go apart.
+        let _ = (self.number(), other.number());
+        if self == Quad::zero() || other == Quad::zero() {
+            return Quad::zero();
+        }
+        let low = self.low.mul(other.low);
+        let sums = self.low.add(self.high).mul(other.low.add(other.high));
+        let top = F::of_number(F::C).mul(self.high).mul(other.high);
         Quad {
-            low: self.low.mul(other.low).add(F::of_number(F::C).mul(top)),
-            high: cross.add(top),
+            low: low.add(top),
+            high: sums.add(low),
         }
     }
 

@@ -2,7 +2,11 @@
 -- and as the columns of the inverse of the vectors.
 use Rattle.std.specs.Prelude.{◌≡◌, ◌≢◌, ◌≤◌, ◌<◌, ℕ, List, length}
 use Rattle.field_vectors.specs.Elements.{column_of, dot_of, plus_multiple, multiple_of}
-use Rattle.field_vectors.specs.Grid.{Grid, IsMatrix, row_of}
+use Rattle.field_vectors.specs.Grid.{Grid, IsMatrix, row_of, with_row}
+
+-- A row has in addition its product with the vector times the path's row.
+abbrev pub IsCleared : {A : Type 0} → A → (A → A → A) → (A → A → A) → ℕ → List A → ℕ → Grid A → Grid A → Type 0
+IsCleared zero add mul path vector k old new = new ≡ with_row old k (plus_multiple add mul (row_of old k) (dot_of zero add mul vector (row_of old k)) (row_of old path))
 
 -- Each row below the limit, other than the path's, has in addition its product with the vector times the path's row.
 -- All others are as they were.

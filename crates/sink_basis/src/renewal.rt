@@ -3,7 +3,7 @@ ghost use Rattle.std.specs.Prelude.{◌≡◌, ◌≢◌, ◌+◌, ◌*◌, ◌<
 ghost use Rattle.counted_steps.specs.Steps.{RoseByAtMost};
 ghost use Rattle.field_vectors.specs.Elements.{dot_of, identity_of};
 ghost use Rattle.field_vectors.specs.Grid.{IsMatrix, row_of};
-ghost use Rattle.sink_basis.specs.Renewal.{IsClearedBelow, IsRenewed};
+ghost use Rattle.sink_basis.specs.Renewal.{IsCleared, IsClearedBelow, IsRenewed};
 
 use crate::basis::Frontier;
 use counted_steps::Steps;
@@ -34,7 +34,29 @@ pub fn identity<F: Field>(alloc: Global, size: u32) -> Result<Matrix<F>, AllocEr
     Ok(matrix)
 }
 
-// Adds to each other row its product with the vector times the path's row. It counts two steps for each entry
+// Adds to a row its product with the vector times the path's row. It counts at most two steps for each entry.
+fn clear_row<F: Field, L: Ledger>(
+    inverses: &mut Matrix<F>,
+    k: u32,
+    path: u32,
+    vector: &[F],
+    steps: &mut Steps<L>,
+)
+    requires row { k < length inverses.old.rows }
+    requires path { path < length inverses.old.rows }
+    requires apart { k ≢ path }
+    requires width { length vector.now ≡ inverses.old.columns }
+    ensures cleared { IsCleared F.zero F.add F.mul path vector.now k inverses.old inverses.new }
+    ensures kept { IsMatrix F.is_element inverses.new }
+    ensures ticks { RoseByAtMost (2 * inverses.old.columns) steps.old steps.new }
+{
+    let product = dot(vector, inverses.row(k), steps);
+    if product != F::zero() {
+        inverses.add_row(k, product, path, steps);
+    }
+}
+
+// Adds to each other row its product with the vector times the path's row. It counts at most two steps for each entry
 // of the other rows.
 fn clear_others<F: Field, L: Ledger>(
     inverses: &mut Matrix<F>,
@@ -52,8 +74,7 @@ fn clear_others<F: Field, L: Ledger>(
 {
     for k in 0..inverses.rows() {
         if k != path {
-            let product = dot(vector, inverses.row(k), steps);
-            inverses.add_row(k, product, path, steps);
+            clear_row(inverses, k, path, vector, steps);
         }
     }
 }

@@ -88,27 +88,28 @@ impl Search {
             .copy_from_slice(wiring.into.firsts.as_slice());
     }
 
-    // Passes a link from a node, and gives the node that it leads to, where that wasn't reached.
+    // Passes a link from an end of it, and gives the node that it leads to, where that wasn't reached.
     fn pass<L: Ledger>(
         &self,
         net: &Net,
         residual: &Residual,
         link: u32,
-        node: u32,
+        end: LinkEnd,
         steps: &mut Steps<L>,
     ) -> Option<u32>
         requires states { length residual.now.states ≡ length net.now.links }
         requires link { link < length net.now.links }
         requires places { HasPlaces (length net.now.nodes) self.now }
         ensures entry { IfSome result (λ next.
-            IsEntry net.now residual.now.states node self.now.reached.items
-            (record { node = next; link = link })) }
+            IsEntry net.now residual.now.states (end_of net.now.links end link)
+            self.now.reached.items (record { node = next; link = link })) }
         ensures known { IfNone result ((next : ℕ)
-            → passage net.now.links residual.now.states link node ≡ Some next
+            → passage net.now.links residual.now.states link (end_of net.now.links end link)
+            ≡ Some next
             → is_on self.now.reached.items next ≡ true) }
         ensures ticks { RoseBy 1 steps.old steps.new }
     {
-        let next = residual.cross(net, link, node, steps)?;
+        let next = residual.cross_from(net, link, end, steps)?;
         if self.reached[next as usize] {
             return None;
         }
@@ -143,7 +144,7 @@ impl Search {
         let mut link = first;
         while link < count {
             let next = chains.nexts[link as usize];
-            if let Some(node) = self.pass(net, residual, link, node, steps) {
+            if let Some(node) = self.pass(net, residual, link, end, steps) {
                 let entry = Some(Entry { node, link });
                 return Passed { next, entry };
             }
