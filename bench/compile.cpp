@@ -277,7 +277,9 @@ private:
         for (int place = 0; place < rate; place++) own[place] = Field::product(scale, own[place]);
         for (int other = 0; other < rate; other++) {
             Element *inverse = &basis.inverses[other * rate];
-            if (other != path) add_scaled(inverse, dot(vector, inverse, rate), own, rate);
+            if (other == path) continue;
+            Element product = dot(vector, inverse, rate);
+            if (product != 0) add_scaled(inverse, product, own, rate);
         }
         basis.frontier[path] = link;
     }

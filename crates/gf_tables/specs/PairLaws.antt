@@ -5,8 +5,15 @@ use Rattle.std.proofs.Math.Logic.{∥∥₁_elim, ∥∥₁_prop, ∥∥₁_map�
 use Rattle.std.proofs.lemmas.Bool.Decides.{Decides-and, Decides-like}
 use mathlib.Core.HLevel.{Σ_prop_path, hedberg}
 use Rattle.gf_tables.specs.Field.{IsField}
-use Rattle.gf_tables.specs.Pairs.{pair, AreElements, pair_add, pair_mul, product_by_sums, norm, pair_inv}
+use Rattle.gf_tables.specs.Pairs.{pair, AreElements, pair_add, pair_mul, norm, pair_inv}
 use Rattle.gf_tables.specs.declared.quad.Quad.{Quad}
+
+module _ {A : Type 0} (add mul : A → A → A) (root : A) where
+  -- the product of two pairs by that of their sums, which has the cross products
+  abbrev pub product_by_sums : Quad A → Quad A → Quad A
+  product_by_sums x y =
+      let low = mul x.low y.low in
+      pair (add low (mul (mul root x.high) y.high)) (add (mul (add x.low x.high) (add y.low y.high)) low)
 
 -- a commutative ring in which each element is its own opposite
 record IsRing {E : Type 0} (zero one : E) (add mul : E → E → E) : Type 0 where

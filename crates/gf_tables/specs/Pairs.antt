@@ -21,12 +21,6 @@ module _ {A : Type 0} (add mul : A → A → A) (root : A) where
       let top = mul x.high y.high in
       pair (add (mul x.low y.low) (mul root top)) (add (add (mul x.low y.high) (mul x.high y.low)) top)
 
-  -- the same by the product of their sums, which has the cross products
-  abbrev pub product_by_sums : Quad A → Quad A → Quad A
-  product_by_sums x y =
-      let low = mul x.low y.low in
-      pair (add low (mul (mul root x.high) y.high)) (add (mul (add x.low x.high) (add y.low y.high)) low)
-
   -- the product of a + b*y and its conjugate, which has no high part
   abbrev pub norm : A → A → A
   norm a b = add (add (mul a a) (mul a b)) (mul root (mul b b))

@@ -16,10 +16,14 @@ use std::marker::Model;
 use std::thread::{Threads, for_each_chunk_mut};
 
 /// How many runs of sinks are decoded side by side, at most.
-const RUNS: usize = 4;
+const MOST_RUNS: usize = 4;
 
-/// How many sinks a run has, at least, but for the last one: to start a thread takes longer than to decode at a few sinks.
+/// How many sinks there are for each run, at least: to start a thread takes longer than to decode at a few sinks.
 const LEAST_SINKS: usize = 3;
+
+/// How many products of a row with an element there are for each run, at least, where there are more than two runs: to
+/// start a thread takes about as long as a thousand of them.
+const LEAST_PRODUCTS: usize = 2048;
 
 /// What a sink decoded of a window: room for the blocks of 4 generations, one after another.
 #[derive(Drop)]
@@ -151,6 +155,17 @@ fn decode_run<F: Field, G: Gate>(
     }
 }
 
+// How many sinks a run has, but for the last one, where so many generations are decoded at so many sinks.
+fn run_size(sinks: usize, count: u32, rate: u32) -> usize
+    ensures { 0 < result }
+{
+    let rows = (count as usize).saturating_mul(rate as usize);
+    let products = sinks.saturating_mul(rows).saturating_mul(rate as usize);
+    let wanted = (products / LEAST_PRODUCTS).max(2).min(MOST_RUNS);
+    let runs = wanted.min(sinks / LEAST_SINKS).max(1);
+    sinks.div_ceil(runs).max(1)
+}
+
 /// Decodes so many generations from one on at all sinks of a code, in at most four runs of sinks side by side.
 pub(crate) fn decode_sinks<F: Field + Send + Sync, G: Gate + Sync, R: Threads + Sync>(
     rt: &R,
@@ -169,7 +184,7 @@ pub(crate) fn decode_sinks<F: Field + Send + Sync, G: Gate + Sync, R: Threads + 
         → AreDecoded code.now (sinks_of stations.now) first count sink
         (slice_index_or blocks.new sink []) }
 {
-    let size = blocks.len().div_ceil(RUNS).max(LEAST_SINKS);
+    let size = run_size(blocks.len(), count, code.rate);
     for_each_chunk_mut(
         rt,
         blocks,
