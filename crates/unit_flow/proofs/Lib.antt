@@ -5,6 +5,7 @@ pub mod PassageLaws
 pub mod SideLaws
 pub mod StartSteps
 pub mod PassingSteps
+pub mod EnteredLaws
 pub mod SearchSteps
 pub mod ReachSteps
 pub mod CursorSteps

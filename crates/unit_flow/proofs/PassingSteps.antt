@@ -55,7 +55,7 @@ ends_below-next end count node link next inside ends is =
     ]
 
 -- no fewer links are below a greater bound
-ends_below-le : (end : ℕ → ℕ) (count node less more : ℕ) → less ≤ more → ends_below end count node less ≤ ends_below end count node more
+pub ends_below-le : (end : ℕ → ℕ) (count node less more : ℕ) → less ≤ more → ends_below end count node less ≤ ends_below end count node more
 ends_below-le end count node less more within =
     let implied = count_by-implied (λ l. (end l == node) && nat_lt l less) (λ l. (end l == node) && nat_lt l more) (range_with_len 0 count) (λ l below.
     let parts = and_parts _ _ below in

@@ -17,15 +17,16 @@ use Rattle.unit_flow.specs.declared.search.Search.{Search}
 pub record IsOnTheWay (network : FlowNetwork) (states : List LinkState) (search : Search) (before after : ℕ) : Type 0 where
   pub searching : IsSearching network states search
   pub away : is_on search.reached.items network.sink ≡ false
-  pub steps : after ≡ before + passed_links network.links search
+  pub not_back : before ≤ after
+  pub steps : after ≤ before + passed_links network.links search
 
 -- each link is passed twice at most
 pub passed_links-le : (links : List Link) (search : Search) → passed_links links search ≤ 2 * length links
 passed_links-le links search =
     omega (arith, passed_ends-le (tail_of links) (length links) (slice_index search.from.items), passed_ends-le (head_of links) (length links) (slice_index search.into.items))
 
-pub few_steps : (links : List Link) (search : Search) (before after : ℕ) → after ≡ before + passed_links links search → RoseByAtMost (2 * length links) before after
-few_steps links search before after is = let most = passed_links-le links search in record { not_below = omega arith; not_above = omega (arith, is, most) }
+pub few_steps : (links : List Link) (search : Search) (before after : ℕ) → before ≤ after → after ≤ before + passed_links links search → RoseByAtMost (2 * length links) before after
+few_steps links search before after not_back is = let most = passed_links-le links search in record { not_below = not_back; not_above = omega (arith, is, most) }
 
 -- where the way is at its end, the nodes that were reached are those that the source reaches
 pub IsReached-searched : (network : FlowNetwork) (states : List LinkState) (search : Search) → IsSearching network states search → search.depth ≡ 0 → IsReached network states search.reached.items

@@ -11,7 +11,7 @@ use Rattle.link_chains.specs.declared.wiring.Wiring.{Wiring}
 use Rattle.list_laws.proofs.Tests.{below_bound}
 use Rattle.net_model.specs.Flows.{FlowNetwork, is_on}
 use Rattle.net_model.specs.Walks.{head_of, tail_of}
-use Rattle.unit_flow.proofs.PassingSteps.{is_on-set, passed_ends-firsts, passed_ends-moved, passed_first}
+use Rattle.unit_flow.proofs.PassingSteps.{ends_below-le, is_on-set, passed_ends-firsts, passed_ends-moved, passed_first}
 use Rattle.unit_flow.specs.Conservation.{IsFlowNetwork}
 use Rattle.unit_flow.specs.Residual.{passage}
 use Rattle.unit_flow.specs.Searching.{ArePassed, CameByLink, EndsAt, HasPlaces, HaveLed, IsLeft, IsOnWay, IsSearching, KeepsWay, MovesAt, ends_below, last_of, link_at, node_at, passed_ends, passed_links}
@@ -145,6 +145,15 @@ counts_moved end count node first next old new before after inside new_is first_
     let before_is = ap (ends_below end count node) first_is in
     let after_is = ap (ends_below end count node) here in
     omega (arith, moved, before_is, after_is, counted)
+
+-- where a cursor alone goes on, no fewer links are before the cursors
+pub more_moved : (end : ℕ → ℕ) (count node next : ℕ) (old new : List ℕ) → node < length old → new ≡ slice_set old node next → slice_index old node ≤ next
+    → passed_ends end count (slice_index old) ≤ passed_ends end count (slice_index new)
+more_moved end count node next old new inside new_is further =
+    let here : slice_index new node ≡ next = ap (λ xs. slice_index xs node) new_is ∙ get_or-set_same old node next 0 inside in
+    let moved = passed_ends-moved end count node (slice_index old) (slice_index new) (λ n apart. ap (λ xs. slice_index xs n) new_is ∙ get_or-set_other old node n next 0 apart) in
+    let after_is = ap (ends_below end count node) here in
+    omega (arith, moved, after_is, ends_below-le end count node (slice_index old node) next further)
 
 -- a step that is counted later is counted
 pub counted_later : (entry : Option Entry) (before between after : ℕ) → before ≤ between → IfSome entry (λ one. between < after) → IfSome entry (λ one. before < after)

@@ -1,7 +1,7 @@
 -- Residual networks: which links may be passed, from which of their ends.
 use Rattle.std.specs.Prelude.{◌≡◌, ◌<◌, ℕ, Bool, true, false, ◌&&◌, ◌==◌, if◌then◌else◌, List, length, slice_get, Option, Some, None}
 use Rattle.std.specs.Option.{option_map_or}
-use Rattle.net_model.specs.Flows.{FlowNetwork, flow_network}
+use Rattle.net_model.specs.Flows.{FlowNetwork, flow_network, is_on}
 use Rattle.net_model.specs.Lists.{is_among}
 use Rattle.net_model.specs.Walks.{head_of, tail_of}
 use Rattle.net_model.specs.declared.Demand.{Demand}
@@ -58,6 +58,12 @@ pub record AreStates (network : FlowNetwork) (states : List LinkState) : Type 0 
 -- the states of a residual network are those of the links under a demand
 abbrev pub HasStates : Net → Demand → ResidualNetwork → Type 0
 HasStates net demand residual = AreStates (flow_network net demand) residual.states
+
+-- marks for each node, where each node that a used link leads into is marked
+pub record AreEntered (links : List Link) (nodes : ℕ) (states : List LinkState)
+    (entered : List Bool) : Type 0 where
+  pub each_node : length entered ≡ nodes
+  pub marked : (link : ℕ) → is_used states link ≡ true → is_on entered (head_of links link) ≡ true
 
 -- no link is used
 abbrev pub IsUnused : ResidualNetwork → Type 0

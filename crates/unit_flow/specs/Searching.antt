@@ -163,10 +163,10 @@ abbrev pub HaveLedIn : Net → ResidualNetwork → List Bool → Search → Type
 HaveLedIn net residual reached search =
     HaveLed (flow_network net residual.demand) residual.states search reached
 
--- so many links were passed between two states of a search, at a step each
+-- links were passed between two states of a search, at a step each at most
 pub record CountsPassed (net : Net) (old new : Search) (before after : ℕ) : Type 0 where
   pub not_back : before ≤ after
-  pub counted : after + passed_links net.links old ≡ before + passed_links net.links new
+  pub counted : after + passed_links net.links old ≤ before + passed_links net.links new
 
 -- more links were passed, or the way is shorter
 abbrev pub GoesOn : Net → Search → Search → Type 0

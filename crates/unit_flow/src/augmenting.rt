@@ -3,6 +3,7 @@ ghost use Rattle.std.specs.Prelude.{◌≡◌, ◌<◌, ◌*◌, true, false, le
 ghost use Rattle.counted_steps.specs.Steps.{RoseByAtMost};
 ghost use Rattle.link_chains.specs.Wiring.{IsWiring};
 ghost use Rattle.unit_flow.specs.FlowOf.{IsAugmented, turned, turned_from};
+ghost use Rattle.unit_flow.specs.Residual.{AreEntered};
 ghost use Rattle.unit_flow.specs.Searching.{EndsAt, HasPlaces, HasReached, IsWayIn, has_sink, sink_of};
 
 use crate::residual::{LinkState, Residual};
@@ -18,10 +19,13 @@ pub(crate) fn augment<L: Ledger>(
     wiring: &Wiring,
     residual: &mut Residual,
     search: &mut Search,
+    entered: &mut [bool],
     steps: &mut Steps<L>,
 ) -> bool
     requires wiring { IsWiring net.now.links (length net.now.nodes) wiring.now }
     requires states { length residual.old.states ≡ length net.now.links }
+    requires entered { AreEntered net.now.links (length net.now.nodes) residual.old.states
+        entered.old }
     requires sink { residual.old.demand.sink < length net.now.sinks }
     requires places { HasPlaces (length net.now.nodes) search.old }
     ensures demand { residual.new.demand ≡ residual.old.demand }
@@ -32,38 +36,49 @@ pub(crate) fn augment<L: Ledger>(
     ensures away { result ≡ false → has_sink net.now residual.old search.new ≡ false }
 
     ensures states { length residual.new.states ≡ length net.now.links }
+    ensures entered { AreEntered net.now.links (length net.now.nodes) residual.new.states
+        entered.new }
     ensures places { HasPlaces (length net.now.nodes) search.new }
     ensures ticks { RoseByAtMost (2 * length net.now.links) steps.old steps.new }
 {
-    if !search.reaches_sink(net, wiring, residual, steps) {
+    if !search.reaches_sink(net, wiring, residual, entered, steps) {
         return false;
     }
-    go_back(net, residual, search);
+    go_back(net, residual, search, entered);
     true
 }
 
 // Turns the links by which the sink was reached, from the sink back to the source.
-fn go_back(net: &Net, residual: &mut Residual, search: &Search)
+fn go_back(net: &Net, residual: &mut Residual, search: &Search, entered: &mut [bool])
     requires states { length residual.old.states ≡ length net.now.links }
+    requires entered { AreEntered net.now.links (length net.now.nodes) residual.old.states
+        entered.old }
     requires sink { residual.old.demand.sink < length net.now.sinks }
     requires way { IsWayIn net.now residual.old search.now }
     requires at_sink { EndsAt (sink_of net.now residual.old) search.now }
     ensures demand { residual.new.demand ≡ residual.old.demand }
     ensures states { length residual.new.states ≡ length net.now.links }
+    ensures entered { AreEntered net.now.links (length net.now.nodes) residual.new.states
+        entered.new }
     ensures more { IsAugmented net.now residual.old residual.new.states }
 {
     let mut node = residual.sink(net);
     while node != net.source {
-        node = turn(net, residual, search.came[node as usize]);
+        let link = search.came[node as usize];
+        node = turn(net, residual, entered, link);
     }
 }
 
 // Makes a used link free, or else used, and gives the node from which it could be passed.
-fn turn(net: &Net, residual: &mut Residual, link: u32) -> u32
+fn turn(net: &Net, residual: &mut Residual, entered: &mut [bool], link: u32) -> u32
     requires states { length residual.old.states ≡ length net.now.links }
     requires link { link < length net.now.links }
+    requires entered { AreEntered net.now.links (length net.now.nodes) residual.old.states
+        entered.old }
     ensures demand { residual.new.demand ≡ residual.old.demand }
     ensures states { residual.new.states ≡ turned residual.old.states link }
+    ensures entered { AreEntered net.now.links (length net.now.nodes) residual.new.states
+        entered.new }
     ensures node { result ≡ turned_from net.now.links residual.old.states link }
 {
     if residual.is_used(link) {
@@ -71,6 +86,7 @@ fn turn(net: &Net, residual: &mut Residual, link: u32) -> u32
         net.head(link)
     } else {
         residual.set_state(link, LinkState::Used);
+        entered[net.head(link) as usize] = true;
         net.tail(link)
     }
 }

@@ -71,8 +71,9 @@ pub fn max_flow_along<L: Ledger>(
 {
     let mut residual = Residual::start(alloc, net, demand)?;
     let mut search = Search::new(alloc, net.nodes.len())?;
+    let mut entered = vec![in alloc; false; net.nodes.len()]?;
     let mut value = 0;
-    while augment(net, wiring, &mut residual, &mut search, steps) {
+    while augment(net, wiring, &mut residual, &mut search, &mut entered, steps) {
         value += 1;
     }
     let paths = decompose(alloc, net, &wiring.from, residual, value)?;

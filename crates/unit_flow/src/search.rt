@@ -4,7 +4,7 @@ ghost use Rattle.counted_steps.specs.Steps.{RoseBy, RoseByAtMost};
 ghost use Rattle.link_chains.specs.Chains.{end_of};
 ghost use Rattle.link_chains.specs.Wiring.{IsWiring};
 ghost use Rattle.net_model.specs.Flows.{is_on};
-ghost use Rattle.unit_flow.specs.Residual.{passage};
+ghost use Rattle.unit_flow.specs.Residual.{AreEntered, passage};
 ghost use Rattle.unit_flow.specs.Searching.{CountsPassed, EndsAt, GoesOn, HasPassed, HasPlaces, HasReached, HaveLedIn, IsEntry, IsLeft, IsOnChain, IsSearchIn, IsWayIn, KeepsWay, MovesAt, has_sink, last_of, passed_links, sink_of, with_entry};
 
 use crate::residual::Residual;
@@ -156,16 +156,20 @@ impl Search {
         }
     }
 
-    // The next node that wasn't reached, from the node that is looked at.
+    // The next node that wasn't reached, from the node that is looked at. Links into the node are passed back where they
+    // are used alone: where none ever was, all of them are left out.
     fn next_entry<L: Ledger>(
         &mut self,
         net: &Net,
         wiring: &Wiring,
         residual: &Residual,
+        entered: &[bool],
         steps: &mut Steps<L>,
     ) -> Option<Entry>
         requires wiring { IsWiring net.now.links (length net.now.nodes) wiring.now }
         requires states { length residual.now.states ≡ length net.now.links }
+        requires entered { AreEntered net.now.links (length net.now.nodes) residual.now.states
+            entered.now }
         requires searching { IsSearchIn net.now residual.now self.old }
         requires some { 0 < self.old.depth }
         ensures way { KeepsWay self.old self.new }
@@ -184,6 +188,10 @@ impl Search {
         self.from[node as usize] = passed.next;
         if passed.entry.is_some() {
             return passed.entry;
+        }
+        if !entered[node as usize] {
+            self.into[node as usize] = net.links.len() as u32;
+            return None;
         }
         let first = self.into[node as usize];
         let passed = self.pass_chain(net, wiring, LinkEnd::Head, residual, node, first, steps);
@@ -217,11 +225,14 @@ impl Search {
         net: &Net,
         wiring: &Wiring,
         residual: &Residual,
+        entered: &[bool],
         sink: u32,
         steps: &mut Steps<L>,
     ) -> bool
         requires wiring { IsWiring net.now.links (length net.now.nodes) wiring.now }
         requires states { length residual.now.states ≡ length net.now.links }
+        requires entered { AreEntered net.now.links (length net.now.nodes) residual.now.states
+            entered.now }
         requires searching { IsSearchIn net.now residual.now self.old }
         requires some { 0 < self.old.depth }
         requires away { is_on self.old.reached.items sink ≡ false }
@@ -231,7 +242,7 @@ impl Search {
         ensures ticks { CountsPassed net.now self.old self.new steps.old steps.new }
         ensures sooner { GoesOn net.now self.old self.new }
     {
-        let Some(entry) = self.next_entry(net, wiring, residual, steps) else {
+        let Some(entry) = self.next_entry(net, wiring, residual, entered, steps) else {
             self.depth -= 1;
             return false;
         };
@@ -245,10 +256,13 @@ impl Search {
         net: &Net,
         wiring: &Wiring,
         residual: &Residual,
+        entered: &[bool],
         steps: &mut Steps<L>,
     ) -> bool
         requires wiring { IsWiring net.now.links (length net.now.nodes) wiring.now }
         requires states { length residual.now.states ≡ length net.now.links }
+        requires entered { AreEntered net.now.links (length net.now.nodes) residual.now.states
+            entered.now }
         requires sink { residual.now.demand.sink < length net.now.sinks }
         requires places { HasPlaces (length net.now.nodes) self.old }
         ensures way { IsWayIn net.now residual.now self.new }
@@ -260,7 +274,7 @@ impl Search {
         let sink = residual.sink(net);
         self.begin(net, wiring, residual);
         while self.depth > 0 {
-            if self.go_on(net, wiring, residual, sink, steps) {
+            if self.go_on(net, wiring, residual, entered, sink, steps) {
                 return true;
             }
         }

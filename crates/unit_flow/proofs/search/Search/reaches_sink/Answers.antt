@@ -4,7 +4,7 @@ use Rattle.unit_flow.proofs.ReachSteps.{IsReached-searched, few_steps, passed_li
 use Rattle.unit_flow.proofs.search.Search.reaches_sink.Goals as goal
 
 pub loop-self-init : goal.loop-self-init
-loop-self-init g c = record { searching = c.begin.ensures.searching; away = c.begin.ensures.sink; steps = omega (arith, c.begin.ensures.passed) }
+loop-self-init g c = record { searching = c.begin.ensures.searching; away = c.begin.ensures.sink; not_back = omega arith; steps = omega (arith, c.begin.ensures.passed) }
 
 pub go_on-requires-clause-searching : goal.go_on-requires-clause-searching
 go_on-requires-clause-searching g c = c.loop-self.invariant.searching
@@ -14,7 +14,8 @@ go_on-requires-clause-away g c = ap (is_on c.loop-self.self.reached.items) c.sin
 
 pub returns-then-go_on-clause-ticks : goal.returns-then-go_on-clause-ticks
 returns-then-go_on-clause-ticks g c =
-    few_steps c.args.net.now.links c.go_on.new.self c.args.steps.now c.go_on.new.steps (omega (arith, c.loop-self.invariant.steps, c.go_on.ensures.ticks.counted))
+    few_steps c.args.net.now.links c.go_on.new.self c.args.steps.now c.go_on.new.steps (omega (arith, c.loop-self.invariant.not_back, c.go_on.ensures.ticks.not_back))
+    (omega (arith, c.loop-self.invariant.steps, c.go_on.ensures.ticks.counted))
 
 pub loop-self-smaller : goal.loop-self-smaller
 loop-self-smaller g c = omega (arith, c.go_on.ensures.sooner, passed_links-le c.args.net.now.links c.go_on.new.self)
@@ -24,6 +25,7 @@ loop-self-preserved g c =
     record {
       searching = c.go_on.ensures.searching;
       away = sym (ap (is_on c.go_on.new.self.reached.items) c.sink-sink.ensures) ∙ c.go_on.ensures.sink ∙ c.if-go_on.false;
+      not_back = omega (arith, c.loop-self.invariant.not_back, c.go_on.ensures.ticks.not_back);
       steps = omega (arith, c.loop-self.invariant.steps, c.go_on.ensures.ticks.counted);
     }
 
@@ -37,4 +39,4 @@ pub returns-clause-reached : goal.returns-clause-reached
 returns-clause-reached g c = λ _. IsReached-searched (flow_network c.args.net.now c.args.residual.now.demand) c.args.residual.now.states c.loop-self.self c.loop-self.invariant.searching (omega (arith, c.loop-self-test.false))
 
 pub returns-clause-ticks : goal.returns-clause-ticks
-returns-clause-ticks g c = few_steps c.args.net.now.links c.loop-self.self c.args.steps.now c.loop-self.steps c.loop-self.invariant.steps
+returns-clause-ticks g c = few_steps c.args.net.now.links c.loop-self.self c.args.steps.now c.loop-self.steps c.loop-self.invariant.not_back c.loop-self.invariant.steps
