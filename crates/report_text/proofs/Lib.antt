@@ -1,2 +1,4 @@
 pub mod PrintableLaws
+mod JoinSteps
 mod Lengths
+mod RunLaws

@@ -3,5 +3,7 @@
 
 mod report;
 mod room;
+mod runs;
 
 pub use report::{entry, head};
+pub use runs::entries;

@@ -17,8 +17,8 @@ use std::alloc::{AllocError, Global};
 use std::thread::Threads;
 use top_base::{Line, Outcome, Status, read_ordered};
 
-/// The most jobs that certificates are cut into.
-const WORKERS: u32 = 4;
+/// The most jobs that certificates are cut into, and so are the lines of their report.
+pub(crate) const WORKERS: u32 = 4;
 
 /// What a network makes of a command that has more demands than a field serves.
 pub fn crowded<'a>(net: &Net) -> Outcome<'a>
@@ -45,7 +45,7 @@ fn report<G: Gate + Sync, R: Threads + Sync>(
     ensures { IfOk result (λ text. IsReport net.now text.items) }
 {
     let certs = certify_all_along(rt, alloc, net, wiring, WORKERS, gate)?;
-    report_of(alloc, net, rate(&certs), &certs)
+    report_of(rt, alloc, net, rate(&certs), &certs, WORKERS)
 }
 
 // Says the report of a network's certificates, where a field serves its demands.

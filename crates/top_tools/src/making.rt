@@ -9,7 +9,7 @@ ghost use Rattle.topo_order.specs.Order.{order_of};
 ghost use Rattle.top_tools.specs.Compile.Made.{IsServedBy};
 ghost use Rattle.top_tools.specs.Compile.Ready.{IsReady, IsUnmade, RefusesOrLosesIt};
 
-use crate::cutting::crowded;
+use crate::cutting::{WORKERS, crowded};
 use crate::reporting::report_of;
 use code_file::write_code;
 use counted_steps::Steps;
@@ -39,7 +39,8 @@ pub struct Made<'a> {
 }
 
 // What is written and said of a code of a network, and of certificates of its rate.
-fn of_code<'a>(
+fn of_code<'a, R: Threads + Sync>(
+    rt: &R,
     alloc: Global,
     net: &Net,
     code: &Code,
@@ -51,7 +52,7 @@ fn of_code<'a>(
 {
     Ok(Made {
         code: write_code(alloc, code)?,
-        report: report_of(alloc, net, code.rate, certs)?,
+        report: report_of(rt, alloc, net, code.rate, certs, WORKERS)?,
         line: Line::compiled(code),
     })
 }
@@ -123,7 +124,7 @@ fn make_over<'a, F: Field, G: Gate + Sync, R: Threads + Sync>(
     ensures refused { IfErr result (RefusesOrLosesIt net.now) }
 {
     match code_in::<F, G, Brand, R>(rt, alloc, net, wiring, order, gate, Blank::new(1)) {
-        Ok((code, certs)) => Ok(of_code(alloc, net, &code, &certs)?),
+        Ok((code, certs)) => Ok(of_code(rt, alloc, net, &code, &certs)?),
         Err(why) => Err(unmade(alloc, net, why)),
     }
 }

@@ -1,38 +1,29 @@
 //! The report of certificates, for the commands that make one.
-ghost use Rattle.std.specs.Prelude.{◌≡◌, ◌++◌, IfOk, OnOk};
-ghost use Rattle.std.specs.List.{flat_map};
+ghost use Rattle.std.specs.Prelude.{◌≡◌, ◌≤◌, IfOk};
 ghost use Rattle.cut_witness.specs.Certificate.{AreCertificates};
-ghost use Rattle.report_text.specs.Report.{entry_text, report_of};
+ghost use Rattle.report_text.specs.Report.{report_of};
 
 use cut_witness::Cert;
 use net_model::Net;
-use report_text::{entry, head};
+use report_text::{entries, head};
 use std::alloc::{AllocError, Global};
+use std::thread::Threads;
 
-// Adds the lines of certificates to a text.
-fn push_entries(
+/// The report of certificates, with a rate. At most so many workers make its lines, side by side.
+pub fn report_of<R: Threads + Sync>(
+    rt: &R,
     alloc: Global,
-    text: &mut Vec<u8>,
     net: &Net,
+    rate: u32,
     certs: &[Cert],
-) -> Result<(), AllocError>
-    requires { AreCertificates net.now certs.now }
-    ensures { OnOk result
-        (text.new.items ≡ text.old.items ++ flat_map (entry_text net.now) certs.now) }
-{
-    for cert in certs {
-        let lines = entry(alloc, net, cert)?;
-        text.extend_from_slice(&lines)?;
-    }
-    Ok(())
-}
-
-/// The report of certificates, with a rate.
-pub fn report_of(alloc: Global, net: &Net, rate: u32, certs: &[Cert]) -> Result<Vec<u8>, AllocError>
-    requires { AreCertificates net.now certs.now }
+    workers: u32,
+) -> Result<Vec<u8>, AllocError>
+    requires certificates { AreCertificates net.now certs.now }
+    requires workers { 1 ≤ workers }
     ensures { IfOk result (λ text. text.items ≡ report_of net.now rate certs.now) }
 {
     let mut text = head(alloc, rate)?;
-    push_entries(alloc, &mut text, net, certs)?;
+    let mut lines = entries(rt, alloc, net, certs, workers)?;
+    text.append(&mut lines)?;
     Ok(text)
 }

@@ -9,7 +9,7 @@ use Rattle.top_tools.specs.Compile.Ready.{files_of}
 use Rattle.topo_order.specs.Order.{order_of}
 
 pub returns : goal.returns
-returns c = λ given.
+returns g c = λ given.
     let net = c.args.net.now in
     let code = c.args.code.now in
     let report = c.in_ok-report_of.field-0.items in

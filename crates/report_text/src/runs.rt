@@ -1,0 +1,58 @@
+//! The lines of certificates, made in runs side by side.
+ghost use Rattle.std.specs.Prelude.{◌≡◌, ◌≤◌, All, IfOk, flat_map};
+ghost use Rattle.report_text.specs.Report.{IsPrintable, entry_text};
+ghost use Rattle.report_text.specs.Runs.{AreJoined};
+
+use crate::report::entry;
+use cut_witness::Cert;
+use net_model::Net;
+use std::alloc::{AllocError, Global};
+use std::thread::{Threads, map_chunks};
+
+/// The lines of certificates, those of one after those of another. They are made in at most so many runs of adjacent
+/// certificates, side by side.
+pub fn entries<R: Threads + Sync>(
+    rt: &R,
+    alloc: Global,
+    net: &Net,
+    certs: &[Cert],
+    workers: u32,
+) -> Result<Vec<u8>, AllocError>
+    requires workers { 1 ≤ workers }
+    requires printable { All (IsPrintable net.now) certs.now }
+    ensures { IfOk result (λ text. text.items ≡ flat_map (entry_text net.now) certs.now) }
+{
+    let size = certs.len().div_ceil(workers as usize).max(1);
+    let texts = map_chunks(
+        rt,
+        alloc,
+        certs,
+        size,
+        &|_start: usize, run: &[Cert]| { run_entries(alloc, net, run) },
+    )?;
+    join(alloc, texts)
+}
+
+// The lines of one run of certificates.
+fn run_entries(alloc: Global, net: &Net, certs: &[Cert]) -> Result<Vec<u8>, AllocError>
+    requires { All (IsPrintable net.now) certs.now }
+    ensures { IfOk result (λ text. text.items ≡ flat_map (entry_text net.now) certs.now) }
+{
+    let mut text = Vec::new(alloc);
+    for cert in certs {
+        let lines = entry(alloc, net, cert)?;
+        text.extend_from_slice(&lines)?;
+    }
+    Ok(text)
+}
+
+// The texts of all runs, put together in their order.
+fn join(alloc: Global, texts: Vec<Result<Vec<u8>, AllocError>>) -> Result<Vec<u8>, AllocError>
+    ensures { IfOk result (λ whole. AreJoined texts.items whole.items) }
+{
+    let mut whole = Vec::new(alloc);
+    for text in texts {
+        whole.append(&mut text?)?;
+    }
+    Ok(whole)
+}
