@@ -13,7 +13,7 @@ ghost use Rattle.lif_top.specs.Send.Turns.{parts_from, turn_at, turns_from};
 ghost use Rattle.relay_runner.specs.Carried.{HasCarriedBy, packets_given};
 ghost use Rattle.relay_runner.specs.Decoding.{HasDecoded};
 
-use crate::delivery::{Delivery, DeliveryFault, SentCounts, WINDOW};
+use crate::delivery::{Delivery, DeliveryFault, SentCounts};
 use generation_frame::{ROW, cap, counted, cut};
 use gf_tables::Field;
 use lif_outside::{Failed, Gate, Links, Store};
@@ -70,6 +70,7 @@ impl<'c, F: Field> Delivery<'c, F> {
             → S.made store.old path }
         ensures runner { self.new.runner ≡ self.old.runner }
         ensures outputs { self.new.outputs ≡ self.old.outputs }
+        ensures window { self.new.window ≡ self.old.window }
         ensures gathered { self.new.gathered ≡ self.old.gathered }
         ensures kept { KeepsStore S.Store store.old store.new }
         ensures appended { OnOk result ((moves : List Move) → HasCarriedBy self.old.runner moves
@@ -99,6 +100,7 @@ impl<'c, F: Field> Delivery<'c, F> {
             → S.made store.old path }
         ensures runner { self.new.runner ≡ self.old.runner }
         ensures outputs { self.new.outputs ≡ self.old.outputs }
+        ensures window { self.new.window ≡ self.old.window }
         ensures gathered { self.new.gathered ≡ self.old.gathered }
         ensures still_made { (path : List ℕ) → Contains (paths_of self.old) path
             → S.made store.new path }
@@ -126,6 +128,7 @@ impl<'c, F: Field> Delivery<'c, F> {
             → S.made store.old path }
         ensures runner { self.new.runner ≡ self.old.runner }
         ensures outputs { self.new.outputs ≡ self.old.outputs }
+        ensures window { self.new.window ≡ self.old.window }
         ensures gathered { self.new.gathered ≡ self.old.gathered }
         ensures appended { OnOk result ((moves : List Move) → HasCarriedBy self.old.runner moves
             → MakesCalls S.Store store.old store.new (Are (appends_of (turns_from
@@ -142,18 +145,27 @@ impl<'c, F: Field> Delivery<'c, F> {
         Ok(())
     }
 
+    // How many bytes of the source the blocks of a window have room for.
+    fn window_bytes(&self) -> usize
+        ensures { result ≡ self.now.window * capacity self.now.runner.code.rate }
+    {
+        self.window * cap(self.rate) as usize
+    }
+
     // Gathers as many bytes as a window still has room for, from a place on, and answers the place behind them.
     fn fill(&mut self, bytes: &[u8], from: usize) -> usize
         requires from { from < length bytes.now }
-        requires room { vec_len self.old.gathered < 4 * capacity self.old.runner.code.rate }
+        requires room { vec_len self.old.gathered
+            < self.old.window * capacity self.old.runner.code.rate }
         ensures runner { self.new.runner ≡ self.old.runner }
         ensures outputs { self.new.outputs ≡ self.old.outputs }
+        ensures window { self.new.window ≡ self.old.window }
         ensures more { from < result }
         ensures within { result ≤ length bytes.now }
         ensures gathered { self.new.gathered.items
             ≡ self.old.gathered.items ++ slice_range bytes.now from result }
     {
-        let room = WINDOW * cap(self.rate) as usize - self.gathered.len();
+        let room = self.window_bytes() - self.gathered.len();
         let end = bytes.len().min(from + room);
         let Ok(()) = self.gathered.extend_from_slice(&bytes[from..end]) else {
             unreachable!()
@@ -186,12 +198,13 @@ impl<'c, F: Field + Send + Sync> Delivery<'c, F> {
         gate: &G,
     ) -> Result<(), DeliveryFault>
         requires some { 1 ≤ count }
-        requires few { count ≤ 4 }
+        requires few { count ≤ self.old.window }
         requires can { CanCarry self.old.runner (K.flying links.old) (K.room links.old) }
         requires numbered { self.old.runner.next + count ≤ 2 ^ 32 }
         requires made { (path : List ℕ) → Contains (paths_of self.old) path
             → S.made store.old path }
         ensures outputs { self.new.outputs ≡ self.old.outputs }
+        ensures window { self.new.window ≡ self.old.window }
         ensures moved { OnOk result (HasMoved count self.old.runner self.new.runner) }
         ensures can { OnOk result
             (CanCarry self.new.runner (K.flying links.new) (K.room links.new)) }
@@ -233,11 +246,12 @@ impl<'c, F: Field + Send + Sync> Delivery<'c, F> {
         requires made { (path : List ℕ) → Contains (paths_of self.old) path
             → S.made store.old path }
         ensures outputs { self.new.outputs ≡ self.old.outputs }
+        ensures window { self.new.window ≡ self.old.window }
         ensures gone_on { OnOk result (HasGoneOn self.old.runner self.new.runner) }
         ensures can { OnOk result
             (CanCarry self.new.runner (K.flying links.new) (K.room links.new)) }
         ensures room { OnOk result
-            (vec_len self.new.gathered < 4 * capacity self.old.runner.code.rate) }
+            (vec_len self.new.gathered < self.old.window * capacity self.old.runner.code.rate) }
         ensures gathered { OnOk result (IsBehind self.old.runner.code.rate
             (self.new.runner.next - self.old.runner.next)
             self.old.gathered.items self.new.gathered.items) }
@@ -248,17 +262,19 @@ impl<'c, F: Field + Send + Sync> Delivery<'c, F> {
             (blocks_from self.old.gathered.items self.old.runner.code.rate 0
             (self.new.runner.next - self.old.runner.next)) Are)) }
         ensures full { OnErr result
-            (4 * capacity self.old.runner.code.rate ≤ length self.old.gathered.items) }
+            (self.old.window * capacity self.old.runner.code.rate
+            ≤ length self.old.gathered.items) }
         ensures interrupted { IfErr result (λ fault.
             MakesBoth S.Store K.Links store.old store.new links.old links.new
             (InterruptsBlocks (K.faithful links.old) self.old.runner.code self.old.runner.pattern
             (paths_of self.old) self.old.runner.next
-            (blocks_from self.old.gathered.items self.old.runner.code.rate 0 4) fault)) }
+            (blocks_from self.old.gathered.items self.old.runner.code.rate 0 self.old.window)
+            fault)) }
     {
-        if self.gathered.len() < WINDOW * cap(self.rate) as usize {
+        if self.gathered.len() < self.window_bytes() {
             return Ok(());
         }
-        self.carry_gathered(rt, store, links, WINDOW, gate)
+        self.carry_gathered(rt, store, links, self.window, gate)
     }
 
     /// Gathers bytes of the source behind those that were gathered, and carries each window of whole blocks that they
@@ -271,18 +287,20 @@ impl<'c, F: Field + Send + Sync> Delivery<'c, F> {
         bytes: &[u8],
         gate: &G,
     ) -> Result<(), DeliveryFault>
-        requires room { vec_len self.old.gathered < 4 * capacity self.old.runner.code.rate }
+        requires room { vec_len self.old.gathered
+            < self.old.window * capacity self.old.runner.code.rate }
         requires short { self.old.runner.next * capacity self.old.runner.code.rate
             + vec_len self.old.gathered + length bytes.now ≤ 2 ^ 41 }
         requires can { CanCarry self.old.runner (K.flying links.old) (K.room links.old) }
         requires made { (path : List ℕ) → Contains (paths_of self.old) path
             → S.made store.old path }
         ensures outputs { self.new.outputs ≡ self.old.outputs }
+        ensures window { self.new.window ≡ self.old.window }
         ensures gone_on { OnOk result (HasGoneOn self.old.runner self.new.runner) }
         ensures can { OnOk result
             (CanCarry self.new.runner (K.flying links.new) (K.room links.new)) }
         ensures room { OnOk result
-            (vec_len self.new.gathered < 4 * capacity self.old.runner.code.rate) }
+            (vec_len self.new.gathered < self.old.window * capacity self.old.runner.code.rate) }
         ensures gathered { OnOk result (IsBehind self.old.runner.code.rate
             (self.new.runner.next - self.old.runner.next)
             (self.old.gathered.items ++ bytes.now) self.new.gathered.items) }
@@ -315,13 +333,15 @@ impl<'c, F: Field + Send + Sync> Delivery<'c, F> {
         links: &mut K,
         gate: &G,
     ) -> Result<(), DeliveryFault>
-        requires room { vec_len self.old.gathered < 4 * capacity self.old.runner.code.rate }
+        requires room { vec_len self.old.gathered
+            < self.old.window * capacity self.old.runner.code.rate }
         requires short { self.old.runner.next * capacity self.old.runner.code.rate
             + vec_len self.old.gathered ≤ 2 ^ 41 }
         requires can { CanCarry self.old.runner (K.flying links.old) (K.room links.old) }
         requires made { (path : List ℕ) → Contains (paths_of self.old) path
             → S.made store.old path }
         ensures outputs { self.new.outputs ≡ self.old.outputs }
+        ensures window { self.new.window ≡ self.old.window }
         ensures code { OnOk result (self.new.runner.code ≡ self.old.runner.code) }
         ensures delivered { OnOk result
             (MakesBoth S.Store K.Links store.old store.new links.old links.new

@@ -13,8 +13,12 @@ use lif_outside::Links;
 use relay_runner::Runner;
 use std::alloc::{AllocError, Global};
 
-/// How many blocks are carried at a time, at most.
-pub const WINDOW: usize = 4;
+/// How many blocks are carried at a time, at most: nodes and sinks have room for as many.
+const MOST_BLOCKS: usize = 4;
+
+/// Through how many links a window may go of which the frames that fly and the rows that are held stay in the nearest
+/// caches: through more links fewer blocks are carried at a time.
+const WINDOW_LINKS: usize = 256;
 
 /// How much was sent.
 #[derive(Drop)]
@@ -45,6 +49,8 @@ pub struct Delivery<'c, F> {
     pub runner: Runner<'c, F>,
     /// The path of each sink's file.
     pub outputs: Vec<String>,
+    /// How many blocks are carried at a time.
+    pub window: usize,
     /// What was gathered of the source and isn't carried yet: as much as the blocks of a window have room for, at most.
     pub gathered: Vec<u8>,
     /// Room for the blocks of a window.
@@ -53,10 +59,20 @@ pub struct Delivery<'c, F> {
     pub decoded: Vec<u8>,
     ghost rate_of: { rate ≡ runner.code.rate },
     ghost sinks: { vec_len outputs ≡ length runner.code.net.sinks },
-    ghost few: { vec_len gathered ≤ 4 * capacity runner.code.rate },
-    ghost room: { 4 * capacity runner.code.rate ≤ vec_capacity gathered },
-    ghost blocks_length: { vec_len blocks ≡ 4 * (runner.code.rate * row_bytes) },
+    ghost some: { 1 ≤ window },
+    ghost most: { window ≤ 4 },
+    ghost few: { vec_len gathered ≤ window * capacity runner.code.rate },
+    ghost room: { window * capacity runner.code.rate ≤ vec_capacity gathered },
+    ghost blocks_length: { vec_len blocks ≡ window * (runner.code.rate * row_bytes) },
     ghost decoded_length: { vec_len decoded ≡ runner.code.rate * row_bytes },
+}
+
+// How many blocks are carried at a time through so many links.
+fn window_of(links: usize) -> usize
+    ensures some { 1 ≤ result }
+    ensures few { result ≤ 4 }
+{
+    (WINDOW_LINKS / links.max(1)).clamp(1, MOST_BLOCKS)
 }
 
 impl<'c, F: Field> Delivery<'c, F> {
@@ -87,14 +103,16 @@ impl<'c, F: Field> Delivery<'c, F> {
     {
         let rate = code.code().rate;
         let block_bytes = rate as usize * ROW;
-        let gathered = Vec::with_capacity(alloc, WINDOW * cap(rate) as usize)?;
-        let blocks = vec![in alloc; 0u8; WINDOW * block_bytes]?;
+        let window = window_of(code.code().net.links.len());
+        let gathered = Vec::with_capacity(alloc, window * cap(rate) as usize)?;
+        let blocks = vec![in alloc; 0u8; window * block_bytes]?;
         let decoded = vec![in alloc; 0u8; block_bytes]?;
         let runner = Runner::open(alloc, code, pattern, seed, links)?;
         Ok(Delivery {
             rate,
             runner,
             outputs,
+            window,
             gathered,
             blocks,
             decoded,

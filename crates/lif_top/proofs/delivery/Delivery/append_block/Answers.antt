@@ -23,6 +23,7 @@ loop-sink-init g c = record {
   runner = refl;
   outputs = refl;
   gathered = refl;
+  window = refl;
   made = c.requires.made;
   calls = λ moves by. calls_of _ [] (g.met.S.Store.no_calls c.args.store.now) refl;
 }
@@ -48,6 +49,9 @@ returns-in_err-append_decoded-clause-outputs g c = c.append_decoded.ensures.outp
 
 pub returns-in_err-append_decoded-clause-gathered : goal.returns-in_err-append_decoded-clause-gathered
 returns-in_err-append_decoded-clause-gathered g c = c.append_decoded.ensures.gathered ∙ c.loop-sink.invariant.gathered
+
+pub returns-in_err-append_decoded-clause-window : goal.returns-in_err-append_decoded-clause-window
+returns-in_err-append_decoded-clause-window g c = c.append_decoded.ensures.window ∙ c.loop-sink.invariant.window
 
 pub returns-in_err-append_decoded-clause-still_made : goal.returns-in_err-append_decoded-clause-still_made
 returns-in_err-append_decoded-clause-still_made g c = λ path there. c.append_decoded.ensures.kept.still_made path (c.loop-sink.invariant.made path there)
@@ -79,6 +83,7 @@ loop-sink-preserved g c =
       runner = c.append_decoded.ensures.runner ∙ same;
       outputs = c.append_decoded.ensures.outputs ∙ c.loop-sink.invariant.outputs;
       gathered = c.append_decoded.ensures.gathered ∙ c.loop-sink.invariant.gathered;
+      window = c.append_decoded.ensures.window ∙ c.loop-sink.invariant.window;
       made = λ path there. c.append_decoded.ensures.kept.still_made path (c.loop-sink.invariant.made path there);
       calls = λ moves by.
           calls_then g.met.S.Store.more_calls _ _ _ (c.loop-sink.invariant.calls moves by)
@@ -98,6 +103,9 @@ returns-clause-outputs g c = c.loop-sink.invariant.outputs
 
 pub returns-clause-gathered : goal.returns-clause-gathered
 returns-clause-gathered g c = c.loop-sink.invariant.gathered
+
+pub returns-clause-window : goal.returns-clause-window
+returns-clause-window g c = c.loop-sink.invariant.window
 
 pub returns-clause-still_made : goal.returns-clause-still_made
 returns-clause-still_made g c = c.loop-sink.invariant.made

@@ -25,6 +25,7 @@ loop-place-init g c = record {
   runner = refl;
   outputs = refl;
   gathered = refl;
+  window = refl;
   made = c.requires.made;
   calls = λ moves by. calls_of _ [] (g.met.S.Store.no_calls c.args.store.now) refl;
 }
@@ -50,6 +51,9 @@ returns-in_err-append_block-clause-outputs g c = c.append_block.ensures.outputs 
 
 pub returns-in_err-append_block-clause-gathered : goal.returns-in_err-append_block-clause-gathered
 returns-in_err-append_block-clause-gathered g c = c.append_block.ensures.gathered ∙ c.loop-place.invariant.gathered
+
+pub returns-in_err-append_block-clause-window : goal.returns-in_err-append_block-clause-window
+returns-in_err-append_block-clause-window g c = c.append_block.ensures.window ∙ c.loop-place.invariant.window
 
 pub returns-in_err-append_block-clause-failed : goal.returns-in_err-append_block-clause-failed
 returns-in_err-append_block-clause-failed g c =
@@ -77,6 +81,7 @@ loop-place-preserved g c =
       runner = c.append_block.ensures.runner ∙ was.runner;
       outputs = c.append_block.ensures.outputs ∙ was.outputs;
       gathered = c.append_block.ensures.gathered ∙ was.gathered;
+      window = c.append_block.ensures.window ∙ was.window;
       made = λ path there. c.append_block.ensures.still_made path (subst (λ outputs. Contains (map string_bytes outputs.items) path) (sym was.outputs) there);
       calls = λ moves by.
           calls_then g.met.S.Store.more_calls _ _ _ (was.calls moves by)
@@ -96,6 +101,9 @@ returns-clause-outputs g c = c.loop-place.invariant.outputs
 
 pub returns-clause-gathered : goal.returns-clause-gathered
 returns-clause-gathered g c = c.loop-place.invariant.gathered
+
+pub returns-clause-window : goal.returns-clause-window
+returns-clause-window g c = c.loop-place.invariant.window
 
 pub returns-clause-appended : goal.returns-clause-appended
 returns-clause-appended g c = λ moves by.

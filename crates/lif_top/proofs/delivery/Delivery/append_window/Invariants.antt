@@ -15,6 +15,7 @@ invariant-loop-place g l =
       runner : l.self.runner ≡ work;
       outputs : l.self.outputs ≡ l.initial.self.outputs;
       gathered : l.self.gathered ≡ l.initial.self.gathered;
+      window : l.self.window ≡ l.initial.self.window;
       made : (path : List ℕ) → Contains (paths_of l.initial.self) path → g.S.Store.made l.store path;
       calls : (moves : List Move) → HasCarriedBy work moves
           → MakesCalls g.S.Store l.initial.store l.store

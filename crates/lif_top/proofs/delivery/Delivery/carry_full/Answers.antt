@@ -8,8 +8,8 @@ use Rattle.lif_top.specs.Send.Delivering.{DeliversBlocks, IsBehind}
 use Rattle.lif_top.specs.Send.Ready.{paths_of}
 use Rattle.lif_top.proofs.delivery.Delivery.carry_full.Goals as goal
 
-pub returns-then-len-cap-clause-delivered : goal.returns-then-len-cap-clause-delivered
-returns-then-len-cap-clause-delivered g c =
+pub returns-then-len-window_bytes-clause-delivered : goal.returns-then-len-window_bytes-clause-delivered
+returns-then-len-window_bytes-clause-delivered g c =
     let self = c.args.self.now in
     let runner = self.runner in
     let none : 0 ≡ runner.next - runner.next = omega arith in
@@ -25,11 +25,10 @@ pub returns-clause-gathered : goal.returns-clause-gathered
 returns-clause-gathered g c =
     let self = c.args.self.now in
     let rate = self.runner.code.rate in
-    let size : c.cap.result ≡ capacity rate = c.cap.ensures ∙ ap capacity self.rate_of in
-    let all : length self.gathered.items ≡ 4 * capacity rate = omega (arith, size, self.few, c.if-len-cap.false, c.len.ensures) in
+    let all : length self.gathered.items ≡ self.window * capacity rate = omega (arith, self.few, c.if-len-window_bytes.false, c.len.ensures, c.window_bytes.ensures) in
     on_ok_both c.carry_gathered.result
     (λ nothing moved.
-    let count : 4 ≡ c.carry_gathered.new.self.runner.next - self.runner.next = omega (arith, moved.next) in
+    let count : self.window ≡ c.carry_gathered.new.self.runner.next - self.runner.next = omega (arith, moved.next) in
     subst (λ left. IsBehind rate (c.carry_gathered.new.self.runner.next - self.runner.next) self.gathered.items left) (sym nothing)
-    (subst (λ n. IsBehind rate n self.gathered.items []) count (behind-all rate 4 self.gathered.items all)))
+    (subst (λ n. IsBehind rate n self.gathered.items []) count (behind-all rate self.window self.gathered.items all)))
     c.carry_gathered.ensures.nothing c.carry_gathered.ensures.moved

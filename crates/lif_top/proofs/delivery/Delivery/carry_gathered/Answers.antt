@@ -2,7 +2,7 @@ use Rattle.std.specs.Prelude.{◌+◌, ◌*◌, ◌<◌}
 use Rattle.std.proofs.Common.{◌≡◌, List, ℕ, length, take, refl, ap, ◌∙◌, sym, subst, subst₂, arith}
 use Rattle.std.specs.List.{concat}
 use Rattle.std.proofs.lemmas.List.{take_at}
-use Rattle.generation_frame.specs.Blocks.{row_bytes}
+use Rattle.generation_frame.specs.Blocks.{capacity, row_bytes}
 use Rattle.lif_outside.proofs.CallLaws.{both_on_links}
 use Rattle.lif_outside.specs.Runs.{StopsWithin}
 use Rattle.lif_outside.specs.Sequences.{Are}
@@ -57,12 +57,16 @@ invariant_of-self g c =
     let self = c.args.self.now in
     let code = c.carry.ensures.code in
     let rate : c.carry.new.self.code.rate ≡ self.runner.code.rate = ap (λ (code : Code). code.rate) code in
+    let room : self.window * capacity c.carry.new.self.code.rate ≡ self.window * capacity self.runner.code.rate = ap (λ rate. self.window * capacity rate) rate in
+    let size : self.window * (c.carry.new.self.code.rate * row_bytes) ≡ self.window * (self.runner.code.rate * row_bytes) = ap (λ rate. self.window * (rate * row_bytes)) rate in
     record {
       rate_of = self.rate_of ∙ sym rate;
       sinks = self.sinks ∙ ap (λ (code : Code). length code.net.sinks) (sym code);
+      some = self.some;
+      most = self.most;
       few = omega (arith, c.clear.ensures.len);
-      room = omega (arith, self.room, c.clear.ensures.capacity, rate);
-      blocks_length = omega (arith, self.blocks_length, rate);
+      room = omega (arith, self.room, c.clear.ensures.capacity, room);
+      blocks_length = omega (arith, self.blocks_length, size);
       decoded_length = omega (arith, self.decoded_length, rate);
     }
 

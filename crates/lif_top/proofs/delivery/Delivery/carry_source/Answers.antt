@@ -1,5 +1,5 @@
 use Rattle.std.specs.Prelude.{◌<◌, ◌+◌, ◌-◌, ◌*◌, ◌/◌}
-use Rattle.std.proofs.Common.{◌≡◌, ◌++◌, Bool, Contains, List, ℕ, length, map, refl, ap, ◌∙◌, sym, subst, arith, string_bytes, vec_len}
+use Rattle.std.proofs.Common.{◌≡◌, ◌++◌, Bool, Contains, List, ℕ, length, map, refl, ap, ◌∙◌, sym, subst, subst₂, arith, string_bytes, vec_len}
 use Rattle.std.proofs.lemmas.List.{length-drop}
 use Rattle.generation_frame.specs.Blocks.{block_count, capacity}
 use Rattle.lif_outside.proofs.CallLaws.{both_then, both_weaker}
@@ -40,7 +40,7 @@ rate g c gone_on = ap (λ (code : Code). code.rate) gone_on.code
 
 pub carry_last-requires-clause-room : goal.carry_last-requires-clause-room
 carry_last-requires-clause-room g c κs within =
-    subst (λ rate. vec_len c.gather.new.self.gathered < 4 * capacity rate) (sym (rate g (goal.at.carry_last-requires-clause-room g c).After-gather c.in_ok-gather.ensures.gone_on)) c.in_ok-gather.ensures.room
+    subst₂ (λ window rate. vec_len c.gather.new.self.gathered < window * capacity rate) (sym c.gather.ensures.window) (sym (rate g (goal.at.carry_last-requires-clause-room g c).After-gather c.in_ok-gather.ensures.gone_on)) c.in_ok-gather.ensures.room
 
 pub carry_last-requires-clause-short : goal.carry_last-requires-clause-short
 carry_last-requires-clause-short g c κs within =

@@ -1,5 +1,5 @@
 use Rattle.std.specs.Prelude.{◌<◌, ◌≤◌, ◌+◌, ◌-◌, ◌*◌, ◌/◌}
-use Rattle.std.proofs.Common.{◌≡◌, ◌++◌, [], Bool, Contains, List, ℕ, drop, length, map, take, slice_range, refl, ap, ◌∙◌, sym, subst, arith, string_bytes, vec_len}
+use Rattle.std.proofs.Common.{◌≡◌, ◌++◌, [], Bool, Contains, List, ℕ, drop, length, map, take, slice_range, refl, ap, ◌∙◌, sym, subst, subst₂, arith, string_bytes, vec_len}
 use Rattle.std.proofs.Math.Nat.{add-mul}
 use Rattle.std.proofs.lemmas.List.{append-nil, length-append, length-take-le, take_all}
 use Rattle.generation_frame.specs.Blocks.{capacity}
@@ -27,6 +27,7 @@ loop-place-init g c =
     record {
       gone_on = record { code = refl; pattern = refl; more = omega arith };
       outputs = refl;
+      window = refl;
       within = omega arith;
       room = c.requires.room;
       can = c.requires.can;
@@ -127,6 +128,7 @@ loop-place-preserved g c =
     let after = c.in_ok-carry_full.ensures in
     let filled = c.fill-place.new.self in
     let same_rate : filled.runner.code.rate ≡ rate = ap (λ (runner : Running). runner.code.rate) c.fill-place.ensures.runner ∙ ap (λ (code : Code). code.rate) was.gone_on.code in
+    let same_window : filled.window ≡ self.window = c.fill-place.ensures.window ∙ was.window in
     let done = blocks g at in
     let k = c.carry_full.new.self.runner.next - filled.runner.next in
     let same_next : filled.runner.next ≡ c.loop-place.self.runner.next = ap (λ (runner : Running). runner.next) c.fill-place.ensures.runner in
@@ -139,8 +141,9 @@ loop-place-preserved g c =
         more = omega (arith, same_next, was.gone_on.more, after.gone_on.more);
       };
       outputs = c.carry_full.ensures.outputs ∙ c.fill-place.ensures.outputs ∙ was.outputs;
+      window = c.carry_full.ensures.window ∙ same_window;
       within = c.fill-place.ensures.within;
-      room = subst (λ rate. vec_len c.carry_full.new.self.gathered < 4 * capacity rate) same_rate after.room;
+      room = subst₂ (λ window rate. vec_len c.carry_full.new.self.gathered < window * capacity rate) same_window same_rate after.room;
       can = after.can;
       faithful = (g.met.K.Links.accounts delivered.calls.on_links _ _ delivered.on_links).same_faithful ∙ was.faithful;
       made = λ path there. (g.met.S.Store.accounts delivered.calls.on_store _ _ delivered.on_store).counts.still_made path (was.made path there);
@@ -171,15 +174,15 @@ returns-in_err-carry_full-clause-interrupted g c =
     let why = c.in_err-carry_full.field-0.0 in
     let rest = drop c.fill-place.result c.args.bytes.now in
     let all : now g at ++ rest ≡ self.gathered.items ++ c.args.bytes.now = sym (rest-behind self.gathered.items c.args.bytes.now c.fill-place.result) in
-    let full : 4 * capacity rate ≤ length filled.gathered.items = subst (λ rate. 4 * capacity rate ≤ length filled.gathered.items) same_rate c.in_err-carry_full.ensures.full in
+    let full : filled.window * capacity rate ≤ length filled.gathered.items = subst (λ rate. filled.window * capacity rate ≤ length filled.gathered.items) same_rate c.in_err-carry_full.ensures.full in
     if_err _ c.from_residual.result why c.from_residual.ensures.1
     (both_then g.met.S.Store.more_calls g.met.K.Links.more_moves (DeliversBlocks faithful runner.code runner.pattern paths runner.next (blocks_from (before g at) rate 0 done) Are) _
     (InterruptsBytes faithful runner.code runner.pattern paths runner.next (self.gathered.items ++ c.args.bytes.now) (length (self.gathered.items ++ c.args.bytes.now) / capacity rate) why)
     was.calls c.in_err-carry_full.ensures.interrupted
     (λ front later is broken.
     subst (λ bytes. InterruptsBytes faithful runner.code runner.pattern paths runner.next bytes (length bytes / capacity rate) why (record { on_store = front.on_store ++ later.on_store; on_links = front.on_links ++ later.on_links })) all
-    (rest-interrupted faithful runner.code runner.pattern paths c.requires.can.known runner.next done 4 (now g at) filled.gathered.items rest (left g at) full front later why (some g at faithful front is)
-    (retold (λ faithful code pattern paths n. InterruptsBlocks faithful code pattern paths n (blocks_from filled.gathered.items code.rate 0 4) why later) g at broken))))
+    (rest-interrupted faithful runner.code runner.pattern paths c.requires.can.known runner.next done filled.window (now g at) filled.gathered.items rest (left g at) full front later why (some g at faithful front is)
+    (retold (λ faithful code pattern paths n. InterruptsBlocks faithful code pattern paths n (blocks_from filled.gathered.items code.rate 0 filled.window) why later) g at broken))))
 
 -- the end of the bytes
 whole : (front bytes : List ℕ) (place : ℕ) → place ≤ length bytes → length bytes ≤ place → front ++ take place bytes ≡ front ++ bytes

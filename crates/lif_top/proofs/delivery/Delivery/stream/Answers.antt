@@ -1,5 +1,6 @@
 use Rattle.std.specs.Prelude.{◌<◌, ◌≤◌, ◌+◌, ◌-◌, ◌*◌, ◌/◌}
-use Rattle.std.proofs.Common.{◌≡◌, ◌++◌, ◌∷◌, [], Bool, Contains, List, ℕ, Ok, length, map, take, refl, ap, ◌∙◌, sym, subst, arith, string_bytes, vec_len}
+use Rattle.std.proofs.Common.{◌≡◌, ◌++◌, ◌∷◌, [], Bool, Contains, List, ℕ, Ok, length, map, take, refl, ap, ◌∙◌, sym, subst, subst₂, arith, string_bytes, vec_len}
+use Rattle.std.proofs.Math.Nat.{one-le-mul}
 use Rattle.std.proofs.lemmas.List.{length-take-le}
 use Rattle.generation_frame.specs.Blocks.{block_count, capacity}
 use Rattle.lif_outside.proofs.CallLaws.{both_then, both_weaker}
@@ -25,11 +26,13 @@ loop-at-init g c =
     let self = c.args.self.now in
     let runner = self.runner in
     let some : 1 ≤ runner.code.rate = runner.code.code.draft.some_rate in
+    let size : 1 ≤ capacity runner.code.rate = omega (arith, some) in
     record {
       gone_on = record { code = refl; pattern = refl; more = omega arith };
       outputs = refl;
+      window = refl;
       within = omega arith;
-      room = omega (arith, self.gathered.ok.0, ap length c.requires.nothing, some);
+      room = omega (arith, self.gathered.ok.0, ap length c.requires.nothing, one-le-mul self.some size);
       can = c.requires.can;
       faithful = refl;
       made = c.requires.made;
@@ -184,8 +187,9 @@ loop-at-preserved g c =
         more = omega (arith, was.gone_on.more, after.gone_on.more);
       };
       outputs = c.gather.ensures.outputs ∙ was.outputs;
+      window = c.gather.ensures.window ∙ was.window;
       within = c.in-Ok.ensures.past;
-      room = subst (λ rate. vec_len c.gather.new.self.gathered < 4 * capacity rate) same_rate after.room;
+      room = subst₂ (λ window rate. vec_len c.gather.new.self.gathered < window * capacity rate) was.window same_rate after.room;
       can = after.can;
       faithful = (g.met.K.Links.accounts delivered.calls.on_links _ _ delivered.on_links).same_faithful ∙ was.faithful;
       made = λ path there. (g.met.S.Store.accounts delivered.calls.on_store _ _ delivered.on_store).counts.still_made path

@@ -14,8 +14,9 @@ invariant-loop-at g l =
     record {
       gone_on : HasGoneOn work l.self.runner;
       outputs : l.self.outputs ≡ l.fn.self.outputs;
+      window : l.self.window ≡ l.fn.self.window;
       within : l.at ≤ l.limit + 1;
-      room : vec_len l.self.gathered < 4 * capacity work.code.rate;
+      room : vec_len l.self.gathered < l.fn.self.window * capacity work.code.rate;
       can : CanCarry l.self.runner (bound.flying l.links) (bound.room l.links);
       faithful : bound.faithful l.links ≡ bound.faithful l.initial.links;
       made : (path : List ℕ) → Contains (paths_of l.fn.self) path → g.S.Store.made l.store path;
