@@ -50,7 +50,7 @@ pub carry-requires-clause-blocks : goal.carry-requires-clause-blocks
 carry-requires-clause-blocks g c =
     let self = c.args.self.now in
     are-blocks self.runner.code self.gathered.items c.args.count (bytes_of c.args.count c.args.self.now.rate c.deref-2.result.now) (hand g (goal.at.carry-requires-clause-blocks g c).After-deref-2) self.runner.next
-    c.requires.some c.requires.few c.requires.numbered
+    c.requires.some (omega (arith, c.requires.few, self.most)) c.requires.numbered
 
 pub invariant_of-self : goal.invariant_of-self
 invariant_of-self g c =
