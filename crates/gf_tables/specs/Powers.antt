@@ -1,5 +1,5 @@
 -- The tables of powers and logarithms of a generator.
-use Rattle.std.specs.Prelude.{◌≡◌, ◌≢◌, ◌<◌, ℕ, List, zero, suc, ◌-◌, length, slice_index}
+use Rattle.std.specs.Prelude.{◌≡◌, ◌≢◌, ◌<◌, ℕ, List, zero, suc, ◌++◌, ◌-◌, length, replicate, slice_index, slice_set}
 use Rattle.gf_tables.specs.Product.{IsOctic, octet_product}
 
 -- a generator to the power k
@@ -30,3 +30,11 @@ pub record AreTables (poly gen : ℕ) (exp log : List ℕ) : Type 0 where
   pub powers : ArePowers poly gen exp
   pub logarithms : AreLogarithms exp log
   pub cycle : power poly gen 255 ≡ 1
+
+-- the powers twice over, and zeros behind them
+abbrev pub long_powers : List ℕ → List ℕ
+long_powers exp = exp ++ (exp ++ replicate 514 0)
+
+-- the logarithms, and for zero what takes each sum with it past all powers
+abbrev pub long_logarithms : List ℕ → List ℕ
+long_logarithms log = slice_set log 0 511

@@ -1,9 +1,11 @@
 -- The laws of powers, and products by the tables of powers and logarithms.
-use Rattle.std.specs.Prelude.{◌≡◌, ◌≢◌, ◌<◌, ◌≤◌, ℕ, List, zero, suc, ◌+◌, ◌-◌, slice_index}
-use Rattle.std.proofs.Common.{arith, refl, ap, sym, ◌∙◌, add-suc}
+use Rattle.std.specs.Prelude.{◌≡◌, ◌≢◌, ◌<◌, ◌≤◌, ℕ, List, zero, suc, ◌++◌, ◌+◌, ◌-◌, length, replicate, slice_index}
+use Rattle.std.proofs.Common.{arith, refl, ap, sym, ◌∙◌, add-suc, inl, inr}
+use Rattle.std.proofs.lemmas.Bool.{cases_lt}
+use Rattle.std.proofs.lemmas.List.{get_or_append_left, get_or-append_right, get_or-replicate, get_or-set_same, get_or-set_other}
 use Rattle.gf_tables.specs.Product.{IsOctic, octet_product}
-use Rattle.gf_tables.specs.Powers.{power, AreTables}
-use Rattle.gf_tables.specs.ProductLaws.{product_lt, product_one_left, product_one_right, product_zero_left, product_assoc}
+use Rattle.gf_tables.specs.Powers.{power, long_powers, long_logarithms, AreTables}
+use Rattle.gf_tables.specs.ProductLaws.{product_lt, product_one_left, product_one_right, product_zero_left, product_zero_right, product_assoc}
 
 -- a power is a byte
 pub power_lt : (poly gen k : ℕ) → IsOctic poly → power poly gen k < 256
@@ -56,3 +58,69 @@ module _ (poly gen : ℕ) (exp log : List ℕ) (t : AreTables poly gen exp log) 
       ∙ sym (product_assoc poly t.degree a b inv l m (power_lt poly gen (255 - slice_index log b) t.degree))
       ∙ ap (λ x. octet_product poly x inv) z
       ∙ product_zero_left poly t.degree inv)
+
+  -- a place of the long table below 510 has a power
+  pub long_power : (k : ℕ) → k < 510 → slice_index (long_powers exp) k ≡ power poly gen k
+  long_power k h =
+      elim (cases_lt k 255) [
+        | inl l ↦ get_or_append_left exp (exp ++ replicate 514 0) 0 k (omega arith) ∙ t.powers.at k l
+        | inr m ↦
+            get_or-append_right exp (exp ++ replicate 514 0) 255 k 0 t.powers.count m
+            ∙ get_or_append_left exp (replicate 514 0) 0 (k - 255) (omega arith)
+            ∙ t.powers.at (k - 255) (omega arith)
+            ∙ sym (power_wraps k m)
+      ]
+
+  -- a place from 510 on has a zero
+  long_zero : (k : ℕ) → 510 ≤ k → k < 1024 → slice_index (long_powers exp) k ≡ 0
+  long_zero k h l =
+      get_or-append_right exp (exp ++ replicate 514 0) 255 k 0 t.powers.count (omega arith)
+      ∙ get_or-append_right exp (replicate 514 0) 255 (k - 255) 0 t.powers.count (omega arith)
+      ∙ get_or-replicate 514 (k - 255 - 255) 0 0 (omega arith)
+
+  -- the place of zero is past all powers
+  place_of_zero : (a : ℕ) → a < 1 → slice_index (long_logarithms log) a ≡ 511
+  place_of_zero a h =
+      let z : a ≡ 0 = omega arith in
+      let count : length log ≡ 256 = t.logarithms.count in
+      ap (slice_index (long_logarithms log)) z ∙ get_or-set_same log 0 511 0 (omega arith)
+
+  -- the place of a nonzero byte is its logarithm
+  place_of_nonzero : (a : ℕ) → a ≢ 0 → slice_index (long_logarithms log) a ≡ slice_index log a
+  place_of_nonzero a h = get_or-set_other log 0 a 511 0 h
+
+  -- each byte has a place below 512
+  place_lt : (a : ℕ) → a < 256 → slice_index (long_logarithms log) a < 512
+  place_lt a k =
+      elim (cases_lt a 1) [
+        | inl l ↦ let e = place_of_zero a l in omega arith
+        | inr m ↦
+            let n : a ≢ 0 = omega arith in
+            let e = place_of_nonzero a n in
+            let below = t.logarithms.below a n k in omega arith
+      ]
+
+  -- the product of bytes is at the sum of their places
+  pub product_by_places : (a b : ℕ) → a < 256 → b < 256 → slice_index (long_powers exp) (slice_index (long_logarithms log) a + slice_index (long_logarithms log) b) ≡ octet_product poly a b
+  product_by_places a b k l =
+      let a_lt = place_lt a k in
+      let b_lt = place_lt b l in
+      elim (cases_lt a 1) [
+        | inl z ↦
+            let e = place_of_zero a z in
+            let n : a ≡ 0 = omega arith in
+            long_zero _ (omega arith) (omega arith) ∙ sym (product_zero_left poly t.degree b) ∙ ap (λ x. octet_product poly x b) (sym n)
+        | inr m ↦ elim (cases_lt b 1) [
+          | inl z ↦
+              let e = place_of_zero b z in
+              let n : b ≡ 0 = omega arith in
+              long_zero _ (omega arith) (omega arith) ∙ sym (product_zero_right poly t.degree a) ∙ ap (octet_product poly a) (sym n)
+          | inr w ↦
+              let a_not : a ≢ 0 = omega arith in
+              let b_not : b ≢ 0 = omega arith in
+              let a_below = t.logarithms.below a a_not k in
+              let b_below = t.logarithms.below b b_not l in
+              rw (place_of_nonzero a a_not, place_of_nonzero b b_not)
+              (long_power _ (omega arith) ∙ sym (product_by_tables a b a_not b_not k l))
+        ]
+      ]

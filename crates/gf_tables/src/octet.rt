@@ -3,7 +3,7 @@ ghost use Rattle.std.specs.Prelude.{◌≡◌, ◌≢◌, ◌<◌, ℕ, List, re
 ghost use Rattle.std.proofs.Common.{inl};
 ghost use Rattle.gf_tables.specs.NumberField.{own_numbering};
 ghost use Rattle.gf_tables.specs.OctetField.{equal_octets, octets_field};
-ghost use Rattle.gf_tables.specs.Powers.{power, octet_inverse, AreTables};
+ghost use Rattle.gf_tables.specs.Powers.{power, long_powers, long_logarithms, octet_inverse, AreTables};
 ghost use Rattle.gf_tables.specs.Product.{octet_product};
 
 use crate::Field;
@@ -37,13 +37,13 @@ pub trait Generates: Copy + Eq {
 
     ghost LOG: { List ℕ };
 
-    /// `EXP` in place: naming the constant copies the table.
-    fn powers() -> &'static [u8; 255]
-        ensures { result.now ≡ EXP };
+    /// `EXP` twice over and zeros behind it, in place: naming a constant copies the table.
+    fn long_powers() -> &'static [u8; 1024]
+        ensures { result.now ≡ long_powers EXP };
 
-    /// `LOG` in place.
-    fn logarithms() -> &'static [u8; 256]
-        ensures { result.now ≡ LOG };
+    /// `LOG` in place, with 511 at zero: a sum with it leads past all powers.
+    fn long_logarithms() -> &'static [u16; 256]
+        ensures { result.now ≡ long_logarithms LOG };
 
     /// The polynomial has degree 8, and the tables are those of the generator.
     ghost tables: { AreTables POLY GEN EXP LOG };
@@ -81,20 +81,15 @@ impl<T: Generates> Octet<T> {
         requires { exponent < 510 }
         ensures { result ≡ power T.POLY T.GEN exponent }
     {
-        let place = if exponent < 255 {
-            exponent
-        } else {
-            exponent - 255
-        };
-        Octet::of_byte(T::powers()[place])
+        Octet::of_byte(T::long_powers()[exponent])
     }
 
-    // The exponent, below 255, of the power that a nonzero element is.
-    fn logarithm(self) -> usize
-        requires { self ≢ 0 }
-        ensures { result ≡ slice_index T.LOG self }
+    // The place in the long table of powers whose sum with that of another element is the place of their product.
+    fn place(self) -> usize
+        ensures place { result ≡ slice_index (long_logarithms T.LOG) self }
+        ensures below { result < 512 }
     {
-        T::logarithms()[self.byte as usize] as usize
+        T::long_logarithms()[self.byte as usize] as usize
     }
 }
 
@@ -150,14 +145,11 @@ impl<T: Generates> Field for Octet<T> {
     }
 
     fn mul(self, other: Self) -> Self {
-        if self.byte == 0 || other.byte == 0 {
-            return Octet::of_byte(0);
-        }
-        Octet::power(self.logarithm() + other.logarithm())
+        Octet::of_byte(T::long_powers()[self.place() + other.place()])
     }
 
     fn inv(self) -> Self {
-        Octet::power(255 - self.logarithm())
+        Octet::power(255 - self.place())
     }
 
     ghost sizes = { inl (refl, refl) };
