@@ -10,7 +10,7 @@ use code_checker::Checked;
 use generation_frame::{ROW, cap};
 use gf_tables::Field;
 use lif_outside::Links;
-use relay_runner::Runner;
+use relay_runner::{LEAST_SINKS, Runner};
 use std::alloc::{AllocError, Global};
 
 /// How many blocks are carried at a time, at most: nodes and sinks have room for as many.
@@ -19,6 +19,10 @@ const MOST_BLOCKS: usize = 4;
 /// Through how many links a window may go of which the frames that fly and the rows that are held stay in the nearest
 /// caches: through more links fewer blocks are carried at a time.
 const WINDOW_LINKS: usize = 256;
+
+/// How many products of a row with an element, in all blocks of a window, take longer than the threads that decode it side
+/// by side take to start.
+const WINDOW_PRODUCTS: usize = 4096;
 
 /// How much was sent.
 #[derive(Drop)]
@@ -67,12 +71,22 @@ pub struct Delivery<'c, F> {
     ghost decoded_length: { vec_len decoded ≡ runner.code.rate * row_bytes },
 }
 
-// How many blocks are carried at a time through so many links.
-fn window_of(links: usize) -> usize
+// How many blocks are worth the threads that decode them, where there are any: so many sinks decode rows of so many products.
+fn worth_threads(sinks: usize, rate: usize) -> usize {
+    if sinks < 2 * LEAST_SINKS {
+        return 0;
+    }
+    WINDOW_PRODUCTS / sinks.saturating_mul(rate).saturating_mul(rate).max(1)
+}
+
+// How many blocks are carried at a time through so many links to so many sinks at a rate.
+fn window_of(links: usize, sinks: usize, rate: usize) -> usize
     ensures some { 1 ≤ result }
     ensures few { result ≤ 4 }
 {
-    (WINDOW_LINKS / links.max(1)).clamp(1, MOST_BLOCKS)
+    (WINDOW_LINKS / links.max(1))
+        .max(worth_threads(sinks, rate))
+        .clamp(1, MOST_BLOCKS)
 }
 
 impl<'c, F: Field> Delivery<'c, F> {
@@ -103,7 +117,8 @@ impl<'c, F: Field> Delivery<'c, F> {
     {
         let rate = code.code().rate;
         let block_bytes = rate as usize * ROW;
-        let window = window_of(code.code().net.links.len());
+        let net = &code.code().net;
+        let window = window_of(net.links.len(), net.sinks.len(), rate as usize);
         let gathered = Vec::with_capacity(alloc, window * cap(rate) as usize)?;
         let blocks = vec![in alloc; 0u8; window * block_bytes]?;
         let decoded = vec![in alloc; 0u8; block_bytes]?;

@@ -18,8 +18,9 @@ use std::thread::{Threads, for_each_chunk_mut};
 /// How many runs of sinks are decoded side by side, at most.
 const MOST_RUNS: usize = 4;
 
-/// How many sinks there are for each run, at least: to start a thread takes longer than to decode at a few sinks.
-const LEAST_SINKS: usize = 3;
+/// How many sinks there are for each run, at least: to start a thread takes longer than to decode at a few sinks. Where
+/// there are twice as many, each window is decoded by threads.
+pub const LEAST_SINKS: usize = 3;
 
 /// How many products of a row with an element there are for each run, at least, where there are more than two runs: to
 /// start a thread takes about as long as a thousand of them.

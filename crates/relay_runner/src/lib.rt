@@ -13,6 +13,7 @@ mod running;
 mod sharing;
 mod starting;
 
+pub use decoding::LEAST_SINKS;
 pub use runner::Runner;
 
 /// What a step of a run did.

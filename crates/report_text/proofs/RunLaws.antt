@@ -54,7 +54,7 @@ module _ {X : Type 0} (f : X → List ℕ) (size : ℕ) (xs : List X) (texts : L
         sym (ap (flat_map made_text) (take_all (length texts) texts (omega arith))) ∙ so_far (length texts) (omega arith) ∙ ap (flat_map f) (take_all (length texts * size) xs whole)
 
   -- the texts of all runs
-  pub joined_runs : (whole : Result (Vec ℕ Global) AllocError) → 0 < size → length texts ≡ length xs / size + min 1 (length xs % size) → AreOfRuns → IfOk whole (λ text. AreJoined texts text.items)
-      → IfOk whole (λ text. text.items ≡ flat_map f xs)
-  joined_runs (Ok text) some count are is = is.in_order ∙ all_runs are is.made (Ok text) some count
-  joined_runs (Err why) some count are is = is
+  pub joined_runs : (before : List ℕ) (whole : Result (Vec ℕ Global) AllocError) → 0 < size → length texts ≡ length xs / size + min 1 (length xs % size) → AreOfRuns → IfOk whole (λ text. AreJoined before texts text.items)
+      → IfOk whole (λ text. text.items ≡ before ++ flat_map f xs)
+  joined_runs before (Ok text) some count are is = is.in_order ∙ ap (λ lines. before ++ lines) (all_runs are is.made (Ok text) some count)
+  joined_runs before (Err why) some count are is = is

@@ -6,4 +6,4 @@ mod room;
 mod runs;
 
 pub use report::{entry, head};
-pub use runs::entries;
+pub use runs::with_entries;

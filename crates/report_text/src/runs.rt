@@ -1,5 +1,5 @@
 //! The lines of certificates, made in runs side by side.
-ghost use Rattle.std.specs.Prelude.{◌≡◌, ◌≤◌, All, IfOk, flat_map};
+ghost use Rattle.std.specs.Prelude.{◌≡◌, ◌++◌, ◌≤◌, All, IfOk, flat_map};
 ghost use Rattle.report_text.specs.Report.{IsPrintable, entry_text};
 ghost use Rattle.report_text.specs.Runs.{AreJoined};
 
@@ -9,28 +9,30 @@ use net_model::Net;
 use std::alloc::{AllocError, Global};
 use std::thread::{Threads, map_chunks};
 
-/// The lines of certificates, those of one after those of another. They are made in at most so many runs of adjacent
-/// certificates, side by side.
-pub fn entries<R: Threads + Sync>(
+/// A text with the lines of certificates behind it, those of one after those of another. They are made in at most so many
+/// runs of adjacent certificates, side by side.
+pub fn with_entries<R: Threads + Sync>(
     rt: &R,
     alloc: Global,
+    text: Vec<u8>,
     net: &Net,
     certs: &[Cert],
     workers: u32,
 ) -> Result<Vec<u8>, AllocError>
     requires workers { 1 ≤ workers }
     requires printable { All (IsPrintable net.now) certs.now }
-    ensures { IfOk result (λ text. text.items ≡ flat_map (entry_text net.now) certs.now) }
+    ensures { IfOk result (λ whole. whole.items
+        ≡ text.items ++ flat_map (entry_text net.now) certs.now) }
 {
     let size = certs.len().div_ceil(workers as usize).max(1);
-    let texts = map_chunks(
+    let runs = map_chunks(
         rt,
         alloc,
         certs,
         size,
         &|_start: usize, run: &[Cert]| { run_entries(alloc, net, run) },
     )?;
-    join(alloc, texts)
+    join(text, runs)
 }
 
 // The lines of one run of certificates.
@@ -46,13 +48,13 @@ fn run_entries(alloc: Global, net: &Net, certs: &[Cert]) -> Result<Vec<u8>, Allo
     Ok(text)
 }
 
-// The texts of all runs, put together in their order.
-fn join(alloc: Global, texts: Vec<Result<Vec<u8>, AllocError>>) -> Result<Vec<u8>, AllocError>
-    ensures { IfOk result (λ whole. AreJoined texts.items whole.items) }
+// A text with those of all runs behind it, in their order.
+fn join(text: Vec<u8>, runs: Vec<Result<Vec<u8>, AllocError>>) -> Result<Vec<u8>, AllocError>
+    ensures { IfOk result (λ whole. AreJoined text.items runs.items whole.items) }
 {
-    let mut whole = Vec::new(alloc);
-    for text in texts {
-        whole.append(&mut text?)?;
+    let mut whole = text;
+    for lines in runs {
+        whole.append(&mut lines?)?;
     }
     Ok(whole)
 }

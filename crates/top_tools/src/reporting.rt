@@ -5,7 +5,7 @@ ghost use Rattle.report_text.specs.Report.{report_of};
 
 use cut_witness::Cert;
 use net_model::Net;
-use report_text::{entries, head};
+use report_text::{head, with_entries};
 use std::alloc::{AllocError, Global};
 use std::thread::Threads;
 
@@ -22,8 +22,6 @@ pub fn report_of<R: Threads + Sync>(
     requires workers { 1 ≤ workers }
     ensures { IfOk result (λ text. text.items ≡ report_of net.now rate certs.now) }
 {
-    let mut text = head(alloc, rate)?;
-    let mut lines = entries(rt, alloc, net, certs, workers)?;
-    text.append(&mut lines)?;
-    Ok(text)
+    let text = head(alloc, rate)?;
+    with_entries(rt, alloc, text, net, certs, workers)
 }

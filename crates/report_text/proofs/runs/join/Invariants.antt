@@ -3,5 +3,5 @@ use Rattle.report_text.proofs.JoinSteps.{AreJoinedSoFar}
 use Rattle.report_text.proofs.runs.join.Given as goal
 
 -- the texts so far, put together
-abbrev pub invariant-loop-text : goal.invariant-loop-text
-invariant-loop-text l = AreJoinedSoFar l.fn.texts.items l.yielded (into_iter_items l.text-iterator) (into_iter_len l.text-iterator) l.whole.items
+abbrev pub invariant-loop-lines : goal.invariant-loop-lines
+invariant-loop-lines l = AreJoinedSoFar l.fn.text.items l.fn.runs.items l.yielded (into_iter_items l.lines-iterator) (into_iter_len l.lines-iterator) l.whole.items
