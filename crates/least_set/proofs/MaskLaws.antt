@@ -158,13 +158,6 @@ pub record Added (first last word : ℕ) (old new : List ℕ) : Type 0 where
   pub others : (other : ℕ) → (IsEighth first last other → other / 64 < word → ⊥) → bit_of new other ≡ bit_of old other
   pub long : length new ≡ length old
 
-pub added-none : (first last : ℕ) (words : List ℕ) → Added first last (first / 64) words words
-added-none first last words = record {
-  here = λ number is earlier. absurd (omega (arith, is.from, earlier));
-  others = λ other isnt. refl;
-  long = refl;
-}
-
 -- one word more
 module _ (first last word bits : ℕ) (old now new : List ℕ) (so_far : Added first last word old now) (sets : SetsBits word bits now new) (are : AreEighths first last word bits) where
   place_of : (number : ℕ) → number / 64 ≡ word → word * 64 + number % 64 ≡ number
