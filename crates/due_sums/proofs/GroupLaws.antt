@@ -77,22 +77,6 @@ module _ (sums groups : List (List ℕ)) (starts : List ℕ) (are : AreGroups su
         room = omega (arith, room, are.within (group + 1));
       }
 
--- no sum, and no group
-pub groups-none : (sums : List (List ℕ)) → AreFirstGroups 0 sums [] (0 ∷ [])
-groups-none sums = record {
-  count = refl;
-  few = omega arith;
-  from = refl;
-  to = refl;
-  within = λ group. none group;
-  rising = λ group inside. absurd (omega (arith, inside));
-  same = λ group sum inside from to. absurd (omega (arith, inside));
-}
-  where
-    none : (group : ℕ) → slice_index (0 ∷ []) group ≤ 0
-    none zero = omega arith
-    none (suc group) = omega arith
-
 -- another sum begins a group
 module _ (first : ℕ) (sums groups : List (List ℕ)) (starts : List ℕ) (are : AreFirstGroups first sums groups starts) where
   abbrev more : List ℕ

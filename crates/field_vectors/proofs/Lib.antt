@@ -11,3 +11,4 @@ pub mod GridSteps
 pub mod ProductSteps
 pub mod ClearSteps
 pub mod FillSteps
+pub mod RowWriting

@@ -1,20 +1,10 @@
--- A frame gives back its packet, and a packet that was read its frame.
-use Rattle.std.specs.Prelude.{◌≡◌, ◌<◌, ◌≤◌, ◌==◌, ◌&&◌, ℕ, zero, suc, true, false, nat_lt, if◌then◌else◌, List, [], ◌∷◌, ◌++◌, length, Ok, Err, slice_index_or}
+-- A packet that was read gives back its frame.
+use Rattle.std.specs.Prelude.{◌≡◌, ◌<◌, ◌≤◌, ◌==◌, ◌&&◌, ℕ, zero, suc, true, List, [], ◌∷◌, ◌++◌, length, slice_index_or}
 use Rattle.std.specs.Int.{to_be_bytes, from_be_bytes, w32}
 use Rattle.std.proofs.Common.{refl, sym, ap, subst, ◌∙◌, arith}
-use Rattle.std.proofs.lemmas.Bool.{and_parts, eqb-true, le-ltb}
-use Rattle.std.proofs.lemmas.Nat.{be_bytes_4, from_be_bytes-to_be_bytes_4}
-use Rattle.generation_frame.specs.Frames.{frame_of, frame_read, is_marked, packet_in, Fits}
-use Rattle.generation_frame.specs.declared.frame.FrameRefusal.TheVariants.{BadPiece}
-use Rattle.generation_frame.specs.declared.frame.Packet.{Packet}
-
--- a frame gives back its packet
-pub frame_read-frame_of : (packet : Packet) → Fits packet → frame_read (frame_of packet) ≡ Ok packet
-frame_read-frame_of packet fits =
-    let low : nat_lt 7 packet.piece ≡ false = le-ltb 7 packet.piece (omega (arith, fits.piece)) in
-    ap (λ high. if high then Err BadPiece else Ok (packet_in (frame_of packet))) low
-    ∙ ap (λ link. Ok (record { link = link; generation = from_be_bytes w32 (to_be_bytes w32 packet.generation); piece = packet.piece; payload = packet.payload })) (from_be_bytes-to_be_bytes_4 packet.link fits.link)
-    ∙ ap (λ generation. Ok (record { link = packet.link; generation = generation; piece = packet.piece; payload = packet.payload })) (from_be_bytes-to_be_bytes_4 packet.generation fits.generation)
+use Rattle.std.proofs.lemmas.Bool.{and_parts, eqb-true}
+use Rattle.std.proofs.lemmas.Nat.{be_bytes_4}
+use Rattle.generation_frame.specs.Frames.{frame_of, is_marked, packet_in}
 
 -- the first four of a list, and the rest
 four : (xs : List ℕ) → 4 ≤ length xs → (a b c d : ℕ) × (rest : List ℕ) × (xs ≡ a ∷ b ∷ c ∷ d ∷ rest)

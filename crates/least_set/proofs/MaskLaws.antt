@@ -23,7 +23,9 @@ pub between_is : (from to : ℕ) → from ≤ to → to < 64
 between_is from to order low =
     let one = pow_pos from in
     let more = pow-le-pow_right {n = 2} (omega arith) {i = from} {j = to} order in
-    (omega (arith, bit_fits from (omega (arith, order, low)), bit_fits to low, pow-suc 2 to, one, more), omega (arith, bit_fits from (omega (arith, order, low)), bit_fits to low, one, more))
+    let first = bit_fits from (omega (arith, order, low)) in
+    let last = bit_fits to low in
+    (omega (arith, pow-suc 2 to), omega arith)
 
 pub between_inside : (from to i : ℕ) → from ≤ to → to < 64 → from ≤ i → i ≤ to
     → bit_at ((1 * 2 ^ to % 2 ^ 64 - 1) * 2 + 1 - (1 * 2 ^ from % 2 ^ 64 - 1)) i ≡ 1
@@ -156,13 +158,6 @@ pub record Added (first last word : ℕ) (old new : List ℕ) : Type 0 where
   pub others : (other : ℕ) → (IsEighth first last other → other / 64 < word → ⊥) → bit_of new other ≡ bit_of old other
   pub long : length new ≡ length old
 
-pub added-none : (first last : ℕ) (words : List ℕ) → Added first last (first / 64) words words
-added-none first last words = record {
-  here = λ number is earlier. absurd (omega (arith, is.from, earlier));
-  others = λ other isnt. refl;
-  long = refl;
-}
-
 -- one word more
 module _ (first last word bits : ℕ) (old now new : List ℕ) (so_far : Added first last word old now) (sets : SetsBits word bits now new) (are : AreEighths first last word bits) where
   place_of : (number : ℕ) → number / 64 ≡ word → word * 64 + number % 64 ≡ number
@@ -184,12 +179,14 @@ module _ (first last word bits : ℕ) (old now new : List ℕ) (so_far : Added f
           here_is number in_word ∙ either_set _ _ (bit_at-lt _ _) (are.set (number % 64) (omega arith) at)
       | inr differs ↦ elsewhere number differs ∙ so_far.here number is (omega (arith, earlier, differs))
     ];
-    others = λ other isnt. elim (cases_eq (other / 64) word) [
-      | inl in_word ↦
-          let off : IsEighth first last (word * 64 + other % 64) → ⊥ = λ is. isnt (subst (IsEighth first last) (place_of other in_word) is) (omega (arith, in_word)) in
-          here_is other in_word ∙ either_left _ _ (are.others (other % 64) (omega arith) off) ∙ so_far.others other (λ is earlier. isnt is (omega (arith, earlier)))
-      | inr differs ↦ elsewhere other differs ∙ so_far.others other (λ is earlier. isnt is (omega (arith, earlier)))
-    ];
+    others = λ other isnt.
+        let before = so_far.others other (λ is earlier. isnt is (omega (arith, earlier))) in
+        elim (cases_eq (other / 64) word) [
+          | inl in_word ↦
+              let off : IsEighth first last (word * 64 + other % 64) → ⊥ = λ is. isnt (subst (IsEighth first last) (place_of other in_word) is) (omega (arith, in_word)) in
+              here_is other in_word ∙ either_left _ _ (are.others (other % 64) (omega arith) off) ∙ before
+          | inr differs ↦ elsewhere other differs ∙ before
+        ];
     long = sets.long ∙ so_far.long;
   }
 

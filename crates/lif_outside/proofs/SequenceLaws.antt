@@ -4,7 +4,7 @@ use Rattle.std.specs.List.{AllByRecursion}
 use Rattle.std.proofs.Common.{refl, sym, ap, ◌∙◌, subst}
 use Rattle.std.proofs.lemmas.List.{append-nil, append_assoc}
 use Rattle.std.proofs.lemmas.List.Elements.{Contains-push}
-use Rattle.lif_outside.specs.Sequences.{IsFrontOf, Stops, Then}
+use Rattle.lif_outside.specs.Sequences.{IsFrontOf, Stops}
 
 -- what holds of two lists of calls holds of both, and what holds of both of each
 pub all_append : {E : Type 0} (P : E → Type 0) (first later : List E) → AllByRecursion P first → AllByRecursion P later → AllByRecursion P (first ++ later)
@@ -14,10 +14,6 @@ all_append P (event ∷ first) later h k = (h.0, all_append P first later h.1 k)
 pub all_split : {E : Type 0} (P : E → Type 0) (first later : List E) → AllByRecursion P (first ++ later) → AllByRecursion P first × AllByRecursion P later
 all_split P [] later h = (tt, h)
 all_split P (event ∷ first) later h = let rest = all_split P first later h.1 in ((h.0, rest.0), rest.1)
-
--- some calls, and then others
-pub then_join : {E : Type 0} (P Q : List E → Type 0) (first later : List E) → P first → Q later → Then P Q (first ++ later)
-then_join P Q first later one other = record { first = first; later = later; events_are = refl; holds_first = one; holds_later = other }
 
 -- no calls, and all calls, are the first of these
 pub front_none : {E : Type 0} (these : List E) → IsFrontOf these []

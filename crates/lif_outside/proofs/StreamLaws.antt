@@ -1,5 +1,5 @@
 -- What follows of reads and writes that are mixed.
-use Rattle.std.specs.Prelude.{◌≡◌, ◌⊎◌, ◌&&◌, ◌||◌, ◌+◌, ◌==◌, nat_lt, ℕ, Bool, true, false, cond, not, List, [], ◌∷◌, ◌++◌, Option, unwrap_or, filter, length, Contains}
+use Rattle.std.specs.Prelude.{◌≡◌, ◌⊎◌, ◌&&◌, ◌||◌, ◌==◌, nat_lt, ℕ, Bool, true, false, cond, not, List, [], ◌∷◌, ◌++◌, Option, unwrap_or, filter, length, Contains}
 use Rattle.std.specs.List.{AllByRecursion, list_any}
 use Rattle.std.proofs.Common.{refl, sym, ap, ◌∙◌, subst, inl, inr, ⊎_elim}
 use Rattle.std.proofs.lemmas.Bool.{lt-ltb}
@@ -9,10 +9,10 @@ use Rattle.std.proofs.lemmas.List.Folds.{list_any-append}
 use Rattle.lif_outside.specs.Events.{Event, read, read_failed, created, create_failed, appended, append_failed, is_failed_read, is_failed_write, HappenAt}
 use Rattle.lif_outside.specs.EventLaws.{KeepsPath, happen-split, happens_keeping}
 use Rattle.lif_outside.proofs.FaultLaws.{HaveFailed}
-use Rattle.lif_outside.specs.Runs.{AreAppendsTo, AreReadsFrom, ReadsToFault, ReadsWhole, StopsWithin, bytes_read, failed_of}
+use Rattle.lif_outside.specs.Runs.{ReadsToFault, ReadsWhole, StopsWithin, bytes_read, failed_of}
 use Rattle.lif_outside.proofs.RunLaws.{bytes_read-append, reads_begin, whole_held}
 use Rattle.lif_outside.specs.Sequences.{Are, IsFrontOf}
-use Rattle.lif_outside.proofs.SequenceLaws.{all_append, all_split, front_all, front_none, stops_all}
+use Rattle.lif_outside.proofs.SequenceLaws.{all_split, front_all, front_none, stops_all}
 use Rattle.lif_outside.specs.Streams.{Streams, gave_nothing, have_ended, is_read, is_write, reads_in, writes_in}
 
 -- a call that passes a test is among the calls
@@ -102,24 +102,6 @@ AreReads events = AllByRecursion (λ event. is_read event ≡ true) events
 
 abbrev pub AreWrites : List Event → Type 0
 AreWrites events = AllByRecursion (λ event. is_read event ≡ false) events
-
-pub from_are_reads : (at : ℕ) (path : List ℕ) (events : List Event) → AreReadsFrom at path events → AreReads events
-from_are_reads at path [] reads = tt
-from_are_reads at path (read other place room came ∷ events) reads = (refl, from_are_reads (at + length came) path events reads.3)
-from_are_reads at path (event ∷ events) reads = absurd reads
-
-pub whole_are_reads : (path : List ℕ) (limit : ℕ) (bytes : List ℕ) (events : List Event) → ReadsWhole path limit bytes events → AreReads events
-whole_are_reads path limit bytes events whole =
-    subst AreReads (sym whole.ended) (all_append (λ event. is_read event ≡ true) whole.front _ (from_are_reads 0 path whole.front whole.reads) (refl, tt))
-
-pub fault_are_reads : (path : List ℕ) (limit : ℕ) (events : List Event) → ReadsToFault path limit events → AreReads events
-fault_are_reads path limit events fault =
-    subst AreReads (sym fault.failed) (all_append (λ event. is_read event ≡ true) fault.front _ (from_are_reads 0 path fault.front fault.reads) (refl, tt))
-
-pub appends_are_writes : (paths : List (List ℕ)) (events : List Event) → AreAppendsTo paths events → AreWrites events
-appends_are_writes paths [] are = tt
-appends_are_writes paths (appended path bytes ∷ events) are = (refl, appends_are_writes paths events are.1)
-appends_are_writes paths (event ∷ events) are = absurd are
 
 failed_is_write : (event : Event) → is_read event ≡ false → is_read (failed_of event) ≡ false
 failed_is_write (read path at room bytes) is = is

@@ -6,16 +6,7 @@ use Rattle.std.proofs.Math.Seq.{take-append-add, take-append_seam}
 use Rattle.std.proofs.lemmas.List.{drop_min, length-drop, length-take-le, take_min}
 use Rattle.generation_frame.specs.Blocks.{capacity, piece_of}
 
--- the piece from a place on, as far as the source goes
-pub piece_within : (source : List ℕ) (rate generation size end : ℕ) → size ≡ capacity rate → end ≡ min (length source) (generation * size + size)
-    → take (end - generation * size) (drop (generation * size) source) ≡ piece_of source rate generation
-piece_within source rate generation size end fits is =
-    let start : ℕ = generation * size in
-    let long : end - start ≡ min size (length (drop start source)) = omega (arith, length-drop start source) in
-    ap (λ n. take n (drop start source)) long ∙ take_min size (drop start source)
-    ∙ ap (λ n. take n (drop (generation * n) source)) fits
-
--- the same, where the place may lie behind the source
+-- the piece from a place on, as far as the source goes, where the place may lie behind it
 pub piece_min : (source : List ℕ) (rate generation size start end : ℕ) → size ≡ capacity rate → start ≡ min (length source) (generation * size) → end ≡ min (length source) (start + size)
     → take (end - start) (drop start source) ≡ piece_of source rate generation
 piece_min source rate generation size start end fits from is =

@@ -1,6 +1,6 @@
 -- Laws of combinations of rows. A combination of rows of one width is a row of that width. It is linear in its rows
 -- and in its coefficients.
-use Rattle.std.specs.Prelude.{◌≡◌, ℕ, zero, suc, ◌+◌, ◌-◌, ◌<◌, ◌≤◌, ◌==◌, true, false, bit_xor, List, [], ◌∷◌, ◌++◌, length, map, take, drop, slice_get, slice_index, unwrap_or, if◌then◌else◌}
+use Rattle.std.specs.Prelude.{◌≡◌, ℕ, zero, suc, ◌+◌, ◌-◌, ◌<◌, ◌≤◌, ◌==◌, true, false, bit_xor, List, [], ◌∷◌, length, map, take, drop, slice_get, slice_index, unwrap_or, if◌then◌else◌}
 use Rattle.std.proofs.Common.{arith, refl, sym, ap, ◌∙◌, get_or}
 use Rattle.std.proofs.Math.Path.{ap₂}
 use borrow.Author.Tests.{eq-eqb}
@@ -11,16 +11,10 @@ use Rattle.std.proofs.lemmas.List.Elements.{All-head, All-tail}
 use Rattle.std.specs.List.{All, range_with_len}
 use Rattle.gf_tables.specs.Product.{product, size_of}
 use Rattle.gf_tables.specs.declared.kind.FieldKind.{FieldKind}
-use Rattle.gf_tables.specs.declared.kind.FieldKind.TheVariants.{Eight}
 use Rattle.linear_algebra.proofs.DotLaws.{dot-add_rows_left, dot-scale_row_left, dot-zero_row_left}
 use Rattle.linear_algebra.specs.Matrices.{column, add_blocks}
-use Rattle.linear_algebra.proofs.RowLaws.{AreElements-head, AreElements-tail, add_rows-exchange, add_rows-assoc, add_rows-zero_row, zero_row-add_rows, zero_row-zero_row, length-add_rows, add_rows-IsRow, zero_row-IsRow, scale_row-IsRow, scale_row-one, scale_row-zero, scale_row-zero_row, length-scale_row, scale_row-scale_row, scale_row-comm, scale_row-add_rows, scale_row-xor, scale_row-inverse, AreRows-get_or, take-add_rows, drop-add_rows, unit_row-before, slice_index-add_rows, slice_index-scale_row, slice_index-zero_row}
+use Rattle.linear_algebra.proofs.RowLaws.{AreElements-head, AreElements-tail, add_rows-exchange, add_rows-assoc, add_rows-zero_row, zero_row-add_rows, zero_row-zero_row, length-add_rows, add_rows-IsRow, zero_row-IsRow, scale_row-IsRow, scale_row-one, scale_row-zero, scale_row-zero_row, length-scale_row, scale_row-scale_row, scale_row-comm, scale_row-add_rows, scale_row-xor, AreRows-get_or, take-add_rows, drop-add_rows, unit_row-before, slice_index-add_rows, slice_index-scale_row, slice_index-zero_row}
 use Rattle.linear_algebra.specs.Rows.{add_rows, scale_row, zero_row, unit_row, combination, dot, AreElements, IsRow, AreRows}
-
--- a combination of no rows
-pub combination-nil : (field : FieldKind) (width : ℕ) (coefficients : List ℕ) → combination field width coefficients [] ≡ zero_row width
-combination-nil field width [] = refl
-combination-nil field width (times ∷ coefficients) = refl
 
 -- a combination of rows of zeros
 pub combination-zero_rows : (field : FieldKind) (width : ℕ) (coefficients : List ℕ) (rows : List (List ℕ)) → AreElements field coefficients → All (λ row. row ≡ zero_row width) rows
@@ -44,20 +38,6 @@ combination-single field width times row e =
 pub combination-one : (field : FieldKind) (width : ℕ) (row : List ℕ) → length row ≡ width → All (λ element. element < size_of field) row
     → combination field width (1 ∷ []) (row ∷ []) ≡ row
 combination-one field width row e h = combination-single field width 1 row e ∙ scale_row-one field row h
-
--- a combination of one row takes back another, where the product of the coefficients is 1
-pub combination-inverse_over : (field : FieldKind) (width a b : ℕ) (row : List ℕ) → a < size_of field → b < size_of field → product field a b ≡ 1 → length row ≡ width
-    → All (λ element. element < size_of field) row
-    → combination field width (a ∷ []) (combination field width (b ∷ []) (row ∷ []) ∷ []) ≡ row
-combination-inverse_over field width a b row below_a below_b inverse e h =
-    ap (λ (r : List ℕ). combination field width (a ∷ []) (r ∷ [])) (combination-single field width b row e)
-    ∙ combination-single field width a (scale_row field b row) (length-scale_row field b row ∙ e)
-    ∙ scale_row-inverse field a b row below_a below_b inverse h
-
--- the same over octets
-pub combination-inverse : (width a b : ℕ) (row : List ℕ) → a < 256 → b < 256 → product Eight a b ≡ 1 → length row ≡ width → All (λ element. element < 256) row
-    → combination Eight width (a ∷ []) (combination Eight width (b ∷ []) (row ∷ []) ∷ []) ≡ row
-combination-inverse width a b row below_a below_b inverse e h = combination-inverse_over Eight width a b row below_a below_b inverse e h
 
 -- the length of a combination
 pub length-combination : (field : FieldKind) (width : ℕ) (coefficients : List ℕ) (rows : List (List ℕ)) → AreRows field width rows
@@ -147,18 +127,6 @@ combination-zero_row field width zero rows h = refl
 combination-zero_row field width (suc count) [] h = refl
 combination-zero_row field width (suc count) (row ∷ rows) h =
     rw (scale_row-zero field row, h.0.width, combination-zero_row field width count rows h.1) (zero_row-zero_row width)
-
--- a combination of rows and then others
-pub combination-append : (field : FieldKind) (width : ℕ) (xs ys : List ℕ) (rows others : List (List ℕ)) → length xs ≡ length rows → AreRows field width others
-    → combination field width (xs ++ ys) (rows ++ others) ≡ add_rows (combination field width xs rows) (combination field width ys others)
-combination-append field width [] ys [] others same h =
-    let zeros : zero_row width ≡ zero_row (length (combination field width ys others)) = ap zero_row (sym (length-combination field width ys others h)) in
-    rw zeros (sym (zero_row-add_rows (combination field width ys others)))
-combination-append field width [] ys (row ∷ rows) others same h = absurd (omega arith)
-combination-append field width (x ∷ xs) ys [] others same h = absurd (omega arith)
-combination-append field width (x ∷ xs) ys (row ∷ rows) others same h =
-    rw (combination-append field width xs ys rows others (omega arith) h)
-    (sym (add_rows-assoc (scale_row field x row) (combination field width xs rows) (combination field width ys others)))
 
 -- a combination of one more of the rows
 pub combination-take_more : (field : FieldKind) (width k : ℕ) (coefficients : List ℕ) (rows : List (List ℕ)) → k < length coefficients → k < length rows

@@ -1,14 +1,14 @@
--- Laws of the sum of the products of two rows, place by place. It is symmetric, and linear in both rows.
-use Rattle.std.specs.Prelude.{◌≡◌, ℕ, zero, suc, ◌+◌, ◌<◌, ◌==◌, true, false, bit_xor, List, [], ◌∷◌, ◌++◌, length, map, slice_index, if◌then◌else◌}
+-- Laws of the sum of the products of two rows, place by place. It is symmetric, and linear in its first row.
+use Rattle.std.specs.Prelude.{◌≡◌, ℕ, zero, suc, ◌+◌, ◌<◌, ◌==◌, true, false, bit_xor, List, [], ◌∷◌, length, map, slice_index, if◌then◌else◌}
 use Rattle.std.proofs.Common.{arith, refl, sym, ◌∙◌}
 use borrow.Author.Tests.{eq-eqb}
 use Rattle.std.proofs.lemmas.Bool.{ne_eqb}
-use Rattle.std.specs.Int.Bits.{xor_zero_l, xor_zero_r, xor_assoc}
+use Rattle.std.specs.Int.Bits.{xor_zero_l, xor_zero_r}
 use Rattle.std.specs.List.{range_with_len}
 use Rattle.gf_tables.proofs.KindField.{kind_field, product_zero}
 use Rattle.gf_tables.specs.Product.{product, size_of}
 use Rattle.gf_tables.specs.declared.kind.FieldKind.{FieldKind}
-use Rattle.linear_algebra.proofs.FieldLaws.{xor-exchange, product-zero, product-xor, product-left_comm}
+use Rattle.linear_algebra.proofs.FieldLaws.{xor-exchange, product-zero, product-xor}
 use Rattle.linear_algebra.proofs.RowLaws.{AreElements-head, AreElements-tail, unit_row-before}
 use Rattle.linear_algebra.specs.Rows.{add_rows, scale_row, zero_row, unit_row, dot, AreElements, IsRow}
 
@@ -59,20 +59,6 @@ dot-scale_row_left field a (x ∷ xs) (y ∷ ys) below h k =
     rw (laws.mul_assoc a x y below below_x below_y, dot-scale_row_left field a xs ys below rest_x rest_y)
     (sym (laws.mul_add a (product field x y) (dot field xs ys) below (laws.mul_element x y below_x below_y) (dot-element field xs ys rest_x rest_y)))
 
--- a row times a multiple of a row
-pub dot-scale_row : (field : FieldKind) (a : ℕ) (xs ys : List ℕ) → a < size_of field → AreElements field xs → AreElements field ys
-    → dot field xs (scale_row field a ys) ≡ product field a (dot field xs ys)
-dot-scale_row field a [] ys below h k = sym (product-zero field a below)
-dot-scale_row field a (x ∷ xs) [] below h k = sym (product-zero field a below)
-dot-scale_row field a (x ∷ xs) (y ∷ ys) below h k =
-    let laws = kind_field field in
-    let below_x = AreElements-head field x xs h in
-    let below_y = AreElements-head field y ys k in
-    let rest_x = AreElements-tail field x xs h in
-    let rest_y = AreElements-tail field y ys k in
-    rw (product-left_comm field x a y below_x below below_y, dot-scale_row field a xs ys below rest_x rest_y)
-    (sym (laws.mul_add a (product field x y) (dot field xs ys) below (laws.mul_element x y below_x below_y) (dot-element field xs ys rest_x rest_y)))
-
 -- a sum of rows times a row
 pub dot-add_rows_left : (field : FieldKind) (xs ys zs : List ℕ) → AreElements field xs → AreElements field ys → AreElements field zs → length xs ≡ length ys
     → dot field (add_rows xs ys) zs ≡ bit_xor (dot field xs zs) (dot field ys zs)
@@ -86,28 +72,6 @@ dot-add_rows_left field (x ∷ xs) (y ∷ ys) (z ∷ zs) h k l same =
       dot-add_rows_left field xs ys zs (AreElements-tail field x xs h) (AreElements-tail field y ys k) (AreElements-tail field z zs l) (omega arith),
     )
     (xor-exchange (product field x z) (product field y z) (dot field xs zs) (dot field ys zs))
-
--- a row times a sum of rows
-pub dot-add_rows : (field : FieldKind) (xs ys zs : List ℕ) → AreElements field xs → AreElements field ys → AreElements field zs → length ys ≡ length zs
-    → dot field xs (add_rows ys zs) ≡ bit_xor (dot field xs ys) (dot field xs zs)
-dot-add_rows field [] ys zs h k l same = refl
-dot-add_rows field (x ∷ xs) [] [] h k l same = refl
-dot-add_rows field (x ∷ xs) [] (z ∷ zs) h k l same = absurd (omega arith)
-dot-add_rows field (x ∷ xs) (y ∷ ys) [] h k l same = absurd (omega arith)
-dot-add_rows field (x ∷ xs) (y ∷ ys) (z ∷ zs) h k l same =
-    rw (
-      (kind_field field).mul_add x y z (AreElements-head field x xs h) (AreElements-head field y ys k) (AreElements-head field z zs l),
-      dot-add_rows field xs ys zs (AreElements-tail field x xs h) (AreElements-tail field y ys k) (AreElements-tail field z zs l) (omega arith),
-    )
-    (xor-exchange (product field x y) (product field x z) (dot field xs ys) (dot field xs zs))
-
--- two rows in a row each, where the first two have one length
-pub dot-append : (field : FieldKind) (xs ys us vs : List ℕ) → length xs ≡ length us → dot field (xs ++ ys) (us ++ vs) ≡ bit_xor (dot field xs us) (dot field ys vs)
-dot-append field [] ys [] vs same = sym (xor_zero_l (dot field ys vs))
-dot-append field [] ys (u ∷ us) vs same = absurd (omega arith)
-dot-append field (x ∷ xs) ys [] vs same = absurd (omega arith)
-dot-append field (x ∷ xs) ys (u ∷ us) vs same =
-    rw (dot-append field xs ys us vs (omega arith)) (sym (xor_assoc (product field x u) (dot field xs us) (dot field ys vs)))
 
 -- a row times the row with 1 at one place and zeros elsewhere, from a place on
 dot-unit_row_from : (field : FieldKind) (a i k : ℕ) (xs : List ℕ) → a + k ≡ i → k < length xs → AreElements field xs

@@ -1,8 +1,8 @@
 -- Laws of matrices whose entries stand row by row.
-use Rattle.std.specs.Prelude.{◌≡◌, ℕ, zero, suc, ◌+◌, ◌*◌, ◌<◌, ◌≤◌, List, [], ◌∷◌, ◌++◌, length, map, take, drop, slice_index}
-use Rattle.std.proofs.Common.{arith, refl, sym, ap, ◌∙◌, get_or, add-one, suc-mul}
+use Rattle.std.specs.Prelude.{◌≡◌, ℕ, zero, suc, ◌+◌, ◌*◌, ◌<◌, ◌≤◌, List, [], length, map, take, drop, slice_index}
+use Rattle.std.proofs.Common.{arith, refl, ap, ◌∙◌, get_or, add-one, suc-mul}
 use Rattle.std.proofs.Math.Seq.{take-add}
-use Rattle.std.proofs.lemmas.List.{append_assoc, length-append, length-take-le, length-drop, get_or-take, get_or-drop, take_at, drop_at, drop-drop, take_all}
+use Rattle.std.proofs.lemmas.List.{length-take-le, length-drop, get_or-take, get_or-drop, drop-drop, take_all}
 use Rattle.std.proofs.lemmas.List.Elements.{All-take, All-drop}
 use Rattle.std.proofs.lemmas.List.FromFn.{get_or-map-range_with_len}
 use Rattle.std.specs.List.{range_with_len, concat}
@@ -46,25 +46,6 @@ pub slice_index-rows_of : (count width i j : ℕ) (entries : List ℕ) → i < c
 slice_index-rows_of count width i j entries below inside =
     ap (λ (row : List ℕ). slice_index row j) (get_or-rows_of count width i entries below)
     ∙ get_or-take width (drop (i * width) entries) j 0 inside ∙ get_or-drop (i * width) entries j 0
-
--- the entries of rows of one width, behind others, cut into rows from there on
-rows_behind : (field : FieldKind) (width a : ℕ) (front : List ℕ) (rows : List (List ℕ)) → length front ≡ a * width → AreRows field width rows
-    → map (λ i. take width (drop (i * width) (front ++ concat rows))) (range_with_len a (length rows)) ≡ rows
-rows_behind field width a front [] long h = refl
-rows_behind field width a front (row ∷ rows) long h =
-    let first : take width (drop (a * width) (front ++ (row ++ concat rows))) ≡ row =
-    ap (take width) (drop_at front (row ++ concat rows) (a * width) long) ∙ take_at row (concat rows) width h.0.width in
-    let next : length (front ++ row) ≡ (a + 1) * width = omega (arith, length-append front row, suc-mul a width, h.0.width, next_place a width) in
-    let others = rows_behind field width (a + 1) (front ++ row) rows next h.1 in
-    let joined = ap (λ (entries : List ℕ). map (λ i. take width (drop (i * width) entries)) (range_with_len (a + 1) (length rows))) (sym (append_assoc front row (concat rows))) in
-    rw (first) (ap (λ (later : List (List ℕ)). row ∷ later) (joined ∙ others))
-
--- the entries of rows of one width, row by row, are cut into the rows
-pub rows_of-concat : (field : FieldKind) (count width : ℕ) (rows : List (List ℕ)) → length rows ≡ count → AreRows field width rows
-    → rows_of count width (concat rows) ≡ rows
-rows_of-concat field count width rows same h =
-    let none : 0 ≡ 0 * width = omega arith in
-    rw (← same) (rows_behind field width 0 [] rows none h)
 
 -- the rows of entries, joined
 concat_from : (width a n : ℕ) (entries : List ℕ) → concat (map (λ i. take width (drop (i * width) entries)) (range_with_len a n)) ≡ take (n * width) (drop (a * width) entries)

@@ -30,10 +30,3 @@ product-xor field a b x below_a below_b below =
       laws.mul_comm x a below below_a,
       laws.mul_comm x b below below_b,
     ) refl
-
--- the multiples of a multiple may be taken in either order
-pub product-left_comm : (field : FieldKind) (a b x : ℕ) → a < size_of field → b < size_of field → x < size_of field
-    → product field a (product field b x) ≡ product field b (product field a x)
-product-left_comm field a b x below_a below_b below =
-    let laws = kind_field field in
-    rw (← laws.mul_assoc a b x below_a below_b below, laws.mul_comm a b below_a below_b, laws.mul_assoc b a x below_b below_a below) refl

@@ -1,26 +1,19 @@
--- Laws of matrices. Their products associate and are linear, and the identity is neutral on both sides.
-use Rattle.std.specs.Prelude.{◌≡◌, ℕ, zero, suc, ◌+◌, ◌*◌, ◌<◌, ◌==◌, List, [], ◌∷◌, ◌++◌, length, map, take, drop, slice_index, if◌then◌else◌}
-use Rattle.std.proofs.Common.{arith, refl, sym, ap, ◌∙◌, inl, inr, get_or}
+-- Laws of matrices. Their products associate, and the identity is neutral on both sides.
+use Rattle.std.specs.Prelude.{◌≡◌, ℕ, zero, suc, ◌+◌, ◌*◌, ◌<◌, ◌==◌, List, [], ◌∷◌, length, map, take, drop, slice_index, if◌then◌else◌}
+use Rattle.std.proofs.Common.{arith, refl, sym, ap, ◌∙◌, inl, inr}
 use borrow.Author.Tests.{eq-eqb}
 use Rattle.std.proofs.lemmas.Bool.{ne_eqb}
 use Rattle.std.proofs.lemmas.Bool.Decides.{eqb_tells}
-use Rattle.std.proofs.lemmas.List.{length-map, map-append, ext_get_or}
-use Rattle.std.proofs.lemmas.List.Elements.{All-get_or}
+use Rattle.std.proofs.lemmas.List.{length-map, ext_get_or}
 use Rattle.std.proofs.lemmas.List.FromFn.{length-map-range_with_len, fill_by_all}
 use Rattle.std.proofs.lemmas.Simd.{map-map}
 use Rattle.std.specs.List.{range_with_len}
-use Rattle.gf_tables.specs.Product.{size_of}
 use Rattle.gf_tables.specs.declared.kind.FieldKind.{FieldKind}
-use Rattle.linear_algebra.proofs.CombinationLaws.{length-combination, combination-IsRow, combination-add_blocks, combination-map-scale_row, combination-unit_row, slice_index-combination, combination-columns, combination-add_rows, combination-scale_row, combination-zero_row}
+use Rattle.linear_algebra.proofs.CombinationLaws.{length-combination, combination-IsRow, combination-unit_row, slice_index-combination, combination-columns, combination-add_rows, combination-scale_row, combination-zero_row}
 use Rattle.linear_algebra.proofs.DotLaws.{dot-unit_row}
-use Rattle.linear_algebra.specs.Matrices.{rows_of, times_rows, matrix_times, identity, column, add_blocks}
-use Rattle.linear_algebra.proofs.RowLaws.{AreElements-head, AreElements-tail, AreElements-nil, AreElements-cons, add_rows-IsRow, unit_row-IsRow, slice_index-unit_row, length-scale_row, scale_row-elements}
+use Rattle.linear_algebra.specs.Matrices.{rows_of, times_rows, identity, column, add_blocks}
+use Rattle.linear_algebra.proofs.RowLaws.{AreElements-head, AreElements-tail, add_rows-IsRow, unit_row-IsRow, slice_index-unit_row, length-scale_row, scale_row-elements}
 use Rattle.linear_algebra.specs.Rows.{scale_row, unit_row, combination, dot, AreElements, IsRow, AreRows}
-
--- a square matrix whose entries stand row by row
-pub matrix_times-rows_of : (field : FieldKind) (width size : ℕ) (entries : List ℕ) (rows : List (List ℕ))
-    → matrix_times field width size entries rows ≡ times_rows field width (rows_of size size entries) rows
-matrix_times-rows_of field width size entries rows = refl
 
 -- a matrix times rows of one width gives rows of that width
 pub times_rows-AreRows : (field : FieldKind) (width size : ℕ) (matrix rows : List (List ℕ)) → AreRows field size matrix → AreRows field width rows
@@ -56,31 +49,6 @@ times_rows-times_rows field width size middle (coefficients ∷ matrix) others r
       combination-times_rows field width size coefficients others rows h.0.elements k l,
       times_rows-times_rows field width size middle matrix others rows h.1 k l,
     ) refl
-
--- a matrix times sums of rows
-pub times_rows-add_blocks : (field : FieldKind) (width size : ℕ) (matrix rows others : List (List ℕ)) → AreRows field size matrix
-    → AreRows field width rows → AreRows field width others → length rows ≡ length others
-    → times_rows field width matrix (add_blocks rows others) ≡ add_blocks (times_rows field width matrix rows) (times_rows field width matrix others)
-times_rows-add_blocks field width size [] rows others h k l same = refl
-times_rows-add_blocks field width size (coefficients ∷ matrix) rows others h k l same =
-    rw (
-      combination-add_blocks field width coefficients rows others h.0.elements k l same,
-      times_rows-add_blocks field width size matrix rows others h.1 k l same,
-    ) refl
-
--- the entry in a row and a column of a product is the product of that row and that column
-pub slice_index-times_rows : (field : FieldKind) (width size : ℕ) (matrix rows : List (List ℕ)) (i j : ℕ) → AreRows field size matrix → AreRows field width rows
-    → slice_index (get_or (times_rows field width matrix rows) i []) j ≡ dot field (get_or matrix i []) (column j rows)
-slice_index-times_rows field width size [] rows i j h k = refl
-slice_index-times_rows field width size (coefficients ∷ matrix) rows zero j h k = slice_index-combination field width coefficients rows j h.0.elements k
-slice_index-times_rows field width size (coefficients ∷ matrix) rows (suc i) j h k = slice_index-times_rows field width size matrix rows i j h.1 k
-
--- the column of a product is the products of the rows and that column
-pub column-times_rows : (field : FieldKind) (width size : ℕ) (matrix rows : List (List ℕ)) (j : ℕ) → AreRows field size matrix → AreRows field width rows
-    → column j (times_rows field width matrix rows) ≡ map (λ coefficients. dot field coefficients (column j rows)) matrix
-column-times_rows field width size [] rows j h k = refl
-column-times_rows field width size (coefficients ∷ matrix) rows j h k =
-    rw (slice_index-combination field width coefficients rows j h.0.elements k, column-times_rows field width size matrix rows j h.1 k) refl
 
 -- the length of a product
 pub length-times_rows : (field : FieldKind) (width : ℕ) (matrix rows : List (List ℕ)) → length (times_rows field width matrix rows) ≡ length matrix
@@ -139,29 +107,6 @@ times_rows-identity field size [] h = refl
 times_rows-identity field size (row ∷ matrix) h =
     rw (combination-identity field size row h.0, times_rows-identity field size matrix h.1) refl
 
--- multiples of the rows of a product
-pub times_rows-map-scale_row : (field : FieldKind) (width size a : ℕ) (matrix rows : List (List ℕ)) → a < size_of field → AreRows field size matrix → AreRows field width rows
-    → times_rows field width matrix (map (scale_row field a) rows) ≡ map (scale_row field a) (times_rows field width matrix rows)
-times_rows-map-scale_row field width size a [] rows below h k = refl
-times_rows-map-scale_row field width size a (coefficients ∷ matrix) rows below h k =
-    rw (combination-map-scale_row field width a coefficients rows below h.0.elements k, times_rows-map-scale_row field width size a matrix rows below h.1 k) refl
-
--- a sum of matrices times rows
-pub add_blocks-times_rows : (field : FieldKind) (width size : ℕ) (matrix others rows : List (List ℕ)) → AreRows field size matrix → AreRows field size others → AreRows field width rows
-    → times_rows field width (add_blocks matrix others) rows ≡ add_blocks (times_rows field width matrix rows) (times_rows field width others rows)
-add_blocks-times_rows field width size [] others rows h k l = refl
-add_blocks-times_rows field width size (row ∷ matrix) [] rows h k l = refl
-add_blocks-times_rows field width size (row ∷ matrix) (other ∷ others) rows h k l =
-    rw (
-      combination-add_rows field width row other rows h.0.elements k.0.elements (h.0.width ∙ sym k.0.width) l,
-      add_blocks-times_rows field width size matrix others rows h.1 k.1 l,
-    ) refl
-
--- rows of a matrix and then others
-pub times_rows-append : (field : FieldKind) (width : ℕ) (matrix others rows : List (List ℕ))
-    → times_rows field width (matrix ++ others) rows ≡ times_rows field width matrix rows ++ times_rows field width others rows
-times_rows-append field width matrix others rows = map-append (λ coefficients. combination field width coefficients rows) matrix others
-
 -- sums of rows are rows
 pub add_blocks-AreRows : (field : FieldKind) (width : ℕ) (rows others : List (List ℕ)) → AreRows field width rows → AreRows field width others
     → AreRows field width (add_blocks rows others)
@@ -182,14 +127,6 @@ length-add_blocks (row ∷ rows) (other ∷ others) same =
 pub length-column : (j : ℕ) (rows : List (List ℕ)) → length (column j rows) ≡ length rows
 length-column j rows = length-map rows (λ row. slice_index row j)
 
--- the entries of a column are elements
-pub column-elements : (field : FieldKind) (width j : ℕ) (rows : List (List ℕ)) → j < width → AreRows field width rows → AreElements field (column j rows)
-column-elements field width j [] below h = AreElements-nil field
-column-elements field width j (row ∷ rows) below h =
-    let inside : j < length row = omega (arith, h.0.width) in
-    AreElements-cons field (slice_index row j) (column j rows) (All-get_or (λ element. element < size_of field) row j 0 inside h.0.elements)
-    (column-elements field width j rows below h.1)
-
 -- the number of rows that entries are cut into
 pub length-rows_of : (count width : ℕ) (entries : List ℕ) → length (rows_of count width entries) ≡ count
 length-rows_of count width entries = length-map-range_with_len (λ i. take width (drop (i * width) entries)) 0 count
@@ -200,10 +137,3 @@ pub times_rows-columns : (field : FieldKind) (width size : ℕ) (matrix rows : L
 times_rows-columns field width size [] rows h k = refl
 times_rows-columns field width size (coefficients ∷ matrix) rows h k =
     rw (combination-columns field width coefficients rows h.0.elements k, times_rows-columns field width size matrix rows h.1 k) refl
-
--- a matrix with each row multiplied by one element, times rows
-pub map-scale_row-times_rows : (field : FieldKind) (width size a : ℕ) (matrix rows : List (List ℕ)) → a < size_of field → AreRows field size matrix → AreRows field width rows
-    → times_rows field width (map (scale_row field a) matrix) rows ≡ map (scale_row field a) (times_rows field width matrix rows)
-map-scale_row-times_rows field width size a [] rows below h k = refl
-map-scale_row-times_rows field width size a (coefficients ∷ matrix) rows below h k =
-    rw (combination-scale_row field width a coefficients rows below h.0.elements k, map-scale_row-times_rows field width size a matrix rows below h.1 k) refl

@@ -1,12 +1,12 @@
 -- Laws of rows. Addition associates and commutes, zeros add nothing, and a row plus itself is zeros. 1 times a row
--- is the row, and 0 times a row is zeros. An element's inverse takes back what the element makes of a row.
+-- is the row, and 0 times a row is zeros.
 use Rattle.std.specs.Prelude.{◌≡◌, ℕ, zero, suc, ◌+◌, ◌<◌, ◌==◌, Bool, true, false, bit_xor, List, [], ◌∷◌, ◌++◌, length, map, take, drop, slice_index, if◌then◌else◌}
 use Rattle.std.proofs.Common.{arith, refl, sym, ap, ◌∙◌, get_or}
 use Rattle.std.proofs.lemmas.Bool.{ne_eqb}
 use Rattle.std.specs.Int.Bits.{xor_zero_l, xor_zero_r, xor_self, xor_assoc}
-use Rattle.std.specs.List.{All, AllByRecursion, range_with_len}
+use Rattle.std.specs.List.{All, range_with_len}
 use Rattle.std.proofs.lemmas.List.{length-replicate, map-append}
-use Rattle.std.proofs.lemmas.List.Elements.{All-nil, All-cons, All-head, All-tail, All-replicate, All-map, All-from_recursion, recursion_from_All}
+use Rattle.std.proofs.lemmas.List.Elements.{All-nil, All-cons, All-head, All-tail, All-replicate, All-map}
 use Rattle.std.proofs.lemmas.List.FromFn.{length-map-range_with_len, get_or-map-range_with_len}
 use Rattle.std.proofs.lemmas.Nat.{xor_comm}
 use Rattle.gf_tables.proofs.KindField.{kind_field, product_zero}
@@ -30,14 +30,6 @@ AreElements-cons field x xs below h = All-cons (λ element. element < size_of fi
 -- the row of no elements
 pub AreElements-nil : (field : FieldKind) → AreElements field []
 AreElements-nil field = All-nil (λ element. element < size_of field)
-
--- the same fact by recursion on the row
-pub AreElements-from_recursion : (field : FieldKind) (row : List ℕ) → AllByRecursion (λ element. element < size_of field) row → AreElements field row
-AreElements-from_recursion field row h = All-from_recursion (λ element. element < size_of field) row h
-
--- and back
-pub recursion_from_AreElements : (field : FieldKind) (row : List ℕ) → AreElements field row → AllByRecursion (λ element. element < size_of field) row
-recursion_from_AreElements field row h = recursion_from_All (λ element. element < size_of field) row h
 
 -- a sum of rows may be bracketed either way
 pub add_rows-assoc : (xs ys zs : List ℕ) → add_rows (add_rows xs ys) zs ≡ add_rows xs (add_rows ys zs)
@@ -199,12 +191,6 @@ scale_row-xor field a b (x ∷ xs) below_a below_b h =
       scale_row-xor field a b xs below_a below_b (AreElements-tail field x xs h),
     ) refl
 
--- a multiple of a multiple of a row, where the product of the coefficients is 1
-pub scale_row-inverse : (field : FieldKind) (a b : ℕ) (row : List ℕ) → a < size_of field → b < size_of field → product field a b ≡ 1 → All (λ element. element < size_of field) row
-    → scale_row field a (scale_row field b row) ≡ row
-scale_row-inverse field a b row below_a below_b inverse h =
-    scale_row-scale_row field a b row below_a below_b h ∙ ap (λ times. scale_row field times row) inverse ∙ scale_row-one field row h
-
 -- the row at a place of rows
 pub AreRows-get_or : (field : FieldKind) (width i : ℕ) (rows : List (List ℕ)) → i < length rows → AreRows field width rows → IsRow field width (get_or rows i [])
 AreRows-get_or field width i [] below h = absurd (omega arith)
@@ -240,18 +226,6 @@ pub AreRows-map-scale_row : (field : FieldKind) (width times : ℕ) (rows : List
     → AreRows field width (map (scale_row field times) rows)
 AreRows-map-scale_row field width times [] below h = tt
 AreRows-map-scale_row field width times (row ∷ rows) below h = (scale_row-IsRow field width times row below h.0, AreRows-map-scale_row field width times rows below h.1)
-
--- the first of rows
-pub AreRows-take : (field : FieldKind) (width n : ℕ) (rows : List (List ℕ)) → AreRows field width rows → AreRows field width (take n rows)
-AreRows-take field width zero rows h = tt
-AreRows-take field width (suc n) [] h = tt
-AreRows-take field width (suc n) (row ∷ rows) h = (h.0, AreRows-take field width n rows h.1)
-
--- rows from a place on
-pub AreRows-drop : (field : FieldKind) (width n : ℕ) (rows : List (List ℕ)) → AreRows field width rows → AreRows field width (drop n rows)
-AreRows-drop field width zero rows h = h
-AreRows-drop field width (suc n) [] h = tt
-AreRows-drop field width (suc n) (row ∷ rows) h = AreRows-drop field width n rows h.1
 
 -- the first entries of a sum of rows
 pub take-add_rows : (n : ℕ) (xs ys : List ℕ) → take n (add_rows xs ys) ≡ add_rows (take n xs) (take n ys)

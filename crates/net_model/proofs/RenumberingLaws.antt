@@ -1,4 +1,4 @@
--- Laws of new numbers of links: they lead back, and paths, flows, cuts and cycles keep to them.
+-- Laws of new numbers of links: they lead back, and flows and cuts keep to them.
 use Rattle.std.specs.Prelude.{◌≡◌, ◌<◌, ◌≤◌, ◌-◌, ℕ, Bool, true, false, ◌&&◌, nat_eq, nat_lt, List, [], ◌∷◌, ◌++◌, length, map, slice_get, slice_index, All, Option, Some, unwrap_or}
 use Rattle.std.specs.List.{list_any, range_with_len, concat, IsDistinct}
 use Rattle.std.specs.Option.{option_map, option_map_or}
@@ -16,13 +16,13 @@ use Rattle.std.proofs.lemmas.Map.Steps.{length-le_from_distinct_below}
 use Rattle.std.proofs.lemmas.Map.Views.{any-filter_same}
 use Rattle.std.proofs.lemmas.Option.{slice_get-map, slice_get-get_or}
 use Rattle.list_laws.proofs.Tests.{below_bound, none_passes, position_or_len-within}
-use Rattle.net_model.specs.Failed.{failed_links, is_failed_in}
-use Rattle.net_model.specs.Flows.{FlowNetwork, IsCut, IsFlow, IsLeastCut, IsPath, flow_network}
+use Rattle.net_model.specs.Failed.{failed_links}
+use Rattle.net_model.specs.Flows.{FlowNetwork, IsCut, IsFlow, IsPath, flow_network}
 use Rattle.net_model.proofs.ListLaws.{IsDistinct-from_are_distinct}
 use Rattle.net_model.specs.Lists.{are_distinct, is_among}
 use Rattle.net_model.specs.Renumbering.{HasEachOnce, new_number, old_number, renumbered_links, renumbered_network, renumbered_pattern, renumbered_set}
 use Rattle.net_model.proofs.WalkLaws.{IsWalk-below}
-use Rattle.net_model.specs.Walks.{IsAcyclic, IsWalk, head_of, tail_of}
+use Rattle.net_model.specs.Walks.{IsWalk, head_of, tail_of}
 use Rattle.net_model.specs.declared.Demand.{Demand}
 use Rattle.net_model.specs.declared.Link.{Link}
 use Rattle.net_model.specs.declared.Pattern.{Pattern}
@@ -111,12 +111,6 @@ failed_links-renumbered order patterns pattern within =
     ap links (slice_get-map (renumbered_pattern order) patterns pattern ∙ ap (option_map (renumbered_pattern order)) here)
     ∙ ap (renumbered_set order) (sym (ap links here))
 
--- a new link fails in a pattern exactly where the old one does
-pub is_failed-renumbered : (order : List ℕ) (patterns : List Pattern) (pattern new : ℕ) → pattern < length patterns → new < length order
-    → is_failed_in (map (renumbered_pattern order) patterns) pattern new ≡ is_failed_in patterns pattern (old_number order new)
-is_failed-renumbered order patterns pattern new among within =
-    ap (λ failed. is_among failed new) (failed_links-renumbered order patterns pattern among) ∙ is_among-renumbered_set order (failed_links patterns pattern) new within
-
 -- a demand of a network with new numbers has the flow network of the demand, with new numbers
 pub flow_network-renumbered : (net new : Net) (order : List ℕ) (demand : Demand) → new.nodes ≡ net.nodes → new.links ≡ renumbered_links net.links order → new.source ≡ net.source → new.sinks ≡ net.sinks
     → new.patterns ≡ map (renumbered_pattern order) net.patterns → demand.pattern < length net.patterns → flow_network new demand ≡ renumbered_network (flow_network net demand) order
@@ -200,14 +194,6 @@ IsPath-carried from to there carried path is = record {
   working = All-map (λ link. is_among to.failed link ≡ false) there path (λ k d inside. carried.failed _ (IsWalk-below from.links path is.walk k d inside) ∙ is.working k d inside);
 }
 
--- the old numbers of a path's links are a path
-pub IsPath-old : (network : FlowNetwork) {order : List ℕ} → HasEachOnce (length network.links) order → (path : List ℕ) → IsPath (renumbered_network network order) path → IsPath network (map (old_number order) path)
-IsPath-old network {order} once path is = IsPath-carried (renumbered_network network order) network (old_number order) (IsCarried-old network once) path is
-
--- the new numbers of a path's links are a path
-pub IsPath-new : (network : FlowNetwork) {order : List ℕ} → HasEachOnce (length network.links) order → (path : List ℕ) → IsPath network path → IsPath (renumbered_network network order) (map (new_number order) path)
-IsPath-new network {order} once path is = IsPath-carried network (renumbered_network network order) (new_number order) (IsCarried-new network once) path is
-
 -- numbers that are led back are equal, among others and distinct exactly where they were
 module _ (there back : ℕ → ℕ) where
   same-carried : (a b : ℕ) → back (there a) ≡ a → back (there b) ≡ b → nat_eq (there a) (there b) ≡ nat_eq a b
@@ -260,11 +246,6 @@ pub IsFlow-new : (network : FlowNetwork) {order : List ℕ} → HasEachOnce (len
 IsFlow-new network {order} once paths is =
     IsFlow-carried network (renumbered_network network order) (new_number order) (old_number order) (IsCarried-new network once) (old-new once) paths is
 
--- the old numbers of a flow's links are a flow
-pub IsFlow-old : (network : FlowNetwork) {order : List ℕ} → HasEachOnce (length network.links) order → (paths : List (List ℕ)) → IsFlow (renumbered_network network order) paths → IsFlow network (map (map (old_number order)) paths)
-IsFlow-old network {order} once paths is =
-    IsFlow-carried (renumbered_network network order) network (old_number order) (new_number order) (IsCarried-old network once) (new-old_link network.links once) paths is
-
 -- the new number of a number in a list is in the list of new numbers
 is_among-map : (there : ℕ → ℕ) (xs : List ℕ) (x : ℕ) → is_among xs x ≡ true → is_among (map there xs) (there x) ≡ true
 is_among-map there [] x found = cc
@@ -290,26 +271,3 @@ IsCut-carried from to there back carried leads cut is path through =
 pub IsCut-new : (network : FlowNetwork) {order : List ℕ} → HasEachOnce (length network.links) order → (cut : List ℕ) → IsCut network cut → IsCut (renumbered_network network order) (map (new_number order) cut)
 IsCut-new network {order} once cut is =
     IsCut-carried network (renumbered_network network order) (new_number order) (old_number order) (IsCarried-old network once) (new-old_link network.links once) cut is
-
--- the old numbers of a cut are a cut
-pub IsCut-old : (network : FlowNetwork) {order : List ℕ} → HasEachOnce (length network.links) order → (cut : List ℕ) → IsCut (renumbered_network network order) cut → IsCut network (map (old_number order) cut)
-IsCut-old network {order} once cut is =
-    IsCut-carried (renumbered_network network order) network (old_number order) (new_number order) (IsCarried-new network once) (old-new once) cut is
-
--- least cuts before and after have as many links
-pub IsLeastCut-size : (network : FlowNetwork) {order : List ℕ} → HasEachOnce (length network.links) order → (cut other : List ℕ) → IsLeastCut network cut → IsLeastCut (renumbered_network network order) other → length cut ≡ length other
-IsLeastCut-size network {order} once cut other before after =
-    let most = before.least (map (old_number order) other) (IsCut-old network once other after.is_cut) in
-    let least = after.least (map (new_number order) cut) (IsCut-new network once cut before.is_cut) in
-    omega (arith, most, least, length-map other (old_number order), length-map cut (new_number order))
-
--- links without a cycle have none in a new order
-pub IsAcyclic-renumbered : (links : List Link) {order : List ℕ} → HasEachOnce (length links) order → IsAcyclic links → IsAcyclic (renumbered_links links order)
-IsAcyclic-renumbered links {order} once acyclic cycle is =
-    let new = renumbered_links links order in
-    let carried = AreCarried-old links once in
-    acyclic (map (old_number order) cycle) (record {
-      some = omega (arith, length-map cycle (old_number order), is.some);
-      walk = IsWalk-carried new links (old_number order) carried cycle is.walk;
-      closed = start-carried new links (old_number order) carried cycle is.walk is.some ∙ is.closed ∙ sym (end-carried new links (old_number order) carried cycle is.walk is.some);
-    })

@@ -1,5 +1,5 @@
 -- The texts of runs, put together in order, are those of all that was cut into runs.
-use Rattle.std.specs.Prelude.{◌≡◌, ◌<◌, ◌≤◌, ℕ, zero, suc, ◌+◌, ◌*◌, ◌/◌, ◌%◌, min, List, [], ◌++◌, All, IfOk, IsOk, Err, Ok, Result, Vec, drop, flat_map, get_or, length, take}
+use Rattle.std.specs.Prelude.{◌≡◌, ◌<◌, ◌≤◌, ℕ, zero, suc, ◌+◌, ◌*◌, ◌/◌, ◌%◌, min, List, [], ◌++◌, All, IfOk, IsOk, Err, Ok, Result, Vec, flat_map, get_or, length, take}
 use Rattle.std.specs.Fork.{IsChunk, slice_chunk}
 use Rattle.std.specs.Global.{Global}
 use Rattle.std.specs.declared.alloc.AllocError.{AllocError}
@@ -10,12 +10,7 @@ use Rattle.std.proofs.Math.Seq.{take-add}
 use Rattle.std.proofs.lemmas.Grind.{div_ceil_times}
 use Rattle.std.proofs.lemmas.List.{flat_map_more, take_all, take_more}
 use Rattle.std.proofs.lemmas.List.Concat.{flat_map-append}
-use Rattle.std.proofs.lemmas.List.Elements.{All-drop, All-take}
 use Rattle.report_text.specs.Runs.{AreJoined, made_text}
-
--- what holds of all holds of each run
-pub all_in_run : {X : Type 0} (P : X → Type 0) (xs : List X) (size start : ℕ) (run : List X) → All P xs → IsChunk xs size start run → All P run
-all_in_run P xs size start run all is = subst (All P) (sym is.value) (All-take P size (drop start xs) (All-drop P start xs all))
 
 -- the text of a run that was made
 made_is : (one : Result (Vec ℕ Global) AllocError) (lines : List ℕ) → IsOk one → IfOk one (λ text. text.items ≡ lines) → made_text one ≡ lines

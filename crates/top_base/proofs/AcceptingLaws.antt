@@ -1,13 +1,12 @@
 -- Codes as inputs: bytes are those of one accepted code, or are refused in one way.
 use Rattle.std.specs.Prelude.{◌≡◌, ◌<◌, ℕ, List, IsTrue}
-use Rattle.std.proofs.Common.{refl, sym, ap, subst, ◌∙◌, arith}
+use Rattle.std.proofs.Common.{refl, sym, ap, subst, ◌∙◌}
 use Rattle.list_laws.proofs.Numbers.{neither_below}
 use Rattle.code_checker.specs.Checking.{FailsFirst, DiffersFirst, entry_at, demand_product}
 use Rattle.code_checker.proofs.CheckingLaws.{FailsFirst-refuses}
-use Rattle.code_file.specs.Items.{IsFileOf, bytes_of}
+use Rattle.code_file.specs.Items.{bytes_of}
 use Rattle.code_file.specs.Reading.{contents_of}
 use Rattle.code_file.proofs.ReadingLaws.{contents_of-bytes_of}
-use Rattle.cut_bound.proofs.RateLaws.{accepted-within_cuts}
 use Rattle.node_program.specs.Decoding.{IsAccepted}
 use Rattle.node_program.specs.declared.code.Code.{Code}
 use Rattle.code_file.specs.Limits.{code_limit}
@@ -73,10 +72,6 @@ same_refusal bytes (CheckFailed demand row column found) line (CheckFailed deman
 same_refusal bytes (CodeRefused why) line status' line' one other = absurd other
 same_refusal bytes (CheckFailed demand row column found) line status' line' one other = absurd other
 same_refusal bytes status line status' line' one other = absurd one
-
--- the file of an accepted code is one, and nothing more is asked of it
-pub file_of_accepted : (bytes : List ℕ) (code : Code) → IsFileOf bytes code → IsAccepted code → IsCodeOf bytes code
-file_of_accepted bytes code spelled accepted = record { spelled = spelled; accepted = accepted; within_cuts = accepted-within_cuts code accepted }
 
 -- what has to be known of a code as an input
 pub code_input : IsInput code_limit IsCodeOf RefusesCode

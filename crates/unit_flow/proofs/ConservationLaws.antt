@@ -68,35 +68,25 @@ is_free-set_other states link other state apart = ap (λ one. option_map_or is_f
 pub is_failed-set_other : (states : List LinkState) (link other : ℕ) (state : LinkState) → other ≢ link → is_failed (slice_set states link state) other ≡ is_failed states other
 is_failed-set_other states link other state apart = ap (λ one. option_map_or is_failed_state one false) (get_set_other states link other state apart)
 
+-- a link in a state that passes one test doesn't pass another that no state passes with it
+not_both : (one other : LinkState → Bool) → (one Free && other Free) ≡ false → (one Used && other Used) ≡ false → (one Failed && other Failed) ≡ false
+    → (found : Option LinkState) → option_map_or one found false ≡ true → option_map_or other found false ≡ false
+not_both one other free used failed None is = refl
+not_both one other free used failed (Some Free) is = sym (ap (λ b. b && other Free) is) ∙ free
+not_both one other free used failed (Some Used) is = sym (ap (λ b. b && other Used) is) ∙ used
+not_both one other free used failed (Some Failed) is = sym (ap (λ b. b && other Failed) is) ∙ failed
+
 -- a used link didn't fail
 pub used_not_failed : (states : List LinkState) (link : ℕ) → is_used states link ≡ true → is_failed states link ≡ false
-used_not_failed states link used = at (slice_get states link) used
-  where
-    at : (one : Option LinkState) → option_map_or is_used_state one false ≡ true → option_map_or is_failed_state one false ≡ false
-    at None is = refl
-    at (Some Free) is = refl
-    at (Some Used) is = refl
-    at (Some Failed) is = cc
+used_not_failed states link used = not_both is_used_state is_failed_state refl refl refl (slice_get states link) used
 
 -- nor did a free one
-pub free_not_failed : (states : List LinkState) (link : ℕ) → is_free states link ≡ true → is_failed states link ≡ false
-free_not_failed states link free = at (slice_get states link) free
-  where
-    at : (one : Option LinkState) → option_map_or is_free_state one false ≡ true → option_map_or is_failed_state one false ≡ false
-    at None is = refl
-    at (Some Free) is = refl
-    at (Some Used) is = refl
-    at (Some Failed) is = cc
+free_not_failed : (states : List LinkState) (link : ℕ) → is_free states link ≡ true → is_failed states link ≡ false
+free_not_failed states link free = not_both is_free_state is_failed_state refl refl refl (slice_get states link) free
 
 -- which isn't used
-pub free_not_used : (states : List LinkState) (link : ℕ) → is_free states link ≡ true → is_used states link ≡ false
-free_not_used states link free = at (slice_get states link) free
-  where
-    at : (one : Option LinkState) → option_map_or is_free_state one false ≡ true → option_map_or is_used_state one false ≡ false
-    at None is = refl
-    at (Some Free) is = refl
-    at (Some Used) is = cc
-    at (Some Failed) is = refl
+free_not_used : (states : List LinkState) (link : ℕ) → is_free states link ≡ true → is_used states link ≡ false
+free_not_used states link free = not_both is_free_state is_used_state refl refl refl (slice_get states link) free
 
 -- how many of a range pass a test, by its first number
 count_next : (test : ℕ → Bool) (a n : ℕ) → count_by test (range_with_len a (suc n)) ≡ cond (test a) 1 0 + count_by test (range_with_len (a + 1) n)
