@@ -81,9 +81,6 @@ loop-sink-preserved g c =
           ∙ parts-appended paths runner.code runner.pattern (packets_given moves) (runner.first + c.args.place) n);
     }
 
-pub returns-clause-still : goal.returns-clause-still
-returns-clause-still g c = c.loop-sink.invariant.still
-
 pub returns-clause-still_made : goal.returns-clause-still_made
 returns-clause-still_made g c = c.loop-sink.invariant.made
 

@@ -79,9 +79,6 @@ loop-place-preserved g c =
           ∙ turns-next paths runner.code runner.pattern (packets_given moves) runner.first n);
     }
 
-pub returns-clause-still : goal.returns-clause-still
-returns-clause-still g c = c.loop-place.invariant.still
-
 pub returns-clause-appended : goal.returns-clause-appended
 returns-clause-appended g c = λ moves by.
     let self = c.args.self.now in
