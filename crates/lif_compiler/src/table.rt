@@ -68,10 +68,10 @@ fn fill_row<F: Field, L: Ledger>(
     ensures ticks { RoseByAtMost
         (length sources.now * inverses.now.columns) steps.old steps.new }
 {
-    let _columns = table.columns();
-    for (column, from) in sources.iter().enumerate() {
-        let entry = product(leaves, *from, vectors, inverses, path, steps);
-        table.set(row, column as u32, entry);
+    for column in 0..table.columns() {
+        let from = sources[column as usize];
+        let entry = product(leaves, from, vectors, inverses, path, steps);
+        table.set(row, column, entry);
     }
 }
 

@@ -21,9 +21,10 @@ use Rattle.station_table.specs.Fed.{window_of}
 use Rattle.lif_top.proofs.CarriedLaws.{blocks_from-append, carried-then, decoded-next, decoded-still, length-blocks_from}
 use Rattle.lif_top.proofs.TurnLaws.{turns-alike, turns-append}
 use Rattle.lif_top.specs.Send.Carried.{blocks_from}
-use Rattle.lif_top.specs.Send.Delivering.{BreaksBlocks, CanCarry, DeliversBlocks, DeliversSome, Interrupts, InterruptsBlocks, InterruptsBytes, calls_join}
+use Rattle.lif_top.specs.Send.Delivering.{BreaksBlocks, CanCarry, DeliversBlocks, DeliversSome, Interrupts, InterruptsBlocks, InterruptsBytes, IsStill, calls_join}
 use Rattle.lif_top.specs.Send.Runs.{room_for}
 use Rattle.lif_top.specs.Send.Turns.{turns_before, turns_from}
+use Rattle.lif_top.specs.declared.delivery.Delivery.{Delivery}
 use Rattle.lif_top.specs.declared.delivery.DeliveryFault.{DeliveryFault}
 use Rattle.lif_top.specs.declared.delivery.DeliveryFault.TheVariants as fault
 
@@ -181,6 +182,19 @@ numbered code generations few =
     let size : 1020 ≤ capacity code.rate = omega (arith, some) in
     let least : generations * 1020 ≤ generations * capacity code.rate = mul-le-mul_left generations size in
     omega (arith, few, least)
+
+-- ---- a delivery that is still
+
+pub still-here : {F : Type 0} (delivery : Delivery F) → IsStill delivery delivery
+still-here delivery = record { runner = refl; outputs = refl; window = refl; gathered = refl }
+
+pub still-then : {F : Type 0} {old at new : Delivery F} → IsStill old at → IsStill at new → IsStill old new
+still-then was is = record {
+  runner = is.runner ∙ was.runner;
+  outputs = is.outputs ∙ was.outputs;
+  window = is.window ∙ was.window;
+  gathered = is.gathered ∙ was.gathered;
+}
 
 -- ---- blocks that stand one after another
 

@@ -7,7 +7,7 @@ ghost use Rattle.lif_outside.specs.Moves.{Move};
 ghost use Rattle.lif_outside.specs.Runs.{StopsWithin, appends_of, creates_of};
 ghost use Rattle.lif_outside.specs.Sequences.{Are};
 ghost use Rattle.lif_top.specs.Send.Carried.{blocks_from};
-ghost use Rattle.lif_top.specs.Send.Delivering.{CanCarry, DeliversBlocks, DeliversSome, HasGoneOn, HasMoved, Interrupts, InterruptsBlocks, InterruptsBytes, IsBehind};
+ghost use Rattle.lif_top.specs.Send.Delivering.{CanCarry, DeliversBlocks, DeliversSome, HasGoneOn, HasMoved, Interrupts, InterruptsBlocks, InterruptsBytes, IsBehind, IsStill};
 ghost use Rattle.lif_top.specs.Send.Ready.{AreCounts, paths_of};
 ghost use Rattle.lif_top.specs.Send.Turns.{parts_from, turn_at, turns_from};
 ghost use Rattle.relay_runner.specs.Carried.{HasCarriedBy, packets_given};
@@ -68,10 +68,7 @@ impl<'c, F: Field> Delivery<'c, F> {
         requires decoded { HasDecoded self.old.runner }
         requires made { (path : List ℕ) → Contains (paths_of self.old) path
             → S.made store.old path }
-        ensures runner { self.new.runner ≡ self.old.runner }
-        ensures outputs { self.new.outputs ≡ self.old.outputs }
-        ensures window { self.new.window ≡ self.old.window }
-        ensures gathered { self.new.gathered ≡ self.old.gathered }
+        ensures still { IsStill self.old self.new }
         ensures kept { KeepsStore S.Store store.old store.new }
         ensures appended { OnOk result ((moves : List Move) → HasCarriedBy self.old.runner moves
             → MakesCalls S.Store store.old store.new (Are (appends_of (parts_from
@@ -98,10 +95,7 @@ impl<'c, F: Field> Delivery<'c, F> {
         requires decoded { HasDecoded self.old.runner }
         requires made { (path : List ℕ) → Contains (paths_of self.old) path
             → S.made store.old path }
-        ensures runner { self.new.runner ≡ self.old.runner }
-        ensures outputs { self.new.outputs ≡ self.old.outputs }
-        ensures window { self.new.window ≡ self.old.window }
-        ensures gathered { self.new.gathered ≡ self.old.gathered }
+        ensures still { IsStill self.old self.new }
         ensures still_made { (path : List ℕ) → Contains (paths_of self.old) path
             → S.made store.new path }
         ensures appended { OnOk result ((moves : List Move) → HasCarriedBy self.old.runner moves
@@ -126,10 +120,7 @@ impl<'c, F: Field> Delivery<'c, F> {
         requires decoded { HasDecoded self.old.runner }
         requires made { (path : List ℕ) → Contains (paths_of self.old) path
             → S.made store.old path }
-        ensures runner { self.new.runner ≡ self.old.runner }
-        ensures outputs { self.new.outputs ≡ self.old.outputs }
-        ensures window { self.new.window ≡ self.old.window }
-        ensures gathered { self.new.gathered ≡ self.old.gathered }
+        ensures still { IsStill self.old self.new }
         ensures appended { OnOk result ((moves : List Move) → HasCarriedBy self.old.runner moves
             → MakesCalls S.Store store.old store.new (Are (appends_of (turns_from
             (paths_of self.old) self.old.runner.code self.old.runner.pattern

@@ -11,6 +11,7 @@ use Rattle.relay_runner.specs.Carried.{IsStopped, packets_given}
 use Rattle.relay_runner.specs.Running.{HasCarried, Running}
 use Rattle.lif_top.specs.Send.Carried.{AreCarried, Breaks, Delivers, IsOver, blocks_from}
 use Rattle.lif_top.specs.Send.Turns.{turns_from}
+use Rattle.lif_top.specs.declared.delivery.Delivery.{Delivery}
 use Rattle.lif_top.specs.declared.delivery.DeliveryFault.{DeliveryFault}
 use Rattle.lif_top.specs.declared.delivery.DeliveryFault.TheVariants as fault
 
@@ -35,6 +36,13 @@ pub record HasGoneOn (old new : Running) : Type 0 where
   pub code : new.code ≡ old.code
   pub pattern : new.pattern ≡ old.pattern
   pub more : old.next ≤ new.next
+
+-- a delivery has the code at work, the files, the window and what it gathered as before
+pub record IsStill {F : Type 0} (old new : Delivery F) : Type 0 where
+  pub runner : new.runner ≡ old.runner
+  pub outputs : new.outputs ≡ old.outputs
+  pub window : new.window ≡ old.window
+  pub gathered : new.gathered ≡ old.gathered
 
 -- Blocks were carried that are numbered from a generation on, and what came of them delivered to the files at these paths: Q holds
 -- of the appends that are due and of those that were made.

@@ -9,6 +9,7 @@ use Rattle.relay_runner.specs.Carried.{HasCarriedBy, packets_given}
 use Rattle.relay_runner.specs.Decoding.{HasDecoded}
 use Rattle.relay_runner.specs.Running.{Running}
 use Rattle.top_base.proofs.Exits.{on_err}
+use Rattle.lif_top.proofs.DeliveryLaws.{still-here, still-then}
 use Rattle.lif_top.proofs.TurnLaws.{parts-appended, parts-stopped}
 use Rattle.lif_top.specs.Send.Ready.{paths_of}
 use Rattle.lif_top.specs.Send.Turns.{parts_from, turn_at}
@@ -20,38 +21,26 @@ parts place paths moves sink count runner = appends_of (parts_from paths runner.
 
 pub loop-sink-init : goal.loop-sink-init
 loop-sink-init g c = record {
-  runner = refl;
-  outputs = refl;
-  gathered = refl;
-  window = refl;
+  still = still-here c.args.self.now;
   made = c.requires.made;
   calls = λ moves by. calls_of _ [] (g.met.S.Store.no_calls c.args.store.now) refl;
 }
 
 pub append_decoded-requires-clause-decoded : goal.append_decoded-requires-clause-decoded
-append_decoded-requires-clause-decoded g c = subst HasDecoded (sym c.loop-sink.invariant.runner) c.requires.decoded
+append_decoded-requires-clause-decoded g c = subst HasDecoded (sym c.loop-sink.invariant.still.runner) c.requires.decoded
 
 pub append_decoded-requires-clause-place : goal.append_decoded-requires-clause-place
-append_decoded-requires-clause-place g c = omega (arith, c.requires.place, ap (λ (runner : Running). runner.count) c.loop-sink.invariant.runner)
+append_decoded-requires-clause-place g c = omega (arith, c.requires.place, ap (λ (runner : Running). runner.count) c.loop-sink.invariant.still.runner)
 
 pub append_decoded-requires-clause-few : goal.append_decoded-requires-clause-few
-append_decoded-requires-clause-few g c = omega (arith, c.requires.few, ap (λ (runner : Running). runner.count) c.loop-sink.invariant.runner)
+append_decoded-requires-clause-few g c = omega (arith, c.requires.few, ap (λ (runner : Running). runner.count) c.loop-sink.invariant.still.runner)
 
 pub append_decoded-requires-clause-made : goal.append_decoded-requires-clause-made
 append_decoded-requires-clause-made g c = λ path there.
-    c.loop-sink.invariant.made path (subst (λ outputs. Contains (map string_bytes outputs.items) path) c.loop-sink.invariant.outputs there)
+    c.loop-sink.invariant.made path (subst (λ outputs. Contains (map string_bytes outputs.items) path) c.loop-sink.invariant.still.outputs there)
 
-pub returns-in_err-append_decoded-clause-runner : goal.returns-in_err-append_decoded-clause-runner
-returns-in_err-append_decoded-clause-runner g c = c.append_decoded.ensures.runner ∙ c.loop-sink.invariant.runner
-
-pub returns-in_err-append_decoded-clause-outputs : goal.returns-in_err-append_decoded-clause-outputs
-returns-in_err-append_decoded-clause-outputs g c = c.append_decoded.ensures.outputs ∙ c.loop-sink.invariant.outputs
-
-pub returns-in_err-append_decoded-clause-gathered : goal.returns-in_err-append_decoded-clause-gathered
-returns-in_err-append_decoded-clause-gathered g c = c.append_decoded.ensures.gathered ∙ c.loop-sink.invariant.gathered
-
-pub returns-in_err-append_decoded-clause-window : goal.returns-in_err-append_decoded-clause-window
-returns-in_err-append_decoded-clause-window g c = c.append_decoded.ensures.window ∙ c.loop-sink.invariant.window
+pub returns-in_err-append_decoded-clause-still : goal.returns-in_err-append_decoded-clause-still
+returns-in_err-append_decoded-clause-still g c = still-then c.loop-sink.invariant.still c.append_decoded.ensures.still
 
 pub returns-in_err-append_decoded-clause-still_made : goal.returns-in_err-append_decoded-clause-still_made
 returns-in_err-append_decoded-clause-still_made g c = λ path there. c.append_decoded.ensures.kept.still_made path (c.loop-sink.invariant.made path there)
@@ -63,14 +52,14 @@ returns-in_err-append_decoded-clause-failed g c =
     let paths = paths_of self in
     let n = c.loop-sink.sink in
     let inside : n < length paths = omega (arith, length-map self.outputs.items string_bytes) in
-    let same = c.loop-sink.invariant.runner in
+    let same = c.loop-sink.invariant.still.runner in
     on_err c.from_residual.result (λ moves by.
     let turn : List Event = appends_of (turn_at paths runner.code runner.pattern (packets_given moves) (runner.first + c.args.place) ∷ []) in
     calls_then g.met.S.Store.more_calls _ _ (StopsWithin turn) (c.loop-sink.invariant.calls moves by)
     (c.in_err-append_decoded.ensures.failed moves (subst (λ runner. HasCarriedBy runner moves) (sym same) by))
     (λ first later one other. subst (λ first. StopsWithin turn (first ++ later)) (sym one)
     (parts-stopped paths runner.code runner.pattern (packets_given moves) (runner.first + c.args.place) n inside later
-    (subst₂ (λ (runner : Running) outputs. StopsWithin (parts c.args.place (map string_bytes outputs.items) moves n 1 runner) later) same c.loop-sink.invariant.outputs other))))
+    (subst₂ (λ (runner : Running) outputs. StopsWithin (parts c.args.place (map string_bytes outputs.items) moves n 1 runner) later) same c.loop-sink.invariant.still.outputs other))))
 
 pub loop-sink-preserved : goal.loop-sink-preserved
 loop-sink-preserved g c =
@@ -78,12 +67,9 @@ loop-sink-preserved g c =
     let runner = self.runner in
     let paths = paths_of self in
     let n = c.loop-sink.sink in
-    let same = c.loop-sink.invariant.runner in
+    let same = c.loop-sink.invariant.still.runner in
     record {
-      runner = c.append_decoded.ensures.runner ∙ same;
-      outputs = c.append_decoded.ensures.outputs ∙ c.loop-sink.invariant.outputs;
-      gathered = c.append_decoded.ensures.gathered ∙ c.loop-sink.invariant.gathered;
-      window = c.append_decoded.ensures.window ∙ c.loop-sink.invariant.window;
+      still = still-then c.loop-sink.invariant.still c.append_decoded.ensures.still;
       made = λ path there. c.append_decoded.ensures.kept.still_made path (c.loop-sink.invariant.made path there);
       calls = λ moves by.
           calls_then g.met.S.Store.more_calls _ _ _ (c.loop-sink.invariant.calls moves by)
@@ -91,21 +77,9 @@ loop-sink-preserved g c =
           (λ first later one other. ap (λ (events : List Event). events ++ later) one
           ∙ ap (λ (events : List Event). parts c.args.place paths moves 0 n runner ++ events)
           (other ∙ ap (λ (runner : Running). parts c.args.place (map string_bytes c.loop-sink.self.outputs.items) moves n 1 runner) same
-          ∙ ap (λ outputs. parts c.args.place (map string_bytes outputs.items) moves n 1 runner) c.loop-sink.invariant.outputs)
+          ∙ ap (λ outputs. parts c.args.place (map string_bytes outputs.items) moves n 1 runner) c.loop-sink.invariant.still.outputs)
           ∙ parts-appended paths runner.code runner.pattern (packets_given moves) (runner.first + c.args.place) n);
     }
-
-pub returns-clause-runner : goal.returns-clause-runner
-returns-clause-runner g c = c.loop-sink.invariant.runner
-
-pub returns-clause-outputs : goal.returns-clause-outputs
-returns-clause-outputs g c = c.loop-sink.invariant.outputs
-
-pub returns-clause-gathered : goal.returns-clause-gathered
-returns-clause-gathered g c = c.loop-sink.invariant.gathered
-
-pub returns-clause-window : goal.returns-clause-window
-returns-clause-window g c = c.loop-sink.invariant.window
 
 pub returns-clause-still_made : goal.returns-clause-still_made
 returns-clause-still_made g c = c.loop-sink.invariant.made

@@ -1,9 +1,10 @@
-use Rattle.std.proofs.Common.{◌≡◌, ◌+◌, ◌∷◌, [], Contains, List, ℕ}
+use Rattle.std.proofs.Common.{◌+◌, ◌∷◌, [], Contains, List, ℕ}
 use Rattle.lif_outside.specs.Calls.{MakesCalls}
 use Rattle.lif_outside.specs.Moves.{Move}
 use Rattle.lif_outside.specs.Runs.{appends_of}
 use Rattle.lif_outside.specs.Sequences.{Are}
 use Rattle.relay_runner.specs.Carried.{HasCarriedBy, packets_given}
+use Rattle.lif_top.specs.Send.Delivering.{IsStill}
 use Rattle.lif_top.specs.Send.Ready.{paths_of}
 use Rattle.lif_top.specs.Send.Turns.{parts_from}
 use Rattle.lif_top.proofs.delivery.Delivery.append_block.Given as goal
@@ -12,10 +13,7 @@ abbrev pub invariant-loop-sink : goal.invariant-loop-sink
 invariant-loop-sink g l =
     let work = l.initial.self.runner in
     record {
-      runner : l.self.runner ≡ work;
-      outputs : l.self.outputs ≡ l.initial.self.outputs;
-      gathered : l.self.gathered ≡ l.initial.self.gathered;
-      window : l.self.window ≡ l.initial.self.window;
+      still : IsStill l.initial.self l.self;
       made : (path : List ℕ) → Contains (paths_of l.initial.self) path → g.S.Store.made l.store path;
       calls : (moves : List Move) → HasCarriedBy work moves
           → MakesCalls g.S.Store l.initial.store l.store

@@ -8,6 +8,7 @@ use Rattle.relay_runner.specs.Carried.{HasCarriedBy, packets_given}
 use Rattle.relay_runner.specs.Decoding.{HasDecoded}
 use Rattle.relay_runner.specs.Running.{Running}
 use Rattle.top_base.proofs.Exits.{on_err}
+use Rattle.lif_top.proofs.DeliveryLaws.{still-here, still-then}
 use Rattle.lif_top.proofs.TurnLaws.{turns-next, turns-stopped}
 use Rattle.lif_top.specs.Send.Ready.{paths_of}
 use Rattle.lif_top.specs.Send.Turns.{turn_at, turns_from}
@@ -22,38 +23,26 @@ turns count moves paths runner = appends_of (turns_from paths runner.code runner
 
 pub loop-place-init : goal.loop-place-init
 loop-place-init g c = record {
-  runner = refl;
-  outputs = refl;
-  gathered = refl;
-  window = refl;
+  still = still-here c.args.self.now;
   made = c.requires.made;
   calls = λ moves by. calls_of _ [] (g.met.S.Store.no_calls c.args.store.now) refl;
 }
 
 pub append_block-requires-clause-place : goal.append_block-requires-clause-place
-append_block-requires-clause-place g c = omega (arith, c.requires.all, ap (λ (runner : Running). runner.count) c.loop-place.invariant.runner)
+append_block-requires-clause-place g c = omega (arith, c.requires.all, ap (λ (runner : Running). runner.count) c.loop-place.invariant.still.runner)
 
 pub append_block-requires-clause-few : goal.append_block-requires-clause-few
-append_block-requires-clause-few g c = omega (arith, c.requires.all, c.requires.few, ap (λ (runner : Running). runner.count) c.loop-place.invariant.runner)
+append_block-requires-clause-few g c = omega (arith, c.requires.all, c.requires.few, ap (λ (runner : Running). runner.count) c.loop-place.invariant.still.runner)
 
 pub append_block-requires-clause-decoded : goal.append_block-requires-clause-decoded
-append_block-requires-clause-decoded g c = subst HasDecoded (sym c.loop-place.invariant.runner) c.requires.decoded
+append_block-requires-clause-decoded g c = subst HasDecoded (sym c.loop-place.invariant.still.runner) c.requires.decoded
 
 pub append_block-requires-clause-made : goal.append_block-requires-clause-made
 append_block-requires-clause-made g c = λ path there.
-    c.loop-place.invariant.made path (subst (λ outputs. Contains (map string_bytes outputs.items) path) c.loop-place.invariant.outputs there)
+    c.loop-place.invariant.made path (subst (λ outputs. Contains (map string_bytes outputs.items) path) c.loop-place.invariant.still.outputs there)
 
-pub returns-in_err-append_block-clause-runner : goal.returns-in_err-append_block-clause-runner
-returns-in_err-append_block-clause-runner g c = c.append_block.ensures.runner ∙ c.loop-place.invariant.runner
-
-pub returns-in_err-append_block-clause-outputs : goal.returns-in_err-append_block-clause-outputs
-returns-in_err-append_block-clause-outputs g c = c.append_block.ensures.outputs ∙ c.loop-place.invariant.outputs
-
-pub returns-in_err-append_block-clause-gathered : goal.returns-in_err-append_block-clause-gathered
-returns-in_err-append_block-clause-gathered g c = c.append_block.ensures.gathered ∙ c.loop-place.invariant.gathered
-
-pub returns-in_err-append_block-clause-window : goal.returns-in_err-append_block-clause-window
-returns-in_err-append_block-clause-window g c = c.append_block.ensures.window ∙ c.loop-place.invariant.window
+pub returns-in_err-append_block-clause-still : goal.returns-in_err-append_block-clause-still
+returns-in_err-append_block-clause-still g c = still-then c.loop-place.invariant.still c.append_block.ensures.still
 
 pub returns-in_err-append_block-clause-failed : goal.returns-in_err-append_block-clause-failed
 returns-in_err-append_block-clause-failed g c =
@@ -65,10 +54,10 @@ returns-in_err-append_block-clause-failed g c =
     on_err c.from_residual.result (λ moves by.
     let all : List Event = turns c.args.count moves paths runner in
     calls_then g.met.S.Store.more_calls _ _ (StopsWithin all) (was.calls moves by)
-    (c.in_err-append_block.ensures.failed moves (subst (λ runner. HasCarriedBy runner moves) (sym was.runner) by))
+    (c.in_err-append_block.ensures.failed moves (subst (λ runner. HasCarriedBy runner moves) (sym was.still.runner) by))
     (λ first later one other. subst (λ first. StopsWithin all (first ++ later)) (sym one)
     (turns-stopped paths runner.code runner.pattern (packets_given moves) runner.first c.args.count n c.loop-place-test.true later
-    (subst₂ (λ (runner : Running) outputs. StopsWithin (turn n moves (map string_bytes outputs.items) runner) later) was.runner was.outputs other))))
+    (subst₂ (λ (runner : Running) outputs. StopsWithin (turn n moves (map string_bytes outputs.items) runner) later) was.still.runner was.still.outputs other))))
 
 pub loop-place-preserved : goal.loop-place-preserved
 loop-place-preserved g c =
@@ -78,32 +67,17 @@ loop-place-preserved g c =
     let n = c.loop-place.place in
     let was = c.loop-place.invariant in
     record {
-      runner = c.append_block.ensures.runner ∙ was.runner;
-      outputs = c.append_block.ensures.outputs ∙ was.outputs;
-      gathered = c.append_block.ensures.gathered ∙ was.gathered;
-      window = c.append_block.ensures.window ∙ was.window;
-      made = λ path there. c.append_block.ensures.still_made path (subst (λ outputs. Contains (map string_bytes outputs.items) path) (sym was.outputs) there);
+      still = still-then was.still c.append_block.ensures.still;
+      made = λ path there. c.append_block.ensures.still_made path (subst (λ outputs. Contains (map string_bytes outputs.items) path) (sym was.still.outputs) there);
       calls = λ moves by.
           calls_then g.met.S.Store.more_calls _ _ _ (was.calls moves by)
-          (c.in_ok-append_block.ensures.appended moves (subst (λ runner. HasCarriedBy runner moves) (sym was.runner) by))
+          (c.in_ok-append_block.ensures.appended moves (subst (λ runner. HasCarriedBy runner moves) (sym was.still.runner) by))
           (λ first later one other. ap (λ (events : List Event). events ++ later) one
           ∙ ap (λ (events : List Event). turns n moves paths runner ++ events)
-          (other ∙ ap (turn n moves (map string_bytes c.loop-place.self.outputs.items)) was.runner
-          ∙ ap (λ outputs. turn n moves (map string_bytes outputs.items) runner) was.outputs)
+          (other ∙ ap (turn n moves (map string_bytes c.loop-place.self.outputs.items)) was.still.runner
+          ∙ ap (λ outputs. turn n moves (map string_bytes outputs.items) runner) was.still.outputs)
           ∙ turns-next paths runner.code runner.pattern (packets_given moves) runner.first n);
     }
-
-pub returns-clause-runner : goal.returns-clause-runner
-returns-clause-runner g c = c.loop-place.invariant.runner
-
-pub returns-clause-outputs : goal.returns-clause-outputs
-returns-clause-outputs g c = c.loop-place.invariant.outputs
-
-pub returns-clause-gathered : goal.returns-clause-gathered
-returns-clause-gathered g c = c.loop-place.invariant.gathered
-
-pub returns-clause-window : goal.returns-clause-window
-returns-clause-window g c = c.loop-place.invariant.window
 
 pub returns-clause-appended : goal.returns-clause-appended
 returns-clause-appended g c = λ moves by.

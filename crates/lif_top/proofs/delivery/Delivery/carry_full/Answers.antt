@@ -1,5 +1,5 @@
 use Rattle.std.specs.Prelude.{◌-◌, ◌*◌}
-use Rattle.std.proofs.Common.{◌≡◌, [], length, refl, ap, ◌∙◌, sym, subst, arith}
+use Rattle.std.proofs.Common.{◌≡◌, [], length, refl, sym, subst, arith}
 use Rattle.generation_frame.specs.Blocks.{capacity}
 use Rattle.lif_outside.specs.Sequences.{Are}
 use Rattle.lif_top.proofs.GatherLaws.{behind-all, on_ok_both}

@@ -94,7 +94,7 @@ returns-in-Ok-append_window-clause-moved g c =
     let runner = c.args.self.now.runner in
     let after = c.in-Ok.ensures in
     let rest = c.decode_all.ensures.rest in
-    subst (HasMoved c.args.count runner) (sym c.append_window.ensures.runner)
+    subst (HasMoved c.args.count runner) (sym c.append_window.ensures.still.runner)
     (record {
       code = ap (λ (runner : Running). runner.code) rest ∙ after.code;
       pattern = ap (λ (runner : Running). runner.pattern) rest ∙ after.pattern;
@@ -111,7 +111,7 @@ returns-in-Ok-append_window-clause-can g c =
     let after = c.in-Ok.ensures in
     let can = c.requires.can in
     subst (λ (runner : Running). CanCarry runner (g.K.Links.flying c.carry.new.links) (g.K.Links.room c.carry.new.links))
-    (sym (c.append_window.ensures.runner ∙ c.decode_all.ensures.rest))
+    (sym (c.append_window.ensures.still.runner ∙ c.decode_all.ensures.rest))
     (record {
       known = subst₂ (λ (code : Code) pattern. pattern < length code.net.patterns) (sym after.code) (sym after.pattern) can.known;
       works = after.failed;
