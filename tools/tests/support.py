@@ -51,14 +51,20 @@ def tool_module(name: str) -> ModuleType:
     return made
 
 
-def find_program() -> list[str] | None:
-    """The program: what LIF_PROGRAM names, or the script `lif` where it has built one of the source as it is."""
+def find_built() -> str | None:
+    """The program itself: what LIF_PROGRAM names, or what the script `lif` has built of the source as it is."""
     named = os.environ.get("LIF_PROGRAM")
     if named:
-        return [named]
-    built = [path.stat().st_mtime for path in (TOP / "crates/lif_cli/out").glob("lif-x86-64-*")]
+        return named
+    built = max((TOP / "crates/lif_cli/out").glob("lif-x86-64-*"), key=lambda path: path.stat().st_mtime, default=None)
     sources = [path.stat().st_mtime for path in TOP.glob("crates/*/src/*")]
-    return [str(TOP / "lif")] if built and max(built) > max(sources) else None
+    return str(built) if built and built.stat().st_mtime > max(sources) else None
+
+
+def find_program() -> list[str] | None:
+    """The program: what LIF_PROGRAM names, or the script `lif` where it has built one of the source as it is."""
+    built = find_built()
+    return [os.environ.get("LIF_PROGRAM") or str(TOP / "lif")] if built else None
 
 
 def network_of(

@@ -8,7 +8,7 @@ from pathlib import Path
 
 import pytest
 
-from support import EXAMPLES, bytes_of, find_program, layers_text, run_tool, without_packages
+from support import EXAMPLES, bytes_of, find_built, layers_text, run_tool, without_packages
 from lifformats import Code, Decoder, Link, Network, Operand, Pattern, octet_product, read_network
 
 CODE = EXAMPLES / "butterfly/butterfly.lif"
@@ -110,9 +110,12 @@ def test_the_memory_of_send(program, tmp_path: Path, size: int) -> None:
     (tmp_path / "source").write_bytes(bytes(size))
 
     def most(code: Path, source: str) -> int:
-        words = [*find_program(), "send", code, "none", "1", tmp_path / source, tmp_path / "out"]
-        done = subprocess.run([measure, "-f", "%M", *map(str, words)], capture_output=True, text=True, check=True)
-        return int(done.stderr) * 1024
+        # The script `lif` would count too. The system counts pages in batches for each processor, so the least of some
+        # runs is the nearest.
+        words = [find_built(), "send", code, "none", "1", tmp_path / source, tmp_path / "out"]
+        command = [measure, "-f", "%M", *map(str, words)]
+        runs = [subprocess.run(command, capture_output=True, text=True, check=True) for _ in range(5)]
+        return min(int(run.stderr) for run in runs) * 1024
 
     net, code = tmp_path / "layers.net", tmp_path / "layers.lif"
     net.write_text(layers_text(4, 12))
