@@ -50,8 +50,9 @@ impl<F: Field> Basis<F> {
     }
 
     /// Makes `link` the frontier link of the path, and `vector` its vector, by one pass over the inverse vectors
-    /// (Jaggi et al. 2005). All other links and vectors stay. It takes no memory, and counts at most three steps for
-    /// each entry of a matrix. The product of the vector and the path's inverse must not be zero.
+    /// (Jaggi et al. 2005). All other links and vectors stay, and where the vector is the path's already, the inverse
+    /// vectors do too. It takes no memory, and counts at most three steps for each entry of a matrix. The product of
+    /// the vector and the path's inverse must not be zero.
     pub fn advance<L: Ledger>(&mut self, path: u32, link: u32, vector: &[F], steps: &mut Steps<L>)
         requires path { path < length self.old.frontier }
         requires width { length vector.now ≡ length self.old.frontier }
@@ -62,8 +63,10 @@ impl<F: Field> Basis<F> {
         ensures ticks { let h = length self.old.frontier
             in RoseByAtMost (3 * h * h) steps.old steps.new }
     {
-        renew_inverses(&mut self.inverses, path, vector, steps);
-        self.vectors.put_row(path, vector);
+        if self.vectors.row(path) != vector {
+            renew_inverses(&mut self.inverses, path, vector, steps);
+            self.vectors.put_row(path, vector);
+        }
         self.frontier.set(path as usize, Some(link));
     }
 

@@ -1,17 +1,13 @@
 -- A row whose product with the vector is zero stays as it is.
-use Rattle.std.specs.Prelude.{◌≡◌, Bool, List, [], false, not, slice_set, true}
-use Rattle.std.proofs.Common.{ap, refl, sym, ◌∙◌}
+use Rattle.std.specs.Prelude.{◌≡◌, List, [], slice_set}
+use Rattle.std.proofs.Common.{ap, sym, ◌∙◌}
+use Rattle.std.proofs.lemmas.Bool.{not-false}
 use Rattle.std.proofs.lemmas.List.{set-get_or}
 use Rattle.field_vectors.proofs.DotOfLaws.{plus_multiple-nought}
 use Rattle.field_vectors.proofs.GridLaws.{length-row_of, row_of-elements}
 use Rattle.field_vectors.specs.Elements.{dot_of, plus_multiple}
 use Rattle.field_vectors.specs.Grid.{Grid, row_of}
 use Rattle.sink_basis.proofs.renewal.clear_row.Goals as goal
-
--- what a test that fails says of its opposite
-is_so : (test : Bool) → not test ≡ false → test ≡ true
-is_so true fails = refl
-is_so false fails = cc
 
 pub returns-else-ne-clause-cleared : goal.returns-else-ne-clause-cleared
 returns-else-ne-clause-cleared g c =
@@ -21,7 +17,7 @@ returns-else-ne-clause-cleared g c =
     let row = row_of old c.args.k in
     let own = row_of old c.args.path in
     let matrix = c.row.ensures.kept in
-    let is_zero : c.dot-product.result ≡ F.zero = (g.met.F.Field.equal c.dot-product.result c.zero.result).0 (is_so _ (sym c.ne.ensures ∙ c.if-ne.false)) ∙ c.zero.ensures.value in
+    let is_zero : c.dot-product.result ≡ F.zero = (g.met.F.Field.equal c.dot-product.result c.zero.result).0 (not-false _ (sym c.ne.ensures ∙ c.if-ne.false)) ∙ c.zero.ensures.value in
     let product : dot_of F.zero F.add F.mul c.args.vector.now row ≡ F.zero = ap (dot_of F.zero F.add F.mul c.args.vector.now) (sym c.row.ensures.value) ∙ sym c.dot-product.ensures.value ∙ is_zero in
     let stays : plus_multiple F.add F.mul row F.zero own ≡ row =
     plus_multiple-nought field row own (row_of-elements old c.args.k matrix c.requires.row) (row_of-elements old c.args.path matrix c.requires.path)
