@@ -12,33 +12,23 @@ use std::process::ExitCode;
 use std::test::Fail;
 use std::thread::Threads;
 
-// The code of the butterfly.
-const BUTTERFLY: &[u8] = b"LIFC\x01\x08\x02\
-    \x00\x07\x01s\x02t1\x02t2\x01a\x01b\x01c\x01d\
-    \x00\x09\
-    \x03s-a\x00\x00\x00\x03\
-    \x03s-b\x00\x00\x00\x04\
-    \x04a-t1\x00\x03\x00\x01\
-    \x04b-t2\x00\x04\x00\x02\
-    \x03a-c\x00\x03\x00\x05\
-    \x03b-c\x00\x04\x00\x05\
-    \x03c-d\x00\x05\x00\x06\
-    \x04d-t1\x00\x06\x00\x01\
-    \x04d-t2\x00\x06\x00\x02\
+// A code for two sinks, each with two links from the source. The first of the second sink carries the sum of both rows.
+const TWO_SINKS: &[u8] = b"LIFC\x01\x08\x02\
+    \x00\x03\x01s\x02t1\x02t2\
+    \x00\x04\
+    \x01a\x00\x00\x00\x01\
+    \x01b\x00\x00\x00\x01\
+    \x01c\x00\x00\x00\x02\
+    \x01d\x00\x00\x00\x02\
     \x00\x00\
     \x00\x02\x00\x01\x00\x02\
     \x00\x00\
     \x00\x01\x00\x00\x01\
     \x00\x01\x00\x01\x01\
-    \x00\x01\x00\x00\x01\
+    \x00\x02\x00\x00\x01\x00\x01\x01\
     \x00\x01\x00\x01\x01\
-    \x00\x01\x00\x00\x01\
-    \x00\x01\x00\x01\x01\
-    \x00\x02\x00\x04\x01\x00\x05\x01\
-    \x00\x01\x00\x06\x01\
-    \x00\x01\x00\x06\x01\
-    \x00\x02\x00\x07\x01\x00\x01\x01\
-    \x00\x03\x00\x08\x01\x01\x01\x00";
+    \x00\x00\x00\x01\x01\x00\x00\x01\
+    \x00\x02\x00\x03\x01\x01\x00\x01";
 
 const WORDS: &[&str] = &["send", "code", "none", "1", "source", "out"];
 
@@ -125,7 +115,7 @@ fn behind_creates(log: &[Event]) -> Option<&[Event]> {
 
 // Whether these are the calls of a source that was streamed to both sinks.
 fn is_sending(log: &[Event], source: &[u8]) -> bool {
-    behind_reads(log, "code", BUTTERFLY)
+    behind_reads(log, "code", TWO_SINKS)
         .and_then(behind_creates)
         .is_some_and(|log| is_stream(log, "source", &["out.t1", "out.t2"], source))
 }
@@ -133,7 +123,7 @@ fn is_sending(log: &[Event], source: &[u8]) -> bool {
 // A system with the code and the source, of which the call of this number fails.
 fn system(alloc: Global, failing: u64, handles: usize, source: &[u8]) -> io::Result<MemFiles> {
     let files = MemFiles::new(alloc, failing, handles)?;
-    files.put("code", BUTTERFLY)?;
+    files.put("code", TWO_SINKS)?;
     files.put("source", source)?;
     Ok(files)
 }
