@@ -1,12 +1,12 @@
 -- The words over the words of a set: what they say after a change, and that they lead to the least number.
-use Rattle.std.specs.Prelude.{◌≡◌, ◌≢◌, ◌<◌, ◌≤◌, ◌*◌, ◌/◌, ◌%◌, ◌^◌, ◌==◌, ℕ, List, Option, None, Some, IfNone, IfSome, ◌++◌, length, take, drop, replicate, slice_index_or, min, bit_or}
+use Rattle.std.specs.Prelude.{◌≡◌, ◌≢◌, ◌<◌, ◌≤◌, ◌*◌, ◌/◌, ◌%◌, ◌^◌, ◌==◌, ℕ, List, ◌++◌, length, take, drop, replicate, slice_index_or, min, bit_or}
 use Rattle.std.specs.Int.{bit_at, w64}
 use Rattle.std.proofs.Common.{refl, sym, ap, subst, ◌∙◌, arith, inl, inr}
 use Rattle.std.proofs.lemmas.Bool.{cases_Bool, cases_lt, eqb-false, eqb-true}
 use Rattle.std.proofs.lemmas.List.{append-nil, get_or-replicate, length-replicate, take_all}
 use Rattle.std.proofs.lemmas.Nat.Bits.{bit_at_set_other, bit_at_set_same}
 use Rattle.std.proofs.Math.ListN.{drop_of_length-le, get_or-eq_default}
-use Rattle.least_set.specs.Members.{bit_of, SameElsewhere, SetsBit, HasLeast, IsFirstBit, IsLeast, IsOver, Tells}
+use Rattle.least_set.specs.Members.{bit_of, most, SameElsewhere, SetsBit, HasLeast, IsFirstBit, IsLeast, IsOver, Tells}
 use Rattle.least_set.proofs.WordLaws.{no_bit, some_from_bit}
 
 -- a list that was changed in place, and is as long as it was
@@ -63,49 +63,56 @@ module _ (lower lower' : List ℕ) (bit bit' : ℕ → ℕ) (word : ℕ) (tells 
 pub none_told : (words : List ℕ) (bit : ℕ → ℕ) (word : ℕ) → Tells words bit → bit word ≡ 0 → slice_index_or words word 0 ≡ 0
 none_told words bit word tells cleared = none_from_min _ (sym (tells word) ∙ cleared)
 
+-- a set has no number below its least one, nor any where that is too great to be one
+pub none_below : (least : ℕ) (words : List ℕ) → HasLeast least words → (other : ℕ) → other < least → bit_of words other ≡ 0
+none_below least words has other less = elim (cases_lt least most) [
+  | inl under ↦ (has.some under).least other less
+  | inr over ↦ has.none over other
+]
+
 -- a number was added, and maybe greater ones: the lesser of it and the least one is the least
-pub least_insert : (least : Option ℕ) (number lesser : ℕ) (words words' : List ℕ) → HasLeast least words → bit_of words' number ≡ 1
+pub least_insert : (least number lesser : ℕ) (words words' : List ℕ) → HasLeast least words → number < most → bit_of words' number ≡ 1
     → ((other : ℕ) → other ≢ number → bit_of words other ≡ 1 → bit_of words' other ≡ 1) → ((other : ℕ) → other < number → bit_of words' other ≡ bit_of words other)
-    → IfSome least (λ other. lesser ≡ min other number) → IfNone least (lesser ≡ number) → HasLeast (Some lesser) words'
-least_insert None number lesser words words' has here stays below some none = record {
-  some = subst (λ n. IsLeast n (record { words = words' })) (sym none) (record {
-    within = here;
-    least = λ other less. below other less ∙ has.none other;
-  });
-  none = tt;
-}
-least_insert (Some least) number lesser words words' has here stays below some none = record {
-  some = subst (λ n. IsLeast n (record { words = words' })) (sym some) (elim (cases_lt least number) [
+    → lesser ≡ min least number → HasLeast lesser words'
+least_insert least number lesser words words' has low here stays below is = record {
+  some = λ under. elim (cases_lt least number) [
     | inl less ↦
-        let is : min least number ≡ least = omega (arith, less) in
-        subst (λ n. IsLeast n (record { words = words' })) (sym is) (record {
-          within = stays least (omega (arith, less)) has.some.within;
-          least = λ other lower. below other (omega (arith, lower, less)) ∙ has.some.least other lower;
+        let was : IsLeast least (record { words = words }) = has.some (omega (arith, less, low)) in
+        let same : least ≡ lesser = omega (arith, less, is) in
+        subst (λ n. IsLeast n (record { words = words' })) same (record {
+          within = stays least (omega (arith, less)) was.within;
+          least = λ other lower. below other (omega (arith, lower, less)) ∙ was.least other lower;
         })
     | inr more ↦
-        let is : min least number ≡ number = omega (arith, more) in
-        subst (λ n. IsLeast n (record { words = words' })) (sym is) (record {
+        let same : number ≡ lesser = omega (arith, more, is) in
+        subst (λ n. IsLeast n (record { words = words' })) same (record {
           within = here;
-          least = λ other lower. below other lower ∙ has.some.least other (omega (arith, lower, more));
+          least = λ other lower. below other lower ∙ none_below least words has other (omega (arith, lower, more));
         })
-  ]);
-  none = tt;
+  ];
+  none = λ over. absurd (omega (arith, over, low, is));
+}
+
+-- the first bit of a word is the least number where no word before has any
+pub first_is_least : (words : List ℕ) (word number : ℕ) → IsFirstBit word number words → ((other : ℕ) → other / 64 < word → bit_of words other ≡ 0)
+    → IsLeast number (record { words = words })
+first_is_least words word number first earlier = record {
+  within = first.set;
+  least = λ other less. elim (cases_Bool (other / 64 == word)) [
+    | inl same ↦ first.before other (eqb-true _ _ same) less
+    | inr differs ↦
+        let apart : other / 64 ≢ word = eqb-false _ _ differs in
+        earlier other (omega (arith, less, first.place, apart))
+  ];
 }
 
 -- the first bit of each level leads to the least number
 pub is_least : (words over_words : List ℕ) (over_all top word number : ℕ) → IsOver words over_words over_all
     → ((i : ℕ) → i < top → bit_at over_all i ≡ 0) → IsFirstBit top word over_words → IsFirstBit word number words
     → IsLeast number (record { words = words })
-is_least words over_words over_all top word number over before first second = record {
-  within = second.set;
-  least = λ other less. elim (cases_Bool (other / 64 == word)) [
-    | inl same ↦ second.before other (eqb-true _ _ same) less
-    | inr differs ↦
-        let apart : other / 64 ≢ word = eqb-false _ _ differs in
-        let earlier : other / 64 < word = omega (arith, less, second.place, apart) in
-        no_bit _ (other % 64) (none_told words (bit_of over_words) (other / 64) over.first (earlier_word (other / 64) earlier))
-  ];
-}
+is_least words over_words over_all top word number over before first second =
+    first_is_least words word number second
+    (λ other less. no_bit _ (other % 64) (none_told words (bit_of over_words) (other / 64) over.first (earlier_word (other / 64) less)))
   where
     earlier_word : (w : ℕ) → w < word → bit_of over_words w ≡ 0
     earlier_word w less = elim (cases_Bool (w / 64 == top)) [
@@ -115,6 +122,21 @@ is_least words over_words over_all top word number over before first second = re
           let above : w / 64 < top = omega (arith, less, first.place, apart) in
           no_bit _ (w % 64) (none_told over_words (bit_at over_all) (w / 64) over.second (before (w / 64) above))
     ]
+
+-- a number of the set is in one of its words
+pub within_words : (words : List ℕ) (number : ℕ) → bit_of words number ≡ 1 → number / 64 < length words
+within_words words number set = elim (cases_lt (number / 64) (length words)) [
+  | inl below ↦ below
+  | inr above ↦ absurd (some_from_bit _ (number % 64) set (get_or-eq_default words 0 {n = number / 64} above))
+]
+
+-- where there are few words, the first bit of such a word is below the most
+pub word_least : (words : List ℕ) (word number : ℕ) → length words ≤ 4096 → word < length words → IsFirstBit word number words
+    → ((other : ℕ) → other / 64 < word → bit_of words other ≡ 0) → HasLeast number words
+word_least words word number few within first earlier = record {
+  some = λ under. first_is_least words word number first earlier;
+  none = λ over. absurd (omega (arith, over, first.place, few, within));
+}
 
 -- numbers were added to a word
 pub over_word : (words words' over_words over_words' : List ℕ) (over_all word : ℕ) → IsOver words over_words over_all → word < length words

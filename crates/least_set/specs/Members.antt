@@ -1,10 +1,14 @@
 -- Sets of numbers as bits in words of 64, and the words that say which of them have any.
-use Rattle.std.specs.Prelude.{◌≡◌, ◌≢◌, ◌<◌, ◌≤◌, ◌+◌, ◌*◌, ◌/◌, ◌%◌, ℕ, List, Option, IfNone, IfSome, length, slice_index_or, min, bit_or}
+use Rattle.std.specs.Prelude.{◌≡◌, ◌≢◌, ◌<◌, ◌≤◌, ◌+◌, ◌*◌, ◌/◌, ◌%◌, ℕ, List, length, slice_index_or, min, bit_or}
 use Rattle.std.specs.Int.{bit_at}
 
 -- a set: the words of its bits
 pub record Members : Type 0 where
   pub words : List ℕ
+
+-- the numbers of all sets are below this
+abbrev pub most : ℕ
+most = 262144
 
 -- the bit of a number
 abbrev pub bit_of : List ℕ → ℕ → ℕ
@@ -75,10 +79,10 @@ pub record IsLeast (number : ℕ) (set : Members) : Type 0 where
   pub within : has set number
   pub least : (other : ℕ) → other < number → bit_of set.words other ≡ 0
 
--- the least number of a set, if it has any
-pub record HasLeast (least : Option ℕ) (words : List ℕ) : Type 0 where
-  pub some : IfSome least (λ number. IsLeast number (record { words = words }))
-  pub none : IfNone least (HasNone (record { words = words }))
+-- the least number of a set, or where it has none, one that no number of any set reaches
+pub record HasLeast (least : ℕ) (words : List ℕ) : Type 0 where
+  pub some : least < most → IsLeast least (record { words = words })
+  pub none : most ≤ least → HasNone (record { words = words })
 
 -- the first bit of a word
 pub record IsFirstBit (word number : ℕ) (words : List ℕ) : Type 0 where

@@ -1,19 +1,9 @@
 //! The words of a set and the two levels over them.
-ghost use Rattle.std.specs.Prelude.{◌≡◌, ◌≢◌, ◌<◌, ◌≤◌, ◌*◌, ◌/◌, ◌%◌, ℕ, Option, IfNone, IfSome, length, min};
+ghost use Rattle.std.specs.Prelude.{◌≡◌, ◌≢◌, ◌<◌, ◌≤◌, ◌*◌, ◌/◌, ◌%◌, ℕ, length};
 ghost use Rattle.least_set.specs.Members.{ClearsBit, HasLeast, IsLeast, IsOver, SetsBit, SetsBits, SetsEighths};
 
+use crate::MOST;
 use crate::words::{clear_bit, eighths_of, first_bit, first_of, leave_word, set_bit, set_bits};
-
-// The lesser of two numbers, of which the first may be missing.
-pub fn lesser(least: Option<u32>, number: u32) -> u32
-    ensures some { IfSome least (λ other. result ≡ min other number) }
-    ensures none { IfNone least (result ≡ number) }
-{
-    match least {
-        Some(other) => other.min(number),
-        None => number,
-    }
-}
 
 // Adds a number, and gives the word over all then.
 pub fn add(words: &mut [u64], over_words: &mut [u64], over_all: u64, number: usize) -> u64
@@ -78,13 +68,13 @@ fn add_bits(words: &mut [u64], over_words: &mut [u64], over_all: u64, word: usiz
     }
 }
 
-// Takes the least number away, and gives the one after it, if there is any.
+// Takes the least number away, and gives the one after it, or where there is none, `MOST`.
 pub fn take_away(
     words: &mut [u64],
     over_words: &mut [u64],
     over_all: &mut u64,
     number: usize,
-) -> Option<u32>
+) -> u32
     requires over { IsOver words.old over_words.old over_all.old }
     requires least { IsLeast number (record { words = words.old }) }
     ensures bits { ClearsBit number words.old words.new }
@@ -97,19 +87,19 @@ pub fn take_away(
         *over_all = leave_word(over_words, *over_all, word);
         least_of(words, over_words, *over_all)
     } else {
-        Some(first_bit(words, word) as u32)
+        first_bit(words, word) as u32
     }
 }
 
-// The least number, if there is any.
-fn least_of(words: &[u64], over_words: &[u64], over_all: u64) -> Option<u32>
+// The least number, or where there is none, `MOST`.
+fn least_of(words: &[u64], over_words: &[u64], over_all: u64) -> u32
     requires { IsOver words.now over_words.now over_all }
     ensures { HasLeast result words.now }
 {
     if over_all == 0 {
-        return None;
+        return MOST;
     }
     let top = first_of(over_all);
     let word = first_bit(over_words, top);
-    Some(first_bit(words, word) as u32)
+    first_bit(words, word) as u32
 }

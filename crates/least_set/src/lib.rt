@@ -5,14 +5,14 @@
 //! where the word has another number, that word alone leads to it.
 #![tactic(auto)]
 
-ghost use Rattle.std.specs.Prelude.{◌≡◌, ◌≢◌, ◌<◌, ◌≤◌, ◌*◌, ◌+◌, ◌%◌, length, IfOk, IfSome, IsNone, Some};
+ghost use Rattle.std.specs.Prelude.{◌≡◌, ◌≢◌, ◌<◌, ◌≤◌, ◌*◌, ◌+◌, ◌%◌, ℕ, length, IfOk, IfSome, IsNone, Some};
 
 mod levels;
 #[cfg(test)]
 mod tests;
 mod words;
 
-use levels::{add, add_eighths, lesser, take_away};
+use levels::{add, add_eighths, take_away};
 use std::alloc::{AllocError, Global};
 use std::marker::Model;
 
@@ -25,8 +25,8 @@ pub struct LeastSet {
     words: Vec<u64>,
     over_words: Vec<u64>,
     over_all: u64,
-    // The least number, if there is any.
-    least: Option<u32>,
+    // The least number, or where there is none, `MOST`.
+    least: u32,
 }
 
 impl Model for LeastSet {
@@ -41,11 +41,11 @@ impl Model for LeastSet {
 }
 
 impl LeastSet {
-    ghost use Rattle.least_set.specs.Members.{has, bound, HasNone, Gains, GainsEighths, Loses, IsLeast};
+    ghost use Rattle.least_set.specs.Members.{bit_of, bound, most, HasNone, Gains, GainsEighths, Loses, IsLeast};
 
     /// The empty set of numbers below a bound, which is rounded up to a multiple of 64.
     pub fn new(alloc: Global, numbers: u32) -> Result<LeastSet, AllocError>
-        requires { numbers ≤ 262144 }
+        requires { numbers ≤ most }
         ensures none { IfOk result HasNone }
         ensures room { IfOk result (λ set. numbers ≤ bound set) }
     {
@@ -55,7 +55,7 @@ impl LeastSet {
             words: vec![in alloc; 0; words]?,
             over_words: vec![in alloc; 0; over]?,
             over_all: 0,
-            least: None,
+            least: MOST,
         })
     }
 
@@ -67,7 +67,7 @@ impl LeastSet {
         self.words.fill(0);
         self.over_words.fill(0);
         self.over_all = 0;
-        self.least = None;
+        self.least = MOST;
     }
 
     /// Adds a number.
@@ -77,7 +77,7 @@ impl LeastSet {
     {
         let place = number as usize;
         self.over_all = add(&mut self.words, &mut self.over_words, self.over_all, place);
-        self.least = Some(lesser(self.least, number));
+        self.least = self.least.min(number);
     }
 
     /// Adds the numbers from a first to a last one, of which each is eight more than the one before. It costs a step for
@@ -95,16 +95,22 @@ impl LeastSet {
             first as usize,
             last as usize,
         );
-        self.least = Some(lesser(self.least, first));
+        self.least = self.least.min(first);
     }
 
-    /// Takes the least number away, if there is any.
-    pub fn take_least(&mut self) -> Option<u32>
-        ensures least { IfSome result
-            (λ number. IsLeast number self.old × Loses number self.old self.new) }
-        ensures none { IsNone result → HasNone self.old × (self.new ≡ self.old) }
+    /// Takes the least number away, if there is one below a limit.
+    pub fn take_below(&mut self, limit: u32) -> Option<u32>
+        requires { limit ≤ most }
+        ensures least { IfSome result (λ number. (number < limit)
+            × IsLeast number self.old × Loses number self.old self.new) }
+        ensures none { IsNone result
+            → (number : ℕ) → number < limit → bit_of self.old.words number ≡ 0 }
+        ensures same { IsNone result → self.new ≡ self.old }
     {
-        let number = self.least?;
+        let number = self.least;
+        if number >= limit {
+            return None;
+        }
         self.least = take_away(
             &mut self.words,
             &mut self.over_words,

@@ -14,9 +14,9 @@ fn numbers_come_by_size(rt: HostRuntime) -> Result<(), test::Fail> {
     set.insert(4095);
     set.insert(70);
     for number in [0, 63, 64, 70, 4095, 4096, 262_143] {
-        assert_eq!(rt; set.take_least(), Some(number));
+        assert_eq!(rt; set.take_below(MOST), Some(number));
     }
-    assert_eq!(rt; set.take_least(), None);
+    assert_eq!(rt; set.take_below(MOST), None);
     Ok(())
 }
 
@@ -26,9 +26,10 @@ fn a_number_comes_once(rt: HostRuntime) -> Result<(), test::Fail> {
     set.insert(7);
     set.insert(1);
     set.insert(7);
-    assert_eq!(rt; set.take_least(), Some(1));
-    assert_eq!(rt; set.take_least(), Some(7));
-    assert_eq!(rt; set.take_least(), None);
+    assert_eq!(rt; set.take_below(1), None);
+    assert_eq!(rt; set.take_below(2), Some(1));
+    assert_eq!(rt; set.take_below(MOST), Some(7));
+    assert_eq!(rt; set.take_below(MOST), None);
     Ok(())
 }
 
@@ -39,8 +40,8 @@ fn nothing_is_left_of_what_was_cleared(rt: HostRuntime) -> Result<(), test::Fail
     set.insert(5000);
     set.clear();
     set.insert(4999);
-    assert_eq!(rt; set.take_least(), Some(4999));
-    assert_eq!(rt; set.take_least(), None);
+    assert_eq!(rt; set.take_below(MOST), Some(4999));
+    assert_eq!(rt; set.take_below(MOST), None);
     Ok(())
 }
 
@@ -50,13 +51,13 @@ fn eighths_come_among_others(rt: HostRuntime) -> Result<(), test::Fail> {
     set.insert(70);
     set.insert_eighths(61, 205);
     set.insert_eighths(3, 3);
-    assert_eq!(rt; set.take_least(), Some(3));
-    assert_eq!(rt; set.take_least(), Some(61));
-    assert_eq!(rt; set.take_least(), Some(69));
-    assert_eq!(rt; set.take_least(), Some(70));
+    assert_eq!(rt; set.take_below(MOST), Some(3));
+    assert_eq!(rt; set.take_below(MOST), Some(61));
+    assert_eq!(rt; set.take_below(MOST), Some(69));
+    assert_eq!(rt; set.take_below(MOST), Some(70));
     for step in 0..17 {
-        assert_eq!(rt; set.take_least(), Some(77 + 8 * step));
+        assert_eq!(rt; set.take_below(MOST), Some(77 + 8 * step));
     }
-    assert_eq!(rt; set.take_least(), None);
+    assert_eq!(rt; set.take_below(MOST), None);
     Ok(())
 }
