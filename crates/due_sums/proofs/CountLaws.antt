@@ -81,9 +81,6 @@ list_all-from_some p (x ∷ xs) some =
 pub due_number-sum : (sum piece : ℕ) → piece < pieces → due_number sum piece / pieces ≡ sum
 due_number-sum sum piece low = omega (arith, low)
 
-pub due_number-piece : (sum piece : ℕ) → piece < pieces → due_number sum piece % pieces ≡ piece
-due_number-piece sum piece low = omega (arith, low)
-
 pub due_number-of : (number : ℕ) → due_number (number / pieces) (number % pieces) ≡ number
 due_number-of number = omega arith
 

@@ -23,11 +23,11 @@ reads_of-elsewhere readers piece i number within apart =
     count_by_more_no (λ group. due_number group piece == number) readers i 0 within (ne_eqb _ _ (λ is. apart (sym is)))
 
 -- an input of the group at a place is missing, as long as all of them are enough
-pub some_missing : (readers starts : List ℕ) (piece i : ℕ) (old now : List ℕ) (old_due now_due : Members) → i < length readers
+pub some_missing : (base : ℕ) (readers starts : List ℕ) (piece i : ℕ) (old now : List ℕ) (old_due now_due : Members) → i < length readers
     → ((number : ℕ) → reads_of readers piece number ≤ slice_index old number)
-    → CountsDown (reads_of (take i readers) piece) starts piece old now old_due now_due
+    → CountsDown base (reads_of (take i readers) piece) starts piece old now old_due now_due
     → 0 < slice_index now (due_number (get_or readers i 0) piece)
-some_missing readers starts piece i old now old_due now_due within enough so_far =
+some_missing base readers starts piece i old now old_due now_due within enough so_far =
     let number = due_number (get_or readers i 0) piece in
     let test : ℕ → ℕ = λ group. cond (due_number group piece == number) 1 0 in
     let most = sum_by_more_le test readers i 0 within in
@@ -42,39 +42,40 @@ within_counts counts number some = elim (cases_lt number (length counts)) [
 ]
 
 -- the group at a place has sums, and there is room for them
-pub has_sums : (readers starts : List ℕ) (piece i : ℕ) (old now : List ℕ) (old_due now_due : Members) → i < length readers
+pub has_sums : (base : ℕ) (readers starts : List ℕ) (piece i : ℕ) (old now : List ℕ) (old_due now_due : Members) → i < length readers
     → ((number : ℕ) → reads_of readers piece number ≤ slice_index old number)
-    → CountsDown (reads_of (take i readers) piece) starts piece old now old_due now_due → length now ≡ length old
-    → ((group : ℕ) → due_number group piece < length old → HasSums starts group old_due) → HasSums starts (get_or readers i 0) now_due
-has_sums readers starts piece i old now old_due now_due within enough so_far long groups =
+    → CountsDown base (reads_of (take i readers) piece) starts piece old now old_due now_due → length now ≡ length old
+    → ((group : ℕ) → due_number group piece < length old → HasSums base starts group old_due) → HasSums base starts (get_or readers i 0) now_due
+has_sums base readers starts piece i old now old_due now_due within enough so_far long groups =
     let number = due_number (get_or readers i 0) piece in
-    let inside = within_counts now number (some_missing readers starts piece i old now old_due now_due within enough so_far) in
+    let inside = within_counts now number (some_missing base readers starts piece i old now old_due now_due within enough so_far) in
     let has = groups (get_or readers i 0) (omega (arith, inside, long)) in
     record { stands = has.stands; some = has.some; few = has.few; room = omega (arith, has.room, so_far.room) }
 
 -- the numbers that become due with a group are those of its sums
-pub group_numbers : (starts : List ℕ) (group piece number : ℕ) → piece < pieces → slice_index starts group < slice_index starts (group + 1)
-    → IsEighth (due_number (slice_index starts group) piece) (due_number (slice_index starts (group + 1) - 1) piece) number
-    → (number % pieces ≡ piece) × (slice_index starts group ≤ number / pieces) × (number / pieces < slice_index starts (group + 1))
-group_numbers starts group piece number low rising is =
+pub group_numbers : (base : ℕ) (starts : List ℕ) (group piece number : ℕ) → piece < pieces → slice_index starts group < slice_index starts (group + 1)
+    → IsEighth (due_number (base + slice_index starts group) piece) (due_number (base + (slice_index starts (group + 1) - 1)) piece) number
+    → (sum : ℕ) × (number ≡ due_number (base + sum) piece) × (slice_index starts group ≤ sum) × (sum < slice_index starts (group + 1))
+group_numbers base starts group piece number low rising is =
     let step : number % pieces ≡ piece = omega (arith, is.step, low) in
-    (step, omega (arith, is.from, step, low), omega (arith, is.from, is.to, step, low, rising))
+    let sum = number / pieces - base in
+    (sum, omega (arith, is.from, step, low), omega (arith, is.from, step, low), omega (arith, is.from, is.to, step, low, rising))
 
-pub group_number : (starts : List ℕ) (group piece sum : ℕ) → piece < pieces → slice_index starts group ≤ sum → sum < slice_index starts (group + 1)
-    → IsEighth (due_number (slice_index starts group) piece) (due_number (slice_index starts (group + 1) - 1) piece) (due_number sum piece)
-group_number starts group piece sum low from to = record { from = omega (arith, from); to = omega (arith, to); step = omega (arith, low) }
+pub group_number : (base : ℕ) (starts : List ℕ) (group piece sum : ℕ) → slice_index starts group ≤ sum → sum < slice_index starts (group + 1)
+    → IsEighth (due_number (base + slice_index starts group) piece) (due_number (base + (slice_index starts (group + 1) - 1)) piece) (due_number (base + sum) piece)
+group_number base starts group piece sum from to = record { from = omega (arith, from); to = omega (arith, to); step = omega arith }
 
 -- one group more is counted down
-module _ (reads reads' : ℕ → ℕ) (starts : List ℕ) (piece : ℕ) (low : piece < pieces) (old now new : List ℕ) (old_due now_due new_due : Members) (group : ℕ)
+module _ (base : ℕ) (reads reads' : ℕ → ℕ) (starts : List ℕ) (piece : ℕ) (low : piece < pieces) (old now new : List ℕ) (old_due now_due new_due : Members) (group : ℕ)
     (rising : slice_index starts group < slice_index starts (group + 1)) (here : reads' (due_number group piece) ≡ reads (due_number group piece) + 1)
     (elsewhere : (other : ℕ) → other ≢ due_number group piece → reads' other ≡ reads other)
     (some : 0 < slice_index now (due_number group piece))
     (count : slice_index new (due_number group piece) + 1 ≡ slice_index now (due_number group piece))
     (counts : (other : ℕ) → other ≢ due_number group piece → slice_index new other ≡ slice_index now other)
     (step : ((slice_index new (due_number group piece) ≡ 0)
-    × GainsEighths (due_number (slice_index starts group) piece) (due_number (slice_index starts (group + 1) - 1) piece) now_due new_due)
+    × GainsEighths (due_number (base + slice_index starts group) piece) (due_number (base + (slice_index starts (group + 1) - 1)) piece) now_due new_due)
     ⊎ ((slice_index new (due_number group piece) ≢ 0) × (new_due ≡ now_due)))
-    (so_far : CountsDown reads starts piece old now old_due now_due) where
+    (so_far : CountsDown base reads starts piece old now old_due now_due) where
   abbrev number : ℕ
   number = due_number group piece
 
@@ -87,9 +88,9 @@ module _ (reads reads' : ℕ → ℕ) (starts : List ℕ) (piece : ℕ) (low : p
     | inr same ↦ ap (λ set. bit_of set.words other) same.1 ∙ has
   ]
 
-  made_due : (sum : ℕ) → IsDone reads' starts piece new group sum → bit_of new_due.words (due_number sum piece) ≡ 1
+  made_due : (sum : ℕ) → IsDone reads' starts piece new group sum → bit_of new_due.words (due_number (base + sum) piece) ≡ 1
   made_due sum done = elim step [
-    | inl made ↦ made.1.here (due_number sum piece) (group_number starts group piece sum low done.from done.to)
+    | inl made ↦ made.1.here (due_number (base + sum) piece) (group_number base starts group piece sum done.from done.to)
     | inr same ↦ absurd (same.0 done.none)
   ]
 
@@ -115,15 +116,15 @@ module _ (reads reads' : ℕ → ℕ) (starts : List ℕ) (piece : ℕ) (low : p
       )
 
   -- a number that isn't made due
-  kept : (other : ℕ) → ((g : ℕ) → other % pieces ≡ piece → IsDone reads' starts piece new g (other / pieces) → ⊥) → bit_of new_due.words other ≡ bit_of now_due.words other
+  kept : (other : ℕ) → ((g sum : ℕ) → other ≡ due_number (base + sum) piece → IsDone reads' starts piece new g sum → ⊥) → bit_of new_due.words other ≡ bit_of now_due.words other
   kept other isnt = elim step [
     | inl made ↦ made.1.others other (λ is.
-        let of_group = group_numbers starts group piece other low rising is in
-        isnt group of_group.0 (record { from = of_group.1; to = of_group.2; read = omega (arith, here); none = made.0 }))
+        let of_group = group_numbers base starts group piece other low rising is in
+        isnt group of_group.0 of_group.1 (record { from = of_group.2; to = of_group.3; read = omega (arith, here); none = made.0 }))
     | inr same ↦ ap (λ set. bit_of set.words other) same.1
   ]
 
-  pub CountsDown-more : CountsDown reads' starts piece old new old_due new_due
+  pub CountsDown-more : CountsDown base reads' starts piece old new old_due new_due
   CountsDown-more = record {
     counts = λ other. elim (cases_eq other number) [
       | inl same ↦ subst (λ n. slice_index new n + reads' n ≡ slice_index old n) (sym same) (omega (arith, here, count, so_far.counts number))
@@ -131,9 +132,9 @@ module _ (reads reads' : ℕ → ℕ) (starts : List ℕ) (piece : ℕ) (low : p
     ];
     due = λ other sum done. elim (cases_eq other group) [
       | inl same ↦ made_due sum (subst (λ g. IsDone reads' starts piece new g sum) same done)
-      | inr differs ↦ stays (due_number sum piece) (so_far.due other sum (earlier other sum differs done))
+      | inr differs ↦ stays (due_number (base + sum) piece) (so_far.due other sum (earlier other sum differs done))
     ];
-    others = λ other isnt. kept other isnt ∙ so_far.others other (λ g is done. isnt g is (later g (other / pieces) done).1);
+    others = λ other isnt. kept other isnt ∙ so_far.others other (λ g sum is done. isnt g sum is (later g sum done).1);
     room = room ∙ so_far.room;
   }
     where
@@ -144,17 +145,17 @@ module _ (reads reads' : ℕ → ℕ) (starts : List ℕ) (piece : ℕ) (low : p
       ]
 
 -- The group at a place is counted down: the numbers of its sums are due now if no input is missing, and else nothing more is.
-pub counted_down : (readers starts : List ℕ) (piece i : ℕ) (old now : List ℕ) (old_due now_due new_due : Members) → piece < pieces → i < length readers
+pub counted_down : (base : ℕ) (readers starts : List ℕ) (piece i : ℕ) (old now : List ℕ) (old_due now_due new_due : Members) → piece < pieces → i < length readers
     → slice_index starts (get_or readers i 0) < slice_index starts (get_or readers i 0 + 1) → ((number : ℕ) → reads_of readers piece number ≤ slice_index old number)
-    → CountsDown (reads_of (take i readers) piece) starts piece old now old_due now_due
+    → CountsDown base (reads_of (take i readers) piece) starts piece old now old_due now_due
     → let group = get_or readers i 0 in
     let number = due_number group piece in
     let new = slice_set now number (slice_index now number - 1) in
-    ((slice_index new number ≡ 0) × GainsEighths (due_number (slice_index starts group) piece) (due_number (slice_index starts (group + 1) - 1) piece) now_due new_due)
+    ((slice_index new number ≡ 0) × GainsEighths (due_number (base + slice_index starts group) piece) (due_number (base + (slice_index starts (group + 1) - 1)) piece) now_due new_due)
     ⊎ ((slice_index new number ≢ 0) × (new_due ≡ now_due))
-    → CountsDown (reads_of (take (i + 1) readers) piece) starts piece old new old_due new_due
-counted_down readers starts piece i old now old_due now_due new_due low within rising enough so_far step =
-    CountsDown-more (reads_of (take i readers) piece) (reads_of (take (i + 1) readers) piece) starts piece low old now new old_due now_due new_due (get_or readers i 0)
+    → CountsDown base (reads_of (take (i + 1) readers) piece) starts piece old new old_due new_due
+counted_down base readers starts piece i old now old_due now_due new_due low within rising enough so_far step =
+    CountsDown-more base (reads_of (take i readers) piece) (reads_of (take (i + 1) readers) piece) starts piece low old now new old_due now_due new_due (get_or readers i 0)
     rising (reads_of-here readers piece i within) (λ other apart. reads_of-elsewhere readers piece i other within apart)
     some (omega (arith, some, get_or-set_same now number (slice_index now number - 1) 0 inside))
     (λ other apart. get_or-set_other now number other (slice_index now number - 1) 0 apart) step so_far
@@ -166,7 +167,7 @@ counted_down readers starts piece i old now old_due now_due new_due low within r
     new = slice_set now number (slice_index now number - 1)
 
     some : 0 < slice_index now number
-    some = some_missing readers starts piece i old now old_due now_due within enough so_far
+    some = some_missing base readers starts piece i old now old_due now_due within enough so_far
 
     inside : number < length now
     inside = within_counts now number some

@@ -66,9 +66,10 @@ module _ (sums groups : List (List ℕ)) (starts : List ℕ) (are : AreGroups su
   }
 
   -- there is room for the numbers of a group's sums
-  pub groups_fit : (counts : List ℕ) (due : Members) (piece : ℕ) → length sums ≤ 8192 → length counts ≡ length groups * pieces → length sums * pieces ≤ bound due
-      → (group : ℕ) → group * pieces + piece < length counts → HasSums starts group due
-  groups_fit counts due piece few whole room group inside =
+  pub groups_fit : (counts : List ℕ) (base : ℕ) (due : Members) (piece : ℕ) → length counts ≡ length groups * pieces
+      → base + length sums ≤ 4 * 8192 → (base + length sums) * pieces ≤ bound due
+      → (group : ℕ) → group * pieces + piece < length counts → HasSums base starts group due
+  groups_fit counts base due piece whole few room group inside =
       let below : group < length groups = omega (arith, inside, whole) in
       record {
         stands = omega (arith, are.count, below);

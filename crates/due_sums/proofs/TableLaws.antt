@@ -9,11 +9,12 @@ use Rattle.std.proofs.lemmas.List.{get_or_past, with_items_is}
 use Rattle.std.proofs.lemmas.List.Sums.{sum_by-le-sum_by}
 use Rattle.generation_frame.specs.Blocks.{pieces}
 use Rattle.held_rows.specs.Held.{Held, Holds, HoldsNone, is_held, place, row_count}
-use Rattle.least_set.specs.Members.{HasNone, Loses, Members, bit_of, bound}
-use Rattle.due_sums.specs.Counts.{AreReaders, CountsDown, IsCounted, IsDone, IsFresh, count_of, missing_of, reads_of}
+use Rattle.least_set.specs.Members.{HasNone, Members, bit_of}
+use Rattle.due_sums.specs.Counts.{AreReaders, CountsDown, IsCounted, IsDone, IsFresh, IsTable, count_of, missing_of, reads_of}
 use Rattle.due_sums.specs.Groups.{AreGroups}
 use Rattle.due_sums.specs.Waiting.{AreSums, due_number}
-use Rattle.due_sums.proofs.CountLaws.{one_if, count_by-all, count_by-falls, count_by-same, due_number-of, due_number-piece, due_number-sum, length-is_rising, list_all-from_count, list_all-from_some, reads_of-other, reads_of-own}
+use Rattle.due_sums.specs.declared.due_sums.Table.{Table}
+use Rattle.due_sums.proofs.CountLaws.{one_if, count_by-all, count_by-falls, count_by-same, due_number-of, due_number-sum, length-is_rising, list_all-from_count, list_all-from_some, reads_of-other, reads_of-own}
 use Rattle.due_sums.proofs.GroupLaws.{HasGroup, group_of, group_over}
 
 -- a sum has at most as many inputs as there are
@@ -24,32 +25,42 @@ few_inputs inputs sums work few k d within = omega (arith, few, length-is_rising
 missing_of-none : (held : Held) (inputs : List ℕ) (piece : ℕ) → HoldsNone held → missing_of held inputs piece ≡ length inputs
 missing_of-none held inputs piece none = count_by-all (λ input. not (is_held held input piece)) inputs (λ input. not_from_false _ (none input piece))
 
--- the counts of a generation that nothing has come of
-pub IsCounted-fresh : (inputs : ℕ) (sums groups : List (List ℕ)) (held : Held) (counts : List ℕ) (due : Members) → row_count held ≡ inputs → HoldsNone held → HasNone due
-    → length counts ≡ length groups * pieces → length sums * pieces ≤ bound due
+-- a generation with these counts is one that nothing has come of
+pub IsFresh-counted : (inputs : ℕ) (groups : List (List ℕ)) (held : Held) (was : Vec ℕ Global) (counts : List ℕ) → row_count held ≡ inputs → HoldsNone held
+    → length counts ≡ was.len → was.len ≡ length groups * pieces
     → ((number : ℕ) → number < length counts → slice_index counts number ≡ length (slice_index_or groups (number / pieces) []))
-    → IsCounted inputs sums groups held counts due
-IsCounted-fresh inputs sums groups held counts due rows none empty whole room all = record {
-  rows = rows;
-  whole = whole;
-  room = room;
-  missing = λ group piece within low.
-      all (due_number group piece) (omega (arith, whole, within, low))
-      ∙ ap (λ group. length (slice_index_or groups group [])) (due_number-sum group piece low)
-      ∙ sym (missing_of-none held (slice_index_or groups group []) piece none);
-  complete = λ number is. absurd (omega (arith, is, empty number));
+    → IsFresh inputs groups (record { held = held; missing = with_items was counts })
+IsFresh-counted inputs groups held was counts rows none same whole all =
+    let items : (with_items was counts).items ≡ counts = with_items_is was counts same in
+    record {
+      size = record { rows = rows; whole = ap length items ∙ same ∙ whole };
+      missing = λ group piece within low.
+          ap (λ (counts : List ℕ). slice_index counts (due_number group piece)) items
+          ∙ all (due_number group piece) (omega (arith, same, whole, within, low))
+          ∙ ap (λ group. length (slice_index_or groups group [])) (due_number-sum group piece low)
+          ∙ sym (missing_of-none held (slice_index_or groups group []) piece none);
+      held = none;
+    }
+
+-- its counts are those of what is missing, where nothing is due
+pub IsTable-fresh : (inputs : ℕ) (sums groups : List (List ℕ)) (table : Table) (base : ℕ) (due : Members) → IsFresh inputs groups table → HasNone due
+    → IsTable inputs sums groups table base due
+IsTable-fresh inputs sums groups table base due fresh empty = record {
+  rows = fresh.size.rows;
+  whole = fresh.size.whole;
+  missing = fresh.missing;
+  complete = λ sum piece within low is. absurd (omega (arith, is, empty (due_number (base + sum) piece)));
 }
 
--- so a generation with these counts is one that nothing has come of
-pub IsFresh-counted : (inputs : ℕ) (sums groups : List (List ℕ)) (held : Held) (was : Vec ℕ Global) (counts : List ℕ) (due : Members) → row_count held ≡ inputs → HoldsNone held → HasNone due
-    → length counts ≡ was.len → was.len ≡ length groups * pieces → length sums * pieces ≤ bound due
-    → ((number : ℕ) → number < length counts → slice_index counts number ≡ length (slice_index_or groups (number / pieces) []))
-    → IsFresh inputs sums groups (record { held = held; missing = with_items was counts; due = due })
-IsFresh-counted inputs sums groups held was counts due rows none empty same whole room all = record {
-  counted = subst (λ counts. IsCounted inputs sums groups held counts due) (sym (with_items_is was counts same))
-      (IsCounted-fresh inputs sums groups held counts due rows none empty (same ∙ whole) room all);
-  held = none;
-  due = empty;
+-- and stay so where nothing more is due
+pub IsCounted-fewer : (inputs : ℕ) (sums groups : List (List ℕ)) (held : Held) (counts : List ℕ) (base : ℕ) (due due' : Members) → IsCounted inputs sums groups held counts base due
+    → ((sum piece : ℕ) → sum < length sums → piece < pieces → bit_of due'.words (due_number (base + sum) piece) ≡ 1 → bit_of due.words (due_number (base + sum) piece) ≡ 1)
+    → IsCounted inputs sums groups held counts base due'
+IsCounted-fewer inputs sums groups held counts base due due' counted fewer = record {
+  rows = counted.rows;
+  whole = counted.whole;
+  missing = counted.missing;
+  complete = λ sum piece within low is. counted.complete sum piece within low (fewer sum piece within low is);
 }
 
 -- inputs have come for a piece where none is missing
@@ -74,8 +85,8 @@ missing_of-own held inputs input piece none =
     here one = counted (one == input) (not (is_held held one piece)) (λ same. ap (λ one. not (is_held held one piece)) (eqb-true one input same) ∙ not_from_false _ none)
 
 -- a piece of an input comes
-module _ (inputs : ℕ) (sums groups : List (List ℕ)) (starts : List ℕ) (readers : List (List ℕ)) (held : Held) (counts : List ℕ) (due : Members) (input piece : ℕ)
-    (grouped : AreGroups sums groups starts) (read : AreReaders inputs groups readers) (counted : IsCounted inputs sums groups held counts due)
+module _ (inputs : ℕ) (sums groups : List (List ℕ)) (starts : List ℕ) (readers : List (List ℕ)) (held : Held) (counts : List ℕ) (base : ℕ) (due : Members) (input piece : ℕ)
+    (grouped : AreGroups sums groups starts) (read : AreReaders inputs groups readers) (counted : IsCounted inputs sums groups held counts base due)
     (within : input < inputs) (low : piece < pieces) (none : is_held held input piece ≡ false) where
   -- how often it is counted down
   abbrev reads : ℕ → ℕ
@@ -100,7 +111,7 @@ module _ (inputs : ℕ) (sums groups : List (List ℕ)) (starts : List ℕ) (rea
   enough number = subst (λ n. reads n ≤ slice_index counts n) (due_number-of number) (enough_at (number / pieces) (number % pieces) (omega arith))
 
   module _ (held' : Held) (counts' : List ℕ) (due' : Members) (payload : List ℕ) (came : Holds input piece payload held held')
-      (rows : row_count held' ≡ row_count held) (down : CountsDown (reads_of (slice_index_or readers input []) piece) starts piece counts counts' due due')
+      (rows : row_count held' ≡ row_count held) (down : CountsDown base (reads_of (slice_index_or readers input []) piece) starts piece counts counts' due due')
       (whole : length counts' ≡ length counts) where
     stays : (one p : ℕ) → p < pieces → ((one ≡ input) × (p ≡ piece) → ⊥) → is_held held' one p ≡ is_held held one p
     stays one p low' apart = came.same_marks (place one p) (λ same. apart (omega (arith, same, low, low'), omega (arith, same, low, low')))
@@ -133,44 +144,27 @@ module _ (inputs : ℕ) (sums groups : List (List ℕ)) (starts : List ℕ) (rea
     ]
 
     -- what is done has come
-    done_has : (group sum : ℕ) → IsDone reads starts piece counts' group sum → (sum < length sums) × (missing_of held' (slice_index_or sums sum []) piece ≡ 0)
-    done_has group sum done =
-        let over = group_over sums groups starts grouped group sum done.from done.to in
-        (over.1, ap (λ (numbers : List ℕ). missing_of held' numbers piece) over.2 ∙ sym (missing group piece over.0 low) ∙ done.none)
+    done_has : (sum p group s : ℕ) → p < pieces → due_number (base + sum) p ≡ due_number (base + s) piece → IsDone reads starts piece counts' group s
+        → missing_of held' (slice_index_or sums sum []) p ≡ 0
+    done_has sum p group s low' same done =
+        let over = group_over sums groups starts grouped group s done.from done.to in
+        let sum_is : sum ≡ s = omega (arith, same, low, low') in
+        let piece_is : p ≡ piece = omega (arith, same, low, low') in
+        ap (λ (s : ℕ). missing_of held' (slice_index_or sums s []) p) sum_is ∙ ap (missing_of held' (slice_index_or sums s [])) piece_is
+        ∙ ap (λ (numbers : List ℕ). missing_of held' numbers piece) over.2 ∙ sym (missing group piece over.0 low) ∙ done.none
 
-    done_at : (number group : ℕ) → number % pieces ≡ piece → IsDone reads starts piece counts' group (number / pieces)
-        → (number / pieces < length sums) × (missing_of held' (slice_index_or sums (number / pieces) []) (number % pieces) ≡ 0)
-    done_at number group is done =
-        let has = done_has group (number / pieces) done in
-        (has.0, ap (missing_of held' (slice_index_or sums (number / pieces) [])) is ∙ has.1)
+    complete : (sum p : ℕ) → sum < length sums → p < pieces → bit_of due'.words (due_number (base + sum) p) ≡ 1 → missing_of held' (slice_index_or sums sum []) p ≡ 0
+    complete sum p inside low' is = elim (cases_eq (missing_of held' (slice_index_or sums sum []) p) 0) [
+      | inl zero ↦ zero
+      | inr some ↦
+          let stays = down.others (due_number (base + sum) p) (λ group s same done. some (done_has sum p group s low' same done)) in
+          omega (arith, counted.complete sum p inside low' (sym stays ∙ is), no_more (slice_index_or sums sum []) p low')
+    ]
 
-    complete : (number : ℕ) → bit_of due'.words number ≡ 1
-        → (number / pieces < length sums) × (missing_of held' (slice_index_or sums (number / pieces) []) (number % pieces) ≡ 0)
-    complete number is = (inside, has)
-      where
-        before : ((group : ℕ) → number % pieces ≡ piece → IsDone reads starts piece counts' group (number / pieces) → ⊥)
-            → (number / pieces < length sums) × (missing_of held (slice_index_or sums (number / pieces) []) (number % pieces) ≡ 0)
-        before isnt = counted.complete number (sym (down.others number isnt) ∙ is)
-
-        inside : number / pieces < length sums
-        inside = elim (cases_lt (number / pieces) (length sums)) [
-          | inl below ↦ below
-          | inr past ↦ (before (λ group at done. omega (arith, past, (done_at number group at done).0))).0
-        ]
-
-        has : missing_of held' (slice_index_or sums (number / pieces) []) (number % pieces) ≡ 0
-        has = elim (cases_eq (missing_of held' (slice_index_or sums (number / pieces) []) (number % pieces)) 0) [
-          | inl zero ↦ zero
-          | inr some ↦
-              let was = (before (λ group at done. some (done_at number group at done).1)).1 in
-              omega (arith, was, no_more (slice_index_or sums (number / pieces) []) (number % pieces) (omega arith))
-        ]
-
-    pub IsCounted-accept : IsCounted inputs sums groups held' counts' due'
+    pub IsCounted-accept : IsCounted inputs sums groups held' counts' base due'
     IsCounted-accept = record {
       rows = rows ∙ counted.rows;
       whole = whole ∙ counted.whole;
-      room = omega (arith, counted.room, down.room);
       missing = missing;
       complete = complete;
     }
@@ -178,7 +172,7 @@ module _ (inputs : ℕ) (sums groups : List (List ℕ)) (starts : List ℕ) (rea
     -- a piece of a sum
     module _ (sum p : ℕ) (inside : sum < length sums) (low' : p < pieces) where
       abbrev number : ℕ
-      number = due_number sum p
+      number = due_number (base + sum) p
 
       abbrev numbers : List ℕ
       numbers = slice_index_or sums sum []
@@ -188,15 +182,9 @@ module _ (inputs : ℕ) (sums groups : List (List ℕ)) (starts : List ℕ) (rea
 
       -- where as many are missing and nothing is made due
       same_given : missing_of held' numbers p ≡ missing_of held numbers p
-          → ((group : ℕ) → number % pieces ≡ piece → IsDone reads starts piece counts' group (number / pieces) → ⊥) → given held' due' ≡ given held due
+          → ((group s : ℕ) → number ≡ due_number (base + s) piece → IsDone reads starts piece counts' group s → ⊥) → given held' due' ≡ given held due
       same_given many isnt =
           ap (λ n. (n == 0) && not (bit_of due'.words number == 1)) many ∙ ap (λ n. (missing_of held numbers p == 0) && not (n == 1)) (down.others number isnt)
-
-      sum_is : number / pieces ≡ sum
-      sum_is = due_number-sum sum p low'
-
-      piece_is : number % pieces ≡ p
-      piece_is = due_number-piece sum p low'
 
       module _ (same : p ≡ piece) where
         has : HasGroup starts (length groups) sum
@@ -219,7 +207,7 @@ module _ (inputs : ℕ) (sums groups : List (List ℕ)) (starts : List ℕ) (rea
 
         made_due : 0 < reads (due_number has.group piece) → missing_of held' numbers p ≡ 0 → bit_of due'.words number ≡ 1
         made_due some zero =
-            ap (λ p. bit_of due'.words (due_number sum p)) same
+            ap (λ p. bit_of due'.words (due_number (base + sum) p)) same
             ∙ down.due has.group sum (record { from = has.from; to = has.to; read = some; none = count_is ∙ zero })
 
         is_missing : 0 < reads (due_number has.group piece) → given held' due' ≡ false
@@ -230,10 +218,11 @@ module _ (inputs : ℕ) (sums groups : List (List ℕ)) (starts : List ℕ) (rea
         ]
 
         -- a group that reaches over the sum and was counted down is read by the sum's own
-        isnt_done : reads (due_number has.group piece) ≡ 0 → (group : ℕ) → number % pieces ≡ piece → IsDone reads starts piece counts' group (number / pieces) → ⊥
-        isnt_done unread group at done =
-            let over = group_over sums groups starts grouped group (number / pieces) done.from done.to in
-            let named : count_of input numbers ≡ count_of input (slice_index_or groups group []) = ap (λ s. count_of input (slice_index_or sums s [])) (sym sum_is) ∙ ap (count_of input) over.2 in
+        isnt_done : reads (due_number has.group piece) ≡ 0 → (group s : ℕ) → number ≡ due_number (base + s) piece → IsDone reads starts piece counts' group s → ⊥
+        isnt_done unread group s is done =
+            let over = group_over sums groups starts grouped group s done.from done.to in
+            let sum_is : sum ≡ s = omega (arith, is, low, low') in
+            let named : count_of input numbers ≡ count_of input (slice_index_or groups group []) = ap (λ (s : ℕ). count_of input (slice_index_or sums s [])) sum_is ∙ ap (count_of input) over.2 in
             omega (arith, unread, read_so, named, own group, done.read)
 
         by_piece : given held' due' ≡ given held due
@@ -245,27 +234,13 @@ module _ (inputs : ℕ) (sums groups : List (List ℕ)) (starts : List ℕ) (rea
       by_count : given held' due' ≡ given held due
       by_count = elim (cases_eq p piece) [
         | inl same ↦ by_piece same
-        | inr apart ↦ same_given (as_many numbers p low' apart) (λ group at done. apart (sym piece_is ∙ at))
+        | inr apart ↦ same_given (as_many numbers p low' apart) (λ group s is done. apart (omega (arith, is, low, low')))
       ]
 
       -- what was given stays so, and what is complete now is due
-      pub given_kept : (list_all (λ one. is_held held' one p) (slice_index_or sums sum []) && not (bit_of due'.words (due_number sum p) == 1))
-          ≡ (list_all (λ one. is_held held one p) (slice_index_or sums sum []) && not (bit_of due.words (due_number sum p) == 1))
+      pub given_kept : (list_all (λ one. is_held held' one p) (slice_index_or sums sum []) && not (bit_of due'.words (due_number (base + sum) p) == 1))
+          ≡ (list_all (λ one. is_held held one p) (slice_index_or sums sum []) && not (bit_of due.words (due_number (base + sum) p) == 1))
       given_kept =
           ap (λ (whole : Bool). whole && not (bit_of due'.words number == 1)) (complete_is held' numbers p)
           ∙ by_count
           ∙ ap (λ (whole : Bool). whole && not (bit_of due.words number == 1)) (sym (complete_is held numbers p))
-
--- a due number is taken
-pub IsCounted-lost : (inputs : ℕ) (sums groups : List (List ℕ)) (held : Held) (counts : List ℕ) (due due' : Members) (number : ℕ)
-    → IsCounted inputs sums groups held counts due → Loses number due due' → IsCounted inputs sums groups held counts due'
-IsCounted-lost inputs sums groups held counts due due' number counted lost = record {
-  rows = counted.rows;
-  whole = counted.whole;
-  room = omega (arith, counted.room, lost.long);
-  missing = counted.missing;
-  complete = λ other is. elim (cases_eq other number) [
-    | inl same ↦ absurd (omega (arith, is, lost.here, ap (bit_of due'.words) same))
-    | inr apart ↦ counted.complete other (sym (lost.others other apart) ∙ is)
-  ];
-}

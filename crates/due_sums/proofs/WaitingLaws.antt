@@ -1,221 +1,355 @@
 -- Laws of sums that wait: where nothing has come, where a piece of an input comes, and where a due piece is taken.
-use Rattle.std.specs.Prelude.{◌≡◌, ◌≢◌, ◌<◌, ◌/◌, ◌%◌, ◌&&◌, ◌==◌, ℕ, Bool, true, false, not, All, List, [], Vec, length, map, slice_index_or, slice_set}
+use Rattle.std.specs.Prelude.{◌≡◌, ◌≢◌, ◌<◌, ◌≤◌, ◌+◌, ◌-◌, ◌*◌, ◌/◌, ◌%◌, ◌^◌, ◌&&◌, ◌==◌, ◌∷◌, ℕ, Bool, true, false, nat_lt, not, All, List, [], Vec, length, map, slice_index_or, slice_set}
 use Rattle.std.specs.Global.{Global}
 use Rattle.std.specs.List.{list_all}
 use Rattle.std.specs.Vec.{with_items}
 use Rattle.std.proofs.Common.{refl, sym, ap, ◌∙◌, arith, get_or, inl, inr, subst}
-use Rattle.std.proofs.lemmas.Bool.{cases_eq, cases_lt, eq-eqb, eqb-true}
+use Rattle.std.proofs.lemmas.Bool.{and_from, and_left, and_parts, and_right, cases_eq, cases_lt, eq-eqb, eqb-true, le-ltb, lt-ltb, ltb-true, ne_eqb}
 use Rattle.std.proofs.lemmas.List.{get_or-map, get_or-set_other, get_or-set_same, get_or_past, length-map, length-set, map-set, with_items_is}
-use Rattle.std.proofs.lemmas.List.Elements.{All-get_or, All-map, All-set, All-weaker}
+use Rattle.std.proofs.lemmas.List.Elements.{All-get_or, All-map, All-weaker}
+use Rattle.std.proofs.lemmas.Nat.{div_below, mod-mul-add, mod_below, mul-le, pow_below, pow_pos, row_fits, same_from_place, shl_whole, shr_split}
 use Rattle.generation_frame.specs.Blocks.{pieces}
 use Rattle.generation_frame.specs.Frames.{accepted}
 use Rattle.generation_frame.specs.declared.frame.Accepted.{Accepted}
 use Rattle.generation_frame.specs.declared.frame.Accepted.TheVariants.{Known}
 use Rattle.held_rows.specs.Held.{Held, Holds, HoldsNone, is_held, payload_of, place, row_count}
-use Rattle.least_set.specs.Members.{HasNone, IsLeast, Loses, Members, bit_of}
-use Rattle.least_set.proofs.WordLaws.{no_bit}
-use Rattle.due_sums.specs.Counts.{AreReaders, CountsDown, IsCounted, IsFresh, IsTable, IsWaiting, lists_of, reads_of, seen}
+use Rattle.least_set.specs.Members.{HasNone, IsLeast, Loses, Members, bit_of, bound}
+use Rattle.due_sums.specs.Counts.{AreReaders, CountsDown, IsCounted, IsDone, IsFresh, IsOfSize, IsTable, IsWaiting, held_of, lists_of, missing_of, reads_of}
 use Rattle.due_sums.specs.Groups.{AreGroups}
-use Rattle.due_sums.specs.Waiting.{Gains, HasNothing, IsAtMost, Table as Seen, Takes, Waiting, due_number, has_input, input_at, is_due}
+use Rattle.due_sums.specs.Waiting.{AreSums, Gains, HasNothing, IsAtMost, Takes, Waiting, due_number, has_input, input_at, is_complete, is_due, is_given}
 use Rattle.due_sums.specs.declared.due_sums.Table.{Table}
-use Rattle.due_sums.proofs.CountLaws.{due_number-of}
-use Rattle.due_sums.proofs.TableLaws.{IsCounted-accept, complete_is, given_kept}
+use Rattle.due_sums.proofs.GroupLaws.{group_over}
+use Rattle.due_sums.proofs.TableLaws.{IsCounted-accept, IsCounted-fewer, IsTable-fresh, complete_is, given_kept}
+
+-- what contracts see of sums that wait
+abbrev pub waiting_of : ℕ → List (List ℕ) → List Table → ℕ → Members → Waiting
+waiting_of inputs sums tables room due = record { inputs = inputs; sums = sums; held = map held_of tables; room = room; due = due }
 
 -- the generation past the last one
-abbrev pub nothing : Seen
-nothing = record { held = record { payloads = []; marks = [] }; due = record { words = [] } }
+abbrev pub nothing : Held
+nothing = record { payloads = []; marks = [] }
 
--- nothing has come of a generation, and nothing is due
-pub record IsEmpty (table : Seen) : Type 0 where
-  pub held : HoldsNone table.held
-  pub due : HasNone table.due
+-- a room of at most two to the power of thirteen
+pub low_shift : (shift : ℕ) → 2 ^ shift ≤ 8192 → shift ≤ 13
+low_shift shift low = elim (cases_lt 13 shift) [
+  | inl above ↦ absurd (omega (arith, low, pow_below 13 shift above))
+  | inr below ↦ below
+]
+
+-- so many rooms fit
+pub rooms : (count room : ℕ) → count ≤ 4 → room ≤ 8192 → count * room ≤ 4 * 8192
+rooms count room few low = mul-le count room 4 8192 few low
+
+-- and the shift loses nothing
+pub shifted : (count shift width : ℕ) → count ≤ 4 → shift ≤ 13 → 16 ≤ width → (count * 2 ^ shift) % 2 ^ width ≡ count * 2 ^ shift
+shifted count shift width few low wide = shl_whole count 3 shift width (omega (arith, few)) (omega (arith, low, wide))
+
+-- a generation that is there has its room
+pub room_fits : (generation generations room : ℕ) → generation < generations → generation * room + room ≤ generations * room
+room_fits generation generations room inside = row_fits generation room generations room inside (omega arith)
+
+-- a piece of a sum is due where its bit is set
+due_from : (sum count bit : ℕ) → sum < count → bit ≡ 1 → (nat_lt sum count && bit == 1) ≡ true
+due_from sum count bit inside is = and_from _ _ (lt-ltb sum count inside) (eq-eqb bit 1 is)
+
+due_parts : (sum count bit : ℕ) → (nat_lt sum count && bit == 1) ≡ true → (sum < count) × (bit ≡ 1)
+due_parts sum count bit is =
+    let parts = and_parts _ _ is in
+    (ltb-true sum count parts.0, eqb-true bit 1 parts.1)
+
+pub not_due : (sum count bit : ℕ) → (sum < count → bit ≡ 0) → (nat_lt sum count && bit == 1) ≡ false
+not_due sum count bit none = elim (cases_lt sum count) [
+  | inl inside ↦ and_right _ _ (ne_eqb bit 1 (λ is. omega (arith, is, none inside)))
+  | inr past ↦ and_left _ _ (le-ltb sum count past)
+]
+
+-- the generation and the sum of a number below a limit
+pub number_place : (generations shift number : ℕ) → generations ≤ 4 → shift ≤ 13 → number < generations * 2 ^ shift * pieces
+    → let place = number / pieces in
+    let generation = place / 2 ^ shift in
+    let sum = place - generation * 2 ^ shift % 2 ^ 32 in
+    (generation < generations) × (sum < 2 ^ shift) × (generation * 2 ^ shift + sum ≡ place)
+number_place generations shift number few low below =
+    let place = number / pieces in
+    let generation = place / 2 ^ shift in
+    let inside : generation < generations = div_below place (2 ^ shift) generations (pow_pos shift) (omega (arith, below)) in
+    let whole = shifted generation shift 32 (omega (arith, inside, few)) low (omega arith) in
+    let split = shr_split place shift in
+    (inside, omega (arith, whole, split, mod_below place (2 ^ shift) (pow_pos shift)), omega (arith, whole, split))
+
+-- where no number below a limit is in the set, nothing is due
+pub none_due : (inputs : ℕ) (sums : List (List ℕ)) (tables : List Table) (room : ℕ) (due : Members) (generations limit : ℕ) → length sums ≤ room → limit ≡ generations * room * pieces
+    → ((number : ℕ) → number < limit → bit_of due.words number ≡ 0) → (old : Waiting) → waiting_of inputs sums tables room due ≡ old
+    → (g s p : ℕ) → g < generations → p < pieces → is_due old g s p ≡ false
+none_due inputs sums tables room due generations limit enough same none old seen_so g s p before low =
+    subst (λ (old : Waiting). is_due old g s p ≡ false) seen_so (not_due s (length sums) _ (λ inside.
+    none (due_number (g * room + s) p) (omega (arith, room_fits g generations room before, inside, enough, low, same))))
 
 -- where nothing has come of any generation, nothing has
-pub HasNothing-fresh : (inputs : ℕ) (sums groups : List (List ℕ)) (tables : List Table) → All (IsFresh inputs sums groups) tables
-    → HasNothing (record { inputs = inputs; sums = sums; tables = map seen tables })
-HasNothing-fresh inputs sums groups tables fresh = record {
-  inputs = λ generation input piece. (empty generation).held input piece;
-  due = λ generation sum piece. ap (λ bit. bit == 1) ((empty generation).due (due_number sum piece));
+pub HasNothing-fresh : (inputs : ℕ) (sums groups : List (List ℕ)) (tables : List Table) (room : ℕ) (due : Members) → All (IsFresh inputs groups) tables → HasNone due
+    → HasNothing (waiting_of inputs sums tables room due)
+HasNothing-fresh inputs sums groups tables room due fresh none = record {
+  inputs = empty;
+  due = λ generation sum piece. not_due sum (length sums) _ (λ inside. none (due_number (generation * room + sum) piece));
 }
   where
-    empty : (generation : ℕ) → IsEmpty (slice_index_or (map seen tables) generation nothing)
-    empty generation = elim (cases_lt generation (length (map seen tables))) [
+    empty : (generation : ℕ) → HoldsNone (slice_index_or (map held_of tables) generation nothing)
+    empty generation = elim (cases_lt generation (length (map held_of tables))) [
       | inl within ↦
-          All-get_or IsEmpty (map seen tables) generation nothing within
-          (All-map IsEmpty seen tables (All-weaker (IsFresh inputs sums groups) (λ table. IsEmpty (seen table)) (λ table none. record { held = none.held; due = none.due }) tables fresh))
+          All-get_or HoldsNone (map held_of tables) generation nothing within
+          (All-map HoldsNone held_of tables (All-weaker (IsFresh inputs groups) (λ table. HoldsNone (held_of table)) (λ table none. none.held) tables fresh))
       | inr past ↦
-          subst IsEmpty (sym (get_or_past (map seen tables) generation nothing past))
-          (record { held = λ row piece. refl; due = λ number. no_bit 0 (number % 64) refl })
+          subst HoldsNone (sym (get_or_past (map held_of tables) generation nothing past)) (λ row piece. refl)
     ]
 
--- a generation is changed
-pub IsWaiting-set : (inputs : ℕ) (sums groups : List (List ℕ)) (starts : List ℕ) (readers : List (List ℕ)) (tables : List Table) (generation : ℕ) (table : Table)
-    → IsWaiting inputs sums groups starts readers tables → IsTable inputs sums groups table → IsWaiting inputs sums groups starts readers (slice_set tables generation table)
-IsWaiting-set inputs sums groups starts readers tables generation table waiting counted = record {
-  work = waiting.work;
-  few = waiting.few;
-  grouped = waiting.grouped;
-  read = waiting.read;
-  counted = All-set (IsTable inputs sums groups) tables generation table counted waiting.counted;
+-- and all counts are those of what is missing
+pub IsWaiting-fresh : (inputs : ℕ) (sums groups : List (List ℕ)) (starts : List ℕ) (readers : List (List ℕ)) (tables : List Table) (room : ℕ) (due : Members)
+    → AreSums inputs sums → inputs < 2 ^ 32 → AreGroups sums groups starts → AreReaders inputs groups readers → length sums ≤ room → room ≤ 8192 → length tables ≤ 4
+    → length tables * room * pieces ≤ bound due → All (IsFresh inputs groups) tables → HasNone due → IsWaiting inputs sums groups starts readers tables room due
+IsWaiting-fresh inputs sums groups starts readers tables room due work few grouped read enough low generations bounded fresh none = record {
+  work = work;
+  few = few;
+  grouped = grouped;
+  read = read;
+  enough = enough;
+  low = low;
+  generations = generations;
+  bounded = bounded;
+  counted = λ generation other inside. IsTable-fresh inputs sums groups (slice_index_or tables generation other) (generation * room) due (fresh generation other inside) none;
+  of_sums = λ place piece below is. absurd (omega (arith, is, none (due_number place piece)));
 }
 
--- whether a piece of a sum was given, by what stands of its generation
-abbrev pub given_in : List (List ℕ) → Seen → ℕ → ℕ → Bool
-given_in sums one s p = list_all (λ input. is_held one.held input p) (slice_index_or sums s []) && not (bit_of one.due.words (due_number s p) == 1)
+-- what is seen of a generation that is there
+seen_at : (tables : List Table) (generation : ℕ) → generation < length tables
+    → (table : Table) × (slice_index_or (map held_of tables) generation nothing ≡ held_of (slice_index_or tables generation table))
+seen_at [] generation inside = absurd (omega (arith, inside))
+seen_at (table ∷ tables) generation inside = (table, get_or-map held_of (table ∷ tables) generation table nothing inside)
 
-module _ (inputs : ℕ) (sums : List (List ℕ)) (tables : List Seen) (generation : ℕ) (table : Seen) (inside : generation < length tables) where
-  abbrev at : Seen
-  at = slice_index_or tables generation nothing
+module _ (inputs : ℕ) (sums groups : List (List ℕ)) (starts : List ℕ) (readers : List (List ℕ)) (tables : List Table) (room : ℕ) (due : Members)
+    (waiting : IsWaiting inputs sums groups starts readers tables room due) where
+  -- each generation is of its size
+  pub sizes : All (IsOfSize inputs groups) tables
+  sizes generation other inside =
+      let counted = waiting.counted generation other inside in
+      record { rows = counted.rows; whole = counted.whole }
+
+  -- a number is taken
+  pub IsWaiting-lost : (number : ℕ) (due' : Members) → Loses number due due' → IsWaiting inputs sums groups starts readers tables room due'
+  IsWaiting-lost number due' lost = record {
+    work = waiting.work;
+    few = waiting.few;
+    grouped = waiting.grouped;
+    read = waiting.read;
+    enough = waiting.enough;
+    low = waiting.low;
+    generations = waiting.generations;
+    bounded = omega (arith, waiting.bounded, lost.long);
+    counted = λ generation other inside.
+        let table = slice_index_or tables generation other in
+        IsCounted-fewer inputs sums groups table.held table.missing.items (generation * room) due due' (waiting.counted generation other inside)
+        (λ sum piece within low is. was (due_number (generation * room + sum) piece) is);
+    of_sums = λ place piece low is. waiting.of_sums place piece low (was (due_number place piece) is);
+  }
+    where
+      was : (other : ℕ) → bit_of due'.words other ≡ 1 → bit_of due.words other ≡ 1
+      was other is = elim (cases_eq other number) [
+        | inl same ↦ absurd (omega (arith, is, lost.here, ap (bit_of due'.words) same))
+        | inr apart ↦ sym (lost.others other apart) ∙ is
+      ]
+
+  -- the least due piece is taken
+  pub Takes-least : (generations generation sum piece number : ℕ) (due' : Members) → generation < generations → generations ≤ length tables → sum < room → piece < pieces
+      → due_number (generation * room + sum) piece ≡ number → IsLeast number due → Loses number due due'
+      → Takes generations generation sum piece (waiting_of inputs sums tables room due) (waiting_of inputs sums tables room due')
+  Takes-least generations generation sum piece number due' inside within below low is least lost = record {
+    in_generations = inside;
+    in_sums = in_sums;
+    in_pieces = low;
+    complete =
+        let seen = seen_at tables generation (omega (arith, inside, within)) in
+        complete_is (slice_index_or (map held_of tables) generation nothing) (slice_index_or sums sum []) piece
+        ∙ eq-eqb _ 0 (ap (λ (held : Held). missing_of held (slice_index_or sums sum []) piece) seen.1
+        ∙ (waiting.counted generation seen.0 (omega (arith, inside, within))).complete sum piece in_sums low has);
+    due = due_from sum (length sums) _ in_sums has;
+    before = λ g s p earlier low'. not_due s (length sums) _ (λ inside'.
+        least.least (due_number (g * room + s) p) (omega (arith, is, room_fits g generation room earlier, inside', waiting.enough, low')));
+    least = λ s p low' due. at_most s p low' (due_parts s (length sums) _ due).1;
+    taken = not_due sum (length sums) _ (λ inside'. ap (bit_of due'.words) is ∙ lost.here);
+    others = λ g s p low' differs. elim (cases_lt s (length sums)) [
+      | inl inside' ↦ ap (λ bit. nat_lt s (length sums) && bit == 1) (lost.others (due_number (g * room + s) p) (λ same.
+          let places : g * room + s ≡ generation * room + sum = omega (arith, same, is, low, low') in
+          let parts = same_from_place g s generation sum room (omega (arith, inside', waiting.enough)) below places in
+          differs (parts.0, parts.1, omega (arith, same, is, low, low'))))
+      | inr past ↦ and_left _ _ (le-ltb s (length sums) past) ∙ sym (and_left _ _ (le-ltb s (length sums) past))
+    ];
+    work = record { inputs = refl; sums = refl; generations = refl };
+    inputs = λ g i p. refl;
+    bytes = λ g i p. refl;
+  }
+    where
+      has : bit_of due.words (due_number (generation * room + sum) piece) ≡ 1
+      has = ap (bit_of due.words) is ∙ least.within
+
+      in_sums : sum < length sums
+      in_sums = omega (arith, waiting.of_sums (generation * room + sum) piece low has, mod-mul-add generation room sum below)
+
+      at_most : (s p : ℕ) → p < pieces → bit_of due.words (due_number (generation * room + s) p) ≡ 1 → IsAtMost sum piece s p
+      at_most s p low' due = elim (cases_lt (due_number (generation * room + s) p) number) [
+        | inl less ↦ absurd (omega (arith, due, least.least (due_number (generation * room + s) p) less))
+        | inr more ↦ (elim (cases_lt sum s) [
+          | inl before ↦ inl before
+          | inr not_before ↦ inr (omega (arith, is, more, not_before, low, low'), omega (arith, is, more, not_before, low, low'))
+        ])
+      ]
+
+  -- a generation is counted down
+  module _ (generation : ℕ) (inside : generation < length tables) (reads : ℕ → ℕ) (piece : ℕ) (low : piece < pieces) (counts counts' : List ℕ) (due' : Members)
+      (down : CountsDown (generation * room) reads starts piece counts counts' due due') where
+    -- a sum that is done is there
+    done_inside : (group sum : ℕ) → IsDone reads starts piece counts' group sum → sum < length sums
+    done_inside group sum done = (group_over sums groups starts waiting.grouped group sum done.from done.to).1
+
+    -- the other generations stay
+    pub others_stay : (g sum p : ℕ) → g ≢ generation → sum < length sums → p < pieces
+        → bit_of due'.words (due_number (g * room + sum) p) ≡ bit_of due.words (due_number (g * room + sum) p)
+    others_stay g sum p apart within low' = down.others (due_number (g * room + sum) p) (λ group s is done.
+        let places : g * room + sum ≡ generation * room + s = omega (arith, is, low, low') in
+        apart (same_from_place g sum generation s room (omega (arith, within, waiting.enough)) (omega (arith, done_inside group s done, waiting.enough)) places).0)
+
+    pub IsWaiting-set : (table : Table) → IsTable inputs sums groups table (generation * room) due' → IsWaiting inputs sums groups starts readers (slice_set tables generation table) room due'
+    IsWaiting-set table counted = record {
+      work = waiting.work;
+      few = waiting.few;
+      grouped = waiting.grouped;
+      read = waiting.read;
+      enough = waiting.enough;
+      low = waiting.low;
+      generations = omega (arith, waiting.generations, long);
+      bounded = subst (λ count. count * room * pieces ≤ bound due') (sym long) (omega (arith, waiting.bounded, down.room));
+      counted = λ g other within. elim (cases_eq g generation) [
+        | inl same ↦ subst (Counted other) (sym same) (subst (At generation) (sym (get_or-set_same tables generation table other inside)) counted)
+        | inr apart ↦
+            let one = slice_index_or tables g other in
+            subst (At g) (sym (get_or-set_other tables generation g table other apart))
+            (IsCounted-fewer inputs sums groups one.held one.missing.items (g * room) due due' (waiting.counted g other (omega (arith, within, long)))
+            (λ sum p within low' is. sym (others_stay g sum p apart within low') ∙ is))
+      ];
+      of_sums = λ place p low' is. elim (cases_lt (place % room) (length sums)) [
+        | inl below ↦ below
+        | inr past ↦ waiting.of_sums place p low' (sym (down.others (due_number place p) (λ group s same done.
+            let places : place ≡ generation * room + s = omega (arith, same, low, low') in
+            let within = done_inside group s done in
+            omega (arith, past, within, ap (λ n. n % room) places, mod-mul-add generation room s (omega (arith, within, waiting.enough))))) ∙ is)
+      ];
+    }
+      where
+        At : ℕ → Table → Type 0
+        At g table = IsTable inputs sums groups table (g * room) due'
+
+        Counted : Table → ℕ → Type 0
+        Counted other g = At g (slice_index_or (slice_set tables generation table) g other)
+
+        long : length (slice_set tables generation table) ≡ length tables
+        long = length-set tables generation table
+
+-- a piece of an input comes to what is seen of a generation
+module _ (inputs : ℕ) (sums : List (List ℕ)) (helds : List Held) (room : ℕ) (due due' : Members) (generation : ℕ) (held' : Held) (inside : generation < length helds) where
+  abbrev at : Held
+  at = slice_index_or helds generation nothing
 
   abbrev old : Waiting
-  old = record { inputs = inputs; sums = sums; tables = tables }
+  old = record { inputs = inputs; sums = sums; held = helds; room = room; due = due }
 
   abbrev new : Waiting
-  new = record { inputs = inputs; sums = sums; tables = slice_set tables generation table }
+  new = record { inputs = inputs; sums = sums; held = slice_set helds generation held'; room = room; due = due' }
 
-  at_new : slice_index_or (slice_set tables generation table) generation nothing ≡ table
-  at_new = get_or-set_same tables generation table nothing inside
+  at_new : slice_index_or (slice_set helds generation held') generation nothing ≡ held'
+  at_new = get_or-set_same helds generation held' nothing inside
 
-  at_other : (g : ℕ) → g ≢ generation → slice_index_or (slice_set tables generation table) g nothing ≡ slice_index_or tables g nothing
-  at_other g apart = get_or-set_other tables generation g table nothing apart
+  at_other : (g : ℕ) → g ≢ generation → slice_index_or (slice_set helds generation held') g nothing ≡ slice_index_or helds g nothing
+  at_other g apart = get_or-set_other helds generation g held' nothing apart
 
-  -- a fact of each generation that is so of the changed one and stays so of the others
-  each : (P : Seen → Seen → Type 0) → P table at → ((one : Seen) → P one one) → (g : ℕ) → P (slice_index_or (slice_set tables generation table) g nothing) (slice_index_or tables g nothing)
-  each P here same g = elim (cases_eq g generation) [
-    | inl is ↦
-        subst (λ g. P (slice_index_or (slice_set tables generation table) g nothing) (slice_index_or tables g nothing)) (sym is) (subst (λ one. P one at) (sym at_new) here)
-    | inr apart ↦ subst (λ one. P one (slice_index_or tables g nothing)) (sym (at_other g apart)) (same (slice_index_or tables g nothing))
-  ]
-
-  -- a piece of an input comes
-  pub Gains-accept : (input piece : ℕ) (payload : List ℕ) → piece < pieces → Holds input piece payload at.held table.held
-      → ((s p : ℕ) → s < length sums → p < pieces → given_in sums table s p ≡ given_in sums at s p)
-      → Gains generation input piece payload (record { inputs = inputs; sums = sums; tables = tables }) (record { inputs = inputs; sums = sums; tables = slice_set tables generation table })
-  Gains-accept input piece payload low came given = record {
-    work = record { inputs = refl; sums = refl; generations = length-set tables generation table };
-    came = ap (λ (one : Seen). is_held one.held input piece) at_new ∙ came.held;
-    bytes = ap (λ (one : Seen). payload_of one.held input piece) at_new ∙ came.bytes;
+  pub Gains-accept : (input piece : ℕ) (payload : List ℕ) → piece < pieces → Holds input piece payload at held'
+      → ((s p : ℕ) → s < length sums → p < pieces
+      → (list_all (λ one. is_held held' one p) (slice_index_or sums s []) && not (bit_of due'.words (due_number (generation * room + s) p) == 1))
+      ≡ (list_all (λ one. is_held at one p) (slice_index_or sums s []) && not (bit_of due.words (due_number (generation * room + s) p) == 1)))
+      → ((g s p : ℕ) → g ≢ generation → s < length sums → p < pieces → bit_of due'.words (due_number (g * room + s) p) ≡ bit_of due.words (due_number (g * room + s) p))
+      → Gains generation input piece payload (record { inputs = inputs; sums = sums; held = helds; room = room; due = due })
+      (record { inputs = inputs; sums = sums; held = slice_set helds generation held'; room = room; due = due' })
+  Gains-accept input piece payload low came given others = record {
+    work = record { inputs = refl; sums = refl; generations = length-set helds generation held' };
+    came = ap (λ held. is_held held input piece) at_new ∙ came.held;
+    bytes = ap (λ held. payload_of held input piece) at_new ∙ came.bytes;
     other_inputs = λ g i p below low' differs. elim (cases_eq g generation) [
       | inl is ↦
           let Same : ℕ → Type 0 = λ g. (has_input new g i p ≡ has_input old g i p) × (input_at new g i p ≡ input_at old g i p) in
           let apart : place i p ≢ place input piece = λ same. differs (is, omega (arith, same, low, low'), omega (arith, same, low, low')) in
           subst Same (sym is) (
-            ap (λ (one : Seen). is_held one.held i p) at_new ∙ came.same_marks (place i p) apart,
-            ap (λ (one : Seen). payload_of one.held i p) at_new ∙ came.same_payloads (place i p) apart,
+            ap (λ held. is_held held i p) at_new ∙ came.same_marks (place i p) apart,
+            ap (λ held. payload_of held i p) at_new ∙ came.same_payloads (place i p) apart,
           )
-      | inr apart ↦ (ap (λ (one : Seen). is_held one.held i p) (at_other g apart), ap (λ (one : Seen). payload_of one.held i p) (at_other g apart))
+      | inr apart ↦ (ap (λ held. is_held held i p) (at_other g apart), ap (λ held. payload_of held i p) (at_other g apart))
     ];
-    given = λ g s p below low'. each (λ one other. given_in sums one s p ≡ given_in sums other s p) (given s p below low') (λ one. refl) g;
-  }
-
-  -- the least due piece is taken
-  pub Takes-least : (groups : List (List ℕ)) (number : ℕ) (counts : List ℕ) → IsCounted inputs sums groups at.held counts at.due → IsLeast number at.due → Loses number at.due table.due → table.held ≡ at.held
-      → Takes generation (number / pieces) (number % pieces) (record { inputs = inputs; sums = sums; tables = tables })
-      (record { inputs = inputs; sums = sums; tables = slice_set tables generation table })
-  Takes-least groups number counts counted least lost held = record {
-    in_sums = in_sums;
-    in_pieces = low;
-    complete =
-        complete_is at.held (slice_index_or sums sum []) piece ∙ eq-eqb _ 0 (counted.complete number least.within).1;
-    due = eq-eqb _ 1 (ap (bit_of at.due.words) (due_number-of number) ∙ least.within);
-    least = λ s p low' due. at_most s p low' (eqb-true _ 1 due);
-    taken = ap (λ (one : Seen). bit_of one.due.words (due_number sum piece) == 1) at_new
-        ∙ ap (λ n. bit_of table.due.words n == 1) (due_number-of number) ∙ ap (λ bit. bit == 1) lost.here;
-    others = λ g s p low' differs. elim (cases_eq g generation) [
-      | inl is ↦
-          subst (λ g. is_due new g s p ≡ is_due old g s p) (sym is)
-          (ap (λ (one : Seen). bit_of one.due.words (due_number s p) == 1) at_new
-          ∙ ap (λ bit. bit == 1) (lost.others (due_number s p) (λ same. differs (is, omega (arith, same, low'), omega (arith, same, low')))))
-      | inr apart ↦ ap (λ (one : Seen). bit_of one.due.words (due_number s p) == 1) (at_other g apart)
+    given = λ g s p within low'. elim (cases_eq g generation) [
+      | inl is ↦ subst (λ g. is_given new g s p ≡ is_given old g s p) (sym is) (here s p within low')
+      | inr apart ↦
+          ap (λ held. list_all (λ input. is_held held input p) (slice_index_or sums s []) && not (is_due new g s p)) (at_other g apart)
+          ∙ ap (λ bit. is_complete old g s p && not (nat_lt s (length sums) && bit == 1)) (others g s p apart within low')
     ];
-    work = record { inputs = refl; sums = refl; generations = length-set tables generation table };
-    inputs = λ g i p. ap (λ held. is_held held i p) (same_held g);
-    bytes = λ g i p. ap (λ held. payload_of held i p) (same_held g);
   }
     where
-      sum : ℕ
-      sum = number / pieces
-
-      piece : ℕ
-      piece = number % pieces
-
-      low : number % pieces < pieces
-      low = omega arith
-
-      in_sums : number / pieces < length sums
-      in_sums = (counted.complete number least.within).0
-
-      same_held : (g : ℕ) → (slice_index_or (slice_set tables generation table) g nothing).held ≡ (slice_index_or tables g nothing).held
-      same_held g = each (λ one other. one.held ≡ other.held) held (λ one. refl) g
-
-      at_most : (s p : ℕ) → p < pieces → bit_of at.due.words (due_number s p) ≡ 1 → IsAtMost (number / pieces) (number % pieces) s p
-      at_most s p low' due = elim (cases_lt (due_number s p) number) [
-        | inl less ↦ absurd (omega (arith, due, least.least (due_number s p) less))
-        | inr more ↦ (elim (cases_lt (number / pieces) s) [
-          | inl before ↦ inl before
-          | inr not_before ↦ inr (omega (arith, more, not_before, low'), omega (arith, more, not_before, low'))
-        ])
-      ]
-
--- what contracts see of sums that wait
-abbrev pub waiting_of : ℕ → List (List ℕ) → List Table → Waiting
-waiting_of inputs sums tables = record { inputs = inputs; sums = sums; tables = map seen tables }
-
--- what is seen of the generation at a place
-seen_at : (tables : List Table) (generation : ℕ) (table : Table) → generation < length tables → table ≡ get_or tables generation table
-    → slice_index_or (map seen tables) generation nothing ≡ seen table
-seen_at tables generation table inside is = get_or-map seen tables generation table nothing inside ∙ ap seen (sym is)
-
--- the least due piece of a generation is taken
-pub Takes-table : (inputs : ℕ) (sums groups : List (List ℕ)) (tables : List Table) (generation number : ℕ) (table : Table) (due' : Members)
-    → generation < length tables → table ≡ get_or tables generation table → IsTable inputs sums groups table → IsLeast number table.due → Loses number table.due due'
-    → (waiting : Waiting) → waiting_of inputs sums tables ≡ waiting
-    → Takes generation (number / pieces) (number % pieces) waiting
-    (waiting_of inputs sums (slice_set tables generation (record { held = table.held; missing = table.missing; due = due' })))
-Takes-table inputs sums groups tables generation number table due' inside is counted least lost waiting seen_so =
-    let old = map seen tables in
-    let at = slice_index_or old generation nothing in
-    let counts = table.missing.items in
-    let table' : Table = record { held = table.held; missing = table.missing; due = due' } in
-    let back : seen table ≡ at = sym (seen_at tables generation table inside is) in
-    let Before : Waiting → Type 0 = λ waiting. Takes generation (number / pieces) (number % pieces) waiting (waiting_of inputs sums (slice_set tables generation table')) in
-    let After : List Seen → Type 0 = λ new. Takes generation (number / pieces) (number % pieces) (waiting_of inputs sums tables) (record { inputs = inputs; sums = sums; tables = new }) in
-    subst Before seen_so (subst After (sym (map-set seen tables generation table'))
-    (Takes-least inputs sums old generation (seen table') (omega (arith, inside, length-map tables seen)) groups number counts
-    (subst (λ (one : Seen). IsCounted inputs sums groups one.held counts one.due) back counted) (subst (λ (one : Seen). IsLeast number one.due) back least)
-    (subst (λ (one : Seen). Loses number one.due due') back lost) (ap (λ (one : Seen). one.held) back)))
+      here : (s p : ℕ) → s < length sums → p < pieces → is_given new generation s p ≡ is_given old generation s p
+      here s p within low' =
+          let inside : nat_lt s (length sums) ≡ true = lt-ltb s (length sums) within in
+          let bit = bit_of due.words (due_number (generation * room + s) p) in
+          let bit' = bit_of due'.words (due_number (generation * room + s) p) in
+          let whole : Held → Bool = λ held. list_all (λ input. is_held held input p) (slice_index_or sums s []) in
+          ap (λ held. whole held && not (nat_lt s (length sums) && bit' == 1)) at_new
+          ∙ ap (λ below. whole held' && not (below && bit' == 1)) inside
+          ∙ given s p within low'
+          ∙ ap (λ below. whole at && not (below && bit == 1)) (sym inside)
 
 -- a piece of an input comes to a generation
-module _ (inputs : ℕ) (sums groups : List (List ℕ)) (starts : List ℕ) (readers : List (List ℕ)) (input piece : ℕ) (payload : List ℕ) (table : Table) (held' : Held) (counts' : List ℕ) (due' : Members)
-    (grouped : AreGroups sums groups starts) (read : AreReaders inputs groups readers) (counted : IsTable inputs sums groups table) (within : input < inputs) (low : piece < pieces)
+module _ (inputs : ℕ) (sums groups : List (List ℕ)) (starts : List ℕ) (readers : List (List ℕ)) (tables : List Table) (room : ℕ) (due : Members)
+    (waiting : IsWaiting inputs sums groups starts readers tables room due) (generation : ℕ) (inside : generation < length tables) (input piece : ℕ) (payload : List ℕ)
+    (table : Table) (held' : Held) (counts' : List ℕ) (due' : Members) (is : table ≡ get_or tables generation table) (within : input < inputs) (low : piece < pieces)
     (none : is_held table.held input piece ≡ false) (came : Holds input piece payload table.held held') (rows : row_count held' ≡ row_count table.held)
-    (down : CountsDown (reads_of (slice_index_or readers input []) piece) starts piece table.missing.items counts' table.due due') (whole : length counts' ≡ length table.missing.items) where
+    (down : CountsDown (generation * room) (reads_of (slice_index_or readers input []) piece) starts piece table.missing.items counts' due due')
+    (whole : length counts' ≡ length table.missing.items) where
+  counted : IsTable inputs sums groups table (generation * room) due
+  counted = subst (λ (table : Table). IsTable inputs sums groups table (generation * room) due) (sym is) (waiting.counted generation table inside)
+
   abbrev table' : Table
-  table' = record { held = held'; missing = with_items table.missing counts'; due = due' }
+  table' = record { held = held'; missing = with_items table.missing counts' }
 
   items : (with_items table.missing counts').items ≡ counts'
   items = with_items_is table.missing counts' (whole ∙ sym table.missing.ok.0)
 
-  pub IsTable-accept : IsTable inputs sums groups (record { held = held'; missing = with_items table.missing counts'; due = due' })
-  IsTable-accept =
-      subst (λ counts. IsCounted inputs sums groups held' counts due') (sym items)
-      (IsCounted-accept inputs sums groups starts readers table.held table.missing.items table.due input piece grouped read counted within low none held' counts' due' payload came rows down whole)
+  pub IsWaiting-accept : IsWaiting inputs sums groups starts readers (slice_set tables generation (record { held = held'; missing = with_items table.missing counts' })) room due'
+  IsWaiting-accept =
+      IsWaiting-set inputs sums groups starts readers tables room due waiting generation inside (reads_of (slice_index_or readers input []) piece) piece low table.missing.items counts' due' down table'
+      (subst (λ counts. IsCounted inputs sums groups held' counts (generation * room) due') (sym items)
+      (IsCounted-accept inputs sums groups starts readers table.held table.missing.items (generation * room) due input piece waiting.grouped waiting.read counted within low none held' counts' due'
+      payload came rows down whole))
 
-  pub Gains-table : (tables : List Table) (generation : ℕ) → generation < length tables → table ≡ get_or tables generation table
-      → (waiting : Waiting) → waiting_of inputs sums tables ≡ waiting
-      → Gains generation input piece payload waiting
-      (waiting_of inputs sums (slice_set tables generation (record { held = held'; missing = with_items table.missing counts'; due = due' })))
-  Gains-table tables generation inside is waiting seen_so =
-      let old = map seen tables in
-      let back : seen table ≡ slice_index_or old generation nothing = sym (seen_at tables generation table inside is) in
-      let Before : Waiting → Type 0 = λ waiting. Gains generation input piece payload waiting (waiting_of inputs sums (slice_set tables generation table')) in
-      let After : List Seen → Type 0 = λ new. Gains generation input piece payload (waiting_of inputs sums tables) (record { inputs = inputs; sums = sums; tables = new }) in
-      subst Before seen_so (subst After (sym (map-set seen tables generation table'))
-      (Gains-accept inputs sums old generation (seen table') (omega (arith, inside, length-map tables seen)) input piece payload low
-      (subst (λ (one : Seen). Holds input piece payload one.held held') back came)
+  pub Gains-table : (old : Waiting) → waiting_of inputs sums tables room due ≡ old
+      → Gains generation input piece payload old
+      (waiting_of inputs sums (slice_set tables generation (record { held = held'; missing = with_items table.missing counts' })) room due')
+  Gains-table old seen_so =
+      let helds = map held_of tables in
+      let back : table.held ≡ slice_index_or helds generation nothing = ap held_of is ∙ sym (get_or-map held_of tables generation table nothing inside) in
+      let Before : Waiting → Type 0 = λ old. Gains generation input piece payload old (waiting_of inputs sums (slice_set tables generation table') room due') in
+      let After : List Held → Type 0 = λ new. Gains generation input piece payload (waiting_of inputs sums tables room due)
+      (record { inputs = inputs; sums = sums; held = new; room = room; due = due' }) in
+      subst Before seen_so (subst After (sym (map-set held_of tables generation table'))
+      (Gains-accept inputs sums helds room due due' generation held' (omega (arith, inside, length-map tables held_of)) input piece payload low
+      (subst (λ held. Holds input piece payload held held') back came)
       (λ s p below low'.
-      subst (λ (one : Seen). given_in sums (seen table') s p ≡ given_in sums one s p) back
-      (given_kept inputs sums groups starts readers table.held table.missing.items table.due input piece grouped read counted within low none held' counts' due' payload came rows down whole s p below low'))))
+      subst (λ (held : Held). (list_all (λ one. is_held held' one p) (slice_index_or sums s []) && not (bit_of due'.words (due_number (generation * room + s) p) == 1))
+      ≡ (list_all (λ one. is_held held one p) (slice_index_or sums s []) && not (bit_of due.words (due_number (generation * room + s) p) == 1))) back
+      (given_kept inputs sums groups starts readers table.held table.missing.items (generation * room) due input piece waiting.grouped waiting.read counted within low none held' counts' due'
+      payload came rows down whole s p below low'))
+      (others_stay inputs sums groups starts readers tables room due waiting generation inside (reads_of (slice_index_or readers input []) piece) piece low table.missing.items counts' due' down)))
 
 -- a piece that hasn't come before
 pub not_before : (known : Bool) (answer : Accepted) → answer ≡ accepted known → (answer ≡ Known → ⊥) → known ≡ false
@@ -223,10 +357,9 @@ not_before true answer says fresh = absurd (fresh says)
 not_before false answer says fresh = refl
 
 -- a generation that is seen is there
-pub within_tables : (inputs : ℕ) (sums : List (List ℕ)) (tables : List Table) (generation : ℕ) (waiting : Waiting) → waiting_of inputs sums tables ≡ waiting
-    → generation < length waiting.tables → generation < length tables
-within_tables inputs sums tables generation waiting seen_so within =
-    omega (arith, within, ap (λ (waiting : Waiting). length waiting.tables) seen_so, length-map tables seen)
+pub within_tables : (inputs : ℕ) (sums : List (List ℕ)) (tables : List Table) (room : ℕ) (due : Members) (waiting : Waiting) → waiting_of inputs sums tables room due ≡ waiting
+    → length waiting.held ≡ length tables
+within_tables inputs sums tables room due waiting seen_so = sym (ap (λ (waiting : Waiting). length waiting.held) seen_so) ∙ length-map tables held_of
 
 -- the list of those that read an input
 pub readers_at : (lists : List (Vec ℕ Global)) (input : ℕ) (list : Vec ℕ Global) → input < length lists → list ≡ get_or lists input list

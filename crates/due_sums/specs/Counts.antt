@@ -1,12 +1,12 @@
 -- What stands behind sums that wait: for each input the groups of sums that read it, and for each piece of each group how
 -- many of its inputs are missing.
-use Rattle.std.specs.Prelude.{◌≡◌, ◌≢◌, ◌<◌, ◌≤◌, ◌+◌, ◌*◌, ◌/◌, ◌%◌, ◌^◌, ◌==◌, ℕ, not, List, [], Vec, length, map, count_by, slice_index, slice_index_or, All}
+use Rattle.std.specs.Prelude.{◌≡◌, ◌≢◌, ◌<◌, ◌≤◌, ◌+◌, ◌*◌, ◌%◌, ◌^◌, ◌==◌, ℕ, not, List, [], Vec, length, map, count_by, slice_index, slice_index_or}
 use Rattle.std.specs.Global.{Global}
 use Rattle.generation_frame.specs.Blocks.{pieces}
 use Rattle.held_rows.specs.Held.{Held, HoldsNone, is_held, row_count}
-use Rattle.least_set.specs.Members.{HasNone, Members, bit_of, bound}
+use Rattle.least_set.specs.Members.{Members, bit_of, bound}
 use Rattle.due_sums.specs.Groups.{AreGroups}
-use Rattle.due_sums.specs.Waiting.{AreSums, Table as Seen, due_number}
+use Rattle.due_sums.specs.Waiting.{AreSums, due_number}
 use Rattle.due_sums.specs.declared.due_sums.Table.{Table}
 
 -- how often a number stands in a list
@@ -45,12 +45,13 @@ pub record IsDone (reads : ℕ → ℕ) (starts : List ℕ) (piece : ℕ) (count
   pub read : 0 < reads (due_number group piece)
   pub none : slice_index counts (due_number group piece) ≡ 0
 
--- Each count fell by so many for its number. The sums of groups that were counted down and have none left are due now, and
--- all others are as before.
-pub record CountsDown (reads : ℕ → ℕ) (starts : List ℕ) (piece : ℕ) (old new : List ℕ) (old_due new_due : Members) : Type 0 where
+-- Each count fell by so many for its number. The sums of groups that were counted down and have none left are due now, from
+-- a base on, and all others are as before.
+pub record CountsDown (base : ℕ) (reads : ℕ → ℕ) (starts : List ℕ) (piece : ℕ) (old new : List ℕ) (old_due new_due : Members) : Type 0 where
   pub counts : (number : ℕ) → slice_index new number + reads number ≡ slice_index old number
-  pub due : (group sum : ℕ) → IsDone reads starts piece new group sum → bit_of new_due.words (due_number sum piece) ≡ 1
-  pub others : (number : ℕ) → ((group : ℕ) → number % pieces ≡ piece → IsDone reads starts piece new group (number / pieces) → ⊥)
+  pub due : (group sum : ℕ) → IsDone reads starts piece new group sum → bit_of new_due.words (due_number (base + sum) piece) ≡ 1
+  pub others : (number : ℕ)
+      → ((group sum : ℕ) → number ≡ due_number (base + sum) piece → IsDone reads starts piece new group sum → ⊥)
       → bit_of new_due.words number ≡ bit_of old_due.words number
   pub room : bound new_due ≡ bound old_due
 
@@ -58,33 +59,46 @@ pub record CountsDown (reads : ℕ → ℕ) (starts : List ℕ) (piece : ℕ) (o
 abbrev pub missing_of : Held → List ℕ → ℕ → ℕ
 missing_of held inputs piece = count_by (λ input. not (is_held held input piece)) inputs
 
--- what contracts see of a generation
-abbrev pub seen : Table → Seen
-seen table = record { held = table.held; due = table.due }
+-- what has come of a generation
+abbrev pub held_of : Table → Held
+held_of table = table.held
 
--- the counts of a generation are those of what is missing, and what is due has nothing missing
-pub record IsCounted (inputs : ℕ) (sums groups : List (List ℕ)) (held : Held) (counts : List ℕ) (due : Members) : Type 0 where
+-- the counts of a generation are those of what is missing, and what is due from a base on has nothing missing
+pub record IsCounted (inputs : ℕ) (sums groups : List (List ℕ)) (held : Held) (counts : List ℕ) (base : ℕ) (due : Members) : Type 0 where
   pub rows : row_count held ≡ inputs
   pub whole : length counts ≡ length groups * pieces
-  pub room : length sums * pieces ≤ bound due
   pub missing : (group piece : ℕ) → group < length groups → piece < pieces
       → slice_index counts (due_number group piece) ≡ missing_of held (list_at groups group) piece
-  pub complete : (number : ℕ) → bit_of due.words number ≡ 1
-      → (number / pieces < length sums) × (missing_of held (list_at sums (number / pieces)) (number % pieces) ≡ 0)
+  pub complete : (sum piece : ℕ) → sum < length sums → piece < pieces → bit_of due.words (due_number (base + sum) piece) ≡ 1
+      → missing_of held (list_at sums sum) piece ≡ 0
 
-abbrev pub IsTable : ℕ → List (List ℕ) → List (List ℕ) → Table → Type 0
-IsTable inputs sums groups table = IsCounted inputs sums groups table.held table.missing.items table.due
+abbrev pub IsTable : ℕ → List (List ℕ) → List (List ℕ) → Table → ℕ → Members → Type 0
+IsTable inputs sums groups table base due = IsCounted inputs sums groups table.held table.missing.items base due
 
--- nothing has come of a generation
-pub record IsFresh (inputs : ℕ) (sums groups : List (List ℕ)) (table : Table) : Type 0 where
-  pub counted : IsTable inputs sums groups table
+-- a generation has a row for each input, and a count for each piece of each group
+pub record IsOfSize (inputs : ℕ) (groups : List (List ℕ)) (table : Table) : Type 0 where
+  pub rows : row_count table.held ≡ inputs
+  pub whole : length table.missing.items ≡ length groups * pieces
+
+-- nothing has come of a generation: all inputs are missing
+pub record IsFresh (inputs : ℕ) (groups : List (List ℕ)) (table : Table) : Type 0 where
+  pub size : IsOfSize inputs groups table
+  pub missing : (group piece : ℕ) → group < length groups → piece < pieces
+      → slice_index table.missing.items (due_number group piece) ≡ missing_of table.held (list_at groups group) piece
   pub held : HoldsNone table.held
-  pub due : HasNone table.due
 
--- the sums, their groups, who reads each input, and the counts of each generation
-pub record IsWaiting (inputs : ℕ) (sums groups : List (List ℕ)) (starts : List ℕ) (readers : List (List ℕ)) (tables : List Table) : Type 0 where
+-- The sums, their groups, who reads each input, and the counts of each generation. Each generation has room for so many
+-- sums, and what is due are pieces of sums.
+pub record IsWaiting (inputs : ℕ) (sums groups : List (List ℕ)) (starts : List ℕ) (readers : List (List ℕ)) (tables : List Table) (room : ℕ) (due : Members) : Type 0 where
   pub work : AreSums inputs sums
   pub few : inputs < 2 ^ 32
   pub grouped : AreGroups sums groups starts
   pub read : AreReaders inputs groups readers
-  pub counted : All (IsTable inputs sums groups) tables
+  pub enough : length sums ≤ room
+  pub low : room ≤ 8192
+  pub generations : length tables ≤ 4
+  pub bounded : length tables * room * pieces ≤ bound due
+  pub counted : (generation : ℕ) (other : Table) → generation < length tables
+      → IsTable inputs sums groups (slice_index_or tables generation other) (generation * room) due
+  pub of_sums : (place piece : ℕ) → piece < pieces → bit_of due.words (due_number place piece) ≡ 1
+      → place % room < length sums

@@ -18,9 +18,9 @@ pub record AreFirstGroups (first : ℕ) (sums groups : List (List ℕ)) (starts 
 abbrev pub AreGroups : List (List ℕ) → List (List ℕ) → List ℕ → Type 0
 AreGroups sums groups starts = AreFirstGroups (length sums) sums groups starts
 
--- a group has sums, and there is room for the numbers of their pieces
-pub record HasSums (starts : List ℕ) (group : ℕ) (due : Members) : Type 0 where
+-- a group has sums, and from a base on there is room for the numbers of their pieces
+pub record HasSums (base : ℕ) (starts : List ℕ) (group : ℕ) (due : Members) : Type 0 where
   pub stands : group + 1 < length starts
   pub some : slice_index starts group < slice_index starts (group + 1)
-  pub few : slice_index starts (group + 1) ≤ 8192
-  pub room : slice_index starts (group + 1) * pieces ≤ bound due
+  pub few : base + slice_index starts (group + 1) ≤ 4 * 8192
+  pub room : (base + slice_index starts (group + 1)) * pieces ≤ bound due

@@ -1,33 +1,29 @@
 -- Sums of inputs that come in pieces, generation by generation: what has come, and which pieces of which sums are due.
-use Rattle.std.specs.Prelude.{◌≡◌, ◌<◌, ◌≤◌, ◌⊎◌, ◌+◌, ◌*◌, ◌&&◌, ◌==◌, ℕ, Bool, true, false, not, List, [], length, slice_index_or, All, IsTrue}
+use Rattle.std.specs.Prelude.{◌≡◌, ◌<◌, ◌≤◌, ◌⊎◌, ◌+◌, ◌*◌, ◌&&◌, ◌==◌, ℕ, Bool, true, false, nat_lt, not, List, [], length, slice_index_or, All, IsTrue}
 use Rattle.std.specs.List.{list_all}
 use Rattle.generation_frame.specs.Blocks.{pieces}
 use Rattle.held_rows.specs.Held.{Held, is_held, payload_of}
 use Rattle.least_set.specs.Members.{Members, bit_of}
 use Rattle.net_model.specs.Lists.{is_rising}
 
--- one generation: what has come of each input, and the numbers of the pieces of sums that are due
-pub record Table : Type 0 where
-  pub held : Held
-  pub due : Members
-
--- how many inputs there are, the inputs that each sum is of, and the generations
+-- How many inputs there are, the inputs that each sum is of, and what has come in each generation. The pieces of sums that
+-- are due have numbers: each generation has room for so many sums.
 pub record Waiting : Type 0 where
   pub inputs : ℕ
   pub sums : List (List ℕ)
-  pub tables : List Table
+  pub held : List Held
+  pub room : ℕ
+  pub due : Members
 
-abbrev pub table_at : Waiting → ℕ → Table
-table_at waiting generation =
-    slice_index_or waiting.tables generation
-    (record { held = record { payloads = []; marks = [] }; due = record { words = [] } })
+abbrev pub held_in : Waiting → ℕ → Held
+held_in waiting generation = slice_index_or waiting.held generation (record { payloads = []; marks = [] })
 
 -- a piece of an input has come, and its bytes
 abbrev pub has_input : Waiting → ℕ → ℕ → ℕ → Bool
-has_input waiting generation input piece = is_held (table_at waiting generation).held input piece
+has_input waiting generation input piece = is_held (held_in waiting generation) input piece
 
 abbrev pub input_at : Waiting → ℕ → ℕ → ℕ → List ℕ
-input_at waiting generation input piece = payload_of (table_at waiting generation).held input piece
+input_at waiting generation input piece = payload_of (held_in waiting generation) input piece
 
 -- the inputs of a sum
 abbrev pub inputs_of : Waiting → ℕ → List ℕ
@@ -44,7 +40,9 @@ due_number sum piece = sum * pieces + piece
 
 -- a piece of a sum is due: it is complete, and wasn't taken yet
 abbrev pub is_due : Waiting → ℕ → ℕ → ℕ → Bool
-is_due waiting generation sum piece = bit_of (table_at waiting generation).due.words (due_number sum piece) == 1
+is_due waiting generation sum piece =
+    nat_lt sum (length waiting.sums)
+    && bit_of waiting.due.words (due_number (generation * waiting.room + sum) piece) == 1
 
 -- it was taken
 abbrev pub is_given : Waiting → ℕ → ℕ → ℕ → Bool
@@ -67,7 +65,7 @@ pub record HasNothing (waiting : Waiting) : Type 0 where
 pub record IsSameWork (old new : Waiting) : Type 0 where
   pub inputs : new.inputs ≡ old.inputs
   pub sums : new.sums ≡ old.sums
-  pub generations : length new.tables ≡ length old.tables
+  pub generations : length new.held ≡ length old.held
 
 -- A piece of an input came, with its bytes; all else that came stays, and so does what was given: what is complete with
 -- it is due.
@@ -83,12 +81,15 @@ pub record Gains (generation input piece : ℕ) (payload : List ℕ) (old new : 
 abbrev pub IsAtMost : ℕ → ℕ → ℕ → ℕ → Type 0
 IsAtMost sum piece s p = (sum < s) ⊎ (sum ≡ s) × (piece ≤ p)
 
--- The least piece of a sum that is due in a generation was taken; nothing else changed.
-pub record Takes (generation sum piece : ℕ) (old new : Waiting) : Type 0 where
+-- The least piece of a sum that is due in so many generations was taken, by generations, sums and pieces; nothing else
+-- changed.
+pub record Takes (generations generation sum piece : ℕ) (old new : Waiting) : Type 0 where
+  pub in_generations : generation < generations
   pub in_sums : sum < length old.sums
   pub in_pieces : piece < pieces
   pub complete : is_complete old generation sum piece ≡ true
   pub due : is_due old generation sum piece ≡ true
+  pub before : (g s p : ℕ) → g < generation → p < pieces → is_due old g s p ≡ false
   pub least : (s p : ℕ) → p < pieces → is_due old generation s p ≡ true → IsAtMost sum piece s p
   pub taken : is_due new generation sum piece ≡ false
   pub others : (g s p : ℕ) → p < pieces → ((g ≡ generation) × (s ≡ sum) × (p ≡ piece) → ⊥) → is_due new g s p ≡ is_due old g s p

@@ -22,10 +22,12 @@ pub fn count_all(missing: &mut [u32], groups: &SumTable)
     }
 }
 
-// Counts a piece of an input down at the groups that read it. The sums of those that have no input missing are due.
+// Counts a piece of an input down at the groups that read it. The sums of those that have no input missing are due; in
+// what is due the sums of the generation begin at a base.
 pub fn count_down(
     missing: &mut [u32],
     due: &mut LeastSet,
+    base: u32,
     starts: &[u32],
     readers: &[u32],
     piece: u8,
@@ -34,27 +36,27 @@ pub fn count_down(
     requires enough { (number : ℕ)
         → reads_of readers.now piece number ≤ slice_index missing.old number }
     requires groups { (group : ℕ) → due_number group piece < length missing.old
-        → HasSums starts.now group due.old }
-    ensures { CountsDown (reads_of readers.now piece) starts.now piece missing.old missing.new
+        → HasSums base starts.now group due.old }
+    ensures { CountsDown base (reads_of readers.now piece) starts.now piece missing.old missing.new
         due.old due.new }
 {
     for group in readers {
         let number = *group as usize * PIECES + piece as usize;
         missing[number] -= 1;
         if missing[number] == 0 {
-            make_due(due, starts, *group as usize, piece);
+            make_due(due, base, starts, *group as usize, piece);
         }
     }
 }
 
 // Makes a piece of all sums of a group due.
-fn make_due(due: &mut LeastSet, starts: &[u32], group: usize, piece: u8)
+fn make_due(due: &mut LeastSet, base: u32, starts: &[u32], group: usize, piece: u8)
     requires piece { piece < pieces }
-    requires sums { HasSums starts.now group due.old }
-    ensures { GainsEighths (due_number (slice_index starts.now group) piece)
-        (due_number (slice_index starts.now (group + 1) - 1) piece) due.old due.new }
+    requires sums { HasSums base starts.now group due.old }
+    ensures { GainsEighths (due_number (base + slice_index starts.now group) piece)
+        (due_number (base + (slice_index starts.now (group + 1) - 1)) piece) due.old due.new }
 {
-    let first = starts[group] * PIECES as u32 + piece as u32;
-    let last = (starts[group + 1] - 1) * PIECES as u32 + piece as u32;
+    let first = (base + starts[group]) * PIECES as u32 + piece as u32;
+    let last = (base + (starts[group + 1] - 1)) * PIECES as u32 + piece as u32;
     due.insert_eighths(first, last);
 }

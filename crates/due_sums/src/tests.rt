@@ -26,7 +26,7 @@ fn a_sum_is_due_with_its_last_input(rt: HostRuntime) -> Result<(), test::Fail> {
             waiting.accept(1, 1, step * 5 % 8, &[1; 128]),
             Accepted::New
         );
-        assert_eq!(rt; waiting.take_due(1), None);
+        assert_eq!(rt; waiting.take_due(2), None);
     }
     for step in 0..8 {
         assert_eq!(rt;
@@ -36,17 +36,31 @@ fn a_sum_is_due_with_its_last_input(rt: HostRuntime) -> Result<(), test::Fail> {
     }
     for sum in 1..3 {
         for piece in 0..8 {
-            assert_eq!(rt; waiting.take_due(1), Some(Due { sum, piece }));
+            assert_eq!(rt;
+                waiting.take_due(2),
+                Some(Due {
+                    generation: 1,
+                    sum,
+                    piece
+                })
+            );
         }
     }
-    assert_eq!(rt; waiting.take_due(1), None);
+    assert_eq!(rt; waiting.take_due(2), None);
     for step in 0..8 {
         let piece = step * 7 % 8;
         assert_eq!(rt; waiting.accept(1, 0, piece, &[0; 128]), Accepted::New);
-        assert_eq!(rt; waiting.take_due(1), Some(Due { sum: 0, piece }));
+        assert_eq!(rt;
+            waiting.take_due(2),
+            Some(Due {
+                generation: 1,
+                sum: 0,
+                piece
+            })
+        );
     }
+    assert_eq!(rt; waiting.take_due(2), None);
     assert_eq!(rt; waiting.take_due(1), None);
-    assert_eq!(rt; waiting.take_due(0), None);
     Ok(())
 }
 
@@ -54,12 +68,26 @@ fn a_sum_is_due_with_its_last_input(rt: HostRuntime) -> Result<(), test::Fail> {
 fn a_known_piece_makes_nothing_due(rt: HostRuntime) -> Result<(), test::Fail> {
     let mut waiting = DueSums::new(rt.alloc(), 3, three_sums(rt.alloc())?, 4)?;
     assert_eq!(rt; waiting.accept(3, 2, 6, &[5; 128]), Accepted::New);
-    assert_eq!(rt; waiting.take_due(3), Some(Due { sum: 2, piece: 6 }));
+    assert_eq!(rt;
+        waiting.take_due(4),
+        Some(Due {
+            generation: 3,
+            sum: 2,
+            piece: 6
+        })
+    );
     assert_eq!(rt; waiting.accept(3, 2, 6, &[7; 128]), Accepted::Known);
-    assert_eq!(rt; waiting.take_due(3), None);
+    assert_eq!(rt; waiting.take_due(4), None);
     assert_eq!(rt; *waiting.input(3, 2, 6), [5; 128]);
     assert_eq!(rt; waiting.accept(3, 1, 6, &[7; 128]), Accepted::New);
-    assert_eq!(rt; waiting.take_due(3), Some(Due { sum: 1, piece: 6 }));
+    assert_eq!(rt;
+        waiting.take_due(4),
+        Some(Due {
+            generation: 3,
+            sum: 1,
+            piece: 6
+        })
+    );
     Ok(())
 }
 
@@ -69,10 +97,17 @@ fn all_inputs_are_missing_once_more_when_cleared(rt: HostRuntime) -> Result<(), 
     assert_eq!(rt; waiting.accept(0, 1, 4, &[5; 128]), Accepted::New);
     assert_eq!(rt; waiting.accept(0, 2, 4, &[6; 128]), Accepted::New);
     waiting.clear();
-    assert_eq!(rt; waiting.take_due(0), None);
+    assert_eq!(rt; waiting.take_due(1), None);
     assert_eq!(rt; waiting.accept(0, 2, 4, &[7; 128]), Accepted::New);
-    assert_eq!(rt; waiting.take_due(0), Some(Due { sum: 2, piece: 4 }));
-    assert_eq!(rt; waiting.take_due(0), None);
+    assert_eq!(rt;
+        waiting.take_due(1),
+        Some(Due {
+            generation: 0,
+            sum: 2,
+            piece: 4
+        })
+    );
+    assert_eq!(rt; waiting.take_due(1), None);
     assert_eq!(rt; *waiting.input(0, 2, 4), [7; 128]);
     Ok(())
 }
@@ -92,12 +127,67 @@ fn four_sums(alloc: Global) -> Result<SumTable, AllocError>
 fn sums_of_the_same_inputs_are_due_together(rt: HostRuntime) -> Result<(), test::Fail> {
     let mut waiting = DueSums::new(rt.alloc(), 2, four_sums(rt.alloc())?, 1)?;
     assert_eq!(rt; waiting.accept(0, 0, 3, &[1; 128]), Accepted::New);
-    assert_eq!(rt; waiting.take_due(0), None);
+    assert_eq!(rt; waiting.take_due(1), None);
     assert_eq!(rt; waiting.accept(0, 1, 3, &[2; 128]), Accepted::New);
-    assert_eq!(rt; waiting.take_due(0), Some(Due { sum: 0, piece: 3 }));
-    assert_eq!(rt; waiting.take_due(0), Some(Due { sum: 1, piece: 3 }));
-    assert_eq!(rt; waiting.take_due(0), Some(Due { sum: 2, piece: 3 }));
-    assert_eq!(rt; waiting.take_due(0), Some(Due { sum: 3, piece: 3 }));
-    assert_eq!(rt; waiting.take_due(0), None);
+    assert_eq!(rt;
+        waiting.take_due(1),
+        Some(Due {
+            generation: 0,
+            sum: 0,
+            piece: 3
+        })
+    );
+    assert_eq!(rt;
+        waiting.take_due(1),
+        Some(Due {
+            generation: 0,
+            sum: 1,
+            piece: 3
+        })
+    );
+    assert_eq!(rt;
+        waiting.take_due(1),
+        Some(Due {
+            generation: 0,
+            sum: 2,
+            piece: 3
+        })
+    );
+    assert_eq!(rt;
+        waiting.take_due(1),
+        Some(Due {
+            generation: 0,
+            sum: 3,
+            piece: 3
+        })
+    );
+    assert_eq!(rt; waiting.take_due(1), None);
+    Ok(())
+}
+
+#[test]
+fn earlier_generations_come_first(rt: HostRuntime) -> Result<(), test::Fail> {
+    let mut waiting = DueSums::new(rt.alloc(), 3, three_sums(rt.alloc())?, 3)?;
+    assert_eq!(rt; waiting.accept(2, 2, 0, &[1; 128]), Accepted::New);
+    assert_eq!(rt; waiting.accept(1, 2, 7, &[2; 128]), Accepted::New);
+    assert_eq!(rt; waiting.take_due(1), None);
+    assert_eq!(rt;
+        waiting.take_due(3),
+        Some(Due {
+            generation: 1,
+            sum: 2,
+            piece: 7
+        })
+    );
+    assert_eq!(rt; waiting.take_due(2), None);
+    assert_eq!(rt;
+        waiting.take_due(3),
+        Some(Due {
+            generation: 2,
+            sum: 2,
+            piece: 0
+        })
+    );
+    assert_eq!(rt; waiting.take_due(3), None);
     Ok(())
 }

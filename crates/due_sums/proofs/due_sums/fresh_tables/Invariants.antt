@@ -6,5 +6,5 @@ use Rattle.due_sums.proofs.due_sums.fresh_tables.Given as goal
 abbrev pub invariant-loop : goal.invariant-loop
 invariant-loop l = record {
   count : length l.tables.items ≡ l.counter;
-  fresh : All (IsFresh l.inputs l.sums l.groups) l.tables.items;
+  fresh : All (IsFresh l.inputs l.groups) l.tables.items;
 }

@@ -4,7 +4,7 @@ use Rattle.due_sums.proofs.tests.a_sum_is_due_with_its_last_input.Given as goal
 
 -- three inputs and two generations
 abbrev pub IsWork : Waiting → Type 0
-IsWork waiting = (waiting.inputs ≡ 3) × (length waiting.tables ≡ 2)
+IsWork waiting = (waiting.inputs ≡ 3) × (length waiting.held ≡ 2)
 
 abbrev pub invariant-loop-step : goal.invariant-loop-step
 invariant-loop-step g l = IsWork l.waiting

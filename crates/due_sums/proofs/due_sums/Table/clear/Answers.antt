@@ -1,4 +1,4 @@
-use Rattle.std.proofs.Common.{◌∙◌, arith}
+use Rattle.std.proofs.Common.{◌∙◌}
 use Rattle.due_sums.proofs.TableLaws.{IsFresh-counted, few_inputs}
 use Rattle.due_sums.proofs.due_sums.Table.clear.Goals as goal
 
@@ -8,6 +8,6 @@ count_all-requires-clause-few c = few_inputs c.args.inputs c.args.groups.now c.r
 pub returns : goal.returns
 returns c =
     let was = c.args.self.now.missing in
-    IsFresh-counted c.args.inputs c.args.sums.now c.args.groups.now c.clear.new.self was c.count_all.new.missing c.clear-2.new.self
-    (c.clear.ensures.count ∙ c.requires.table.rows) c.clear.ensures.none c.clear-2.ensures.none (c.count_all.auto.missing ∙ c.deref_mut.ensures.len)
-    (was.ok.0 ∙ c.requires.table.whole) (omega (arith, c.clear-2.ensures.room, c.requires.table.room)) c.count_all.ensures
+    IsFresh-counted c.args.inputs c.args.groups.now c.clear.new.self was c.count_all.new.missing
+    (c.clear.ensures.count ∙ c.requires.table.rows) c.clear.ensures.none (c.count_all.auto.missing ∙ c.deref_mut.ensures.len)
+    (was.ok.0 ∙ c.requires.table.whole) c.count_all.ensures
