@@ -6,6 +6,7 @@ mod carrying;
 mod choosing;
 mod compiling;
 mod decoding;
+mod failing;
 mod hops;
 mod kinds;
 mod operands;
