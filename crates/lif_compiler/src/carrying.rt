@@ -42,8 +42,9 @@ fn carry_unless<F: Field, L: Ledger>(
     let _rows = vectors.rows();
 }
 
-/// Makes under each pattern the row of a link, which is zero, what the link carries by its operands.
-/// The tables say which links fail. It counts at most a step for each place of each operand's vector.
+/// Makes under each pattern the row of a link, which is zero, what the link carries by its
+/// operands. The tables say which links fail. It counts at most a step for each place of each
+/// operand's vector.
 pub fn carry_all<F: Field, L: Ledger>(
     vectors: &mut [Matrix<F>],
     rate: u32,

@@ -14,7 +14,6 @@ mod partial_code;
 mod planning;
 mod rating;
 mod refusal;
-mod routes;
 mod starting;
 mod table;
 mod visiting;
