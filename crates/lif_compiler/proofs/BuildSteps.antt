@@ -1,5 +1,5 @@
 -- Steps of a code's making from certificates.
-use Rattle.std.specs.Prelude.{◌≡◌, ◌≤◌, ℕ, IsTrue, List, [], All, Some, length, slice_get, slice_index_or}
+use Rattle.std.specs.Prelude.{◌≡◌, ◌≤◌, ℕ, IsTrue, List, [], All, length}
 use Rattle.std.proofs.Common.{sym, ap, ◌∙◌, arith, get_or, subst}
 use Rattle.std.proofs.lemmas.List.Elements.{All-weaker}
 use Rattle.std.proofs.lemmas.Option.{slice_get-get_or, unwrap_or-slice_get}
@@ -25,12 +25,11 @@ use Rattle.node_program.specs.declared.Operand.{Operand}
 use Rattle.node_program.specs.declared.code.Code.{Code}
 use Rattle.topo_order.specs.Order.{order_of}
 use Rattle.lif_compiler.specs.Compiled.{Feeds, IsCodeOf, IsCompiled, IsOfPaths}
-use Rattle.lif_compiler.specs.Hops.{AreHops, Routes}
+use Rattle.lif_compiler.specs.Hops.{HaveHops}
 use Rattle.lif_compiler.proofs.InOrderLaws.{HasEachOnce-order_of, are_in_order-renumbered}
 use Rattle.lif_compiler.proofs.OriginLaws.{AreRoutes-renumbered, Feeds-of_hop, demand_count-renumbered}
-use Rattle.lif_compiler.proofs.RouteLaws.{routes-count}
 use Rattle.lif_compiler.specs.Routes.{routes_of_certs}
-use Rattle.lif_compiler.specs.Visits.{AreRoutes, AreVisitable, IsFilled, IsOfHop}
+use Rattle.lif_compiler.specs.Visits.{AreVisitable, IsFilled, IsOfHop}
 use Rattle.lif_compiler.specs.Work.{choice_bound}
 use Rattle.lif_compiler.specs.declared.hops.Hop.{Hop}
 
@@ -43,11 +42,6 @@ pub enough_paths : (net : Net) (certs : List Cert) (rate : ℕ) → AreCertifica
 enough_paths net certs rate are least = λ k d within.
     let there = slice_get-get_or certs k d within in
     omega (arith, least.least k (get_or certs k d) there, (are.are.at k (get_or certs k d) there).0.paths_value)
-
--- each demand has few routes
-pub few_routes : (net : Net) (certs : List Cert) (order : List ℕ) (rate : ℕ) → AreCertificates net certs → All (λ cert. rate ≤ length cert.paths) certs → rate ≤ 32 → All (λ paths. length paths ≤ 32) (routes_of_certs order rate certs)
-few_routes net certs order rate are enough low =
-    All-weaker (λ (paths : List (List ℕ)). length paths ≡ rate) (λ (paths : List (List ℕ)). length paths ≤ 32) (λ paths many. omega arith) (routes_of_certs order rate certs) (routes-count net certs order rate are enough)
 
 module _ (net new : Net) (certs : List Cert) (order : List ℕ) (rate : ℕ) (kind : FieldKind) (order_is : order ≡ order_of net.links) (acyclic : IsAcyclic net.links) (are : AreCertificates net certs) (least : IsLeastValue certs rate)
     (renumbered : IsRenumbered order (choice_of kind) net new) where
@@ -73,11 +67,10 @@ module _ (net new : Net) (certs : List Cert) (order : List ℕ) (rate : ℕ) (ki
       (subst (λ links. RoseByAtMost (choice_bound links (demand_count new) rate) old next) new_count rose)
 
   -- its links can be visited
-  pub can_visit_all : (routes : Routes) (hops : List (List Hop)) → routes ≡ routes_of_certs order rate certs → length hops ≡ length net.links
-      → ((link : ℕ) (at : List Hop) → slice_get hops link ≡ Some at → AreHops routes link at) → AreVisitable new rate routes hops
-  can_visit_all routes hops are_routes count over = record {
-    routes_fit = subst (AreRoutes new rate) (sym are_routes) (AreRoutes-renumbered net new certs order rate (choice_of kind) are once renumbered enough);
-    each_link = count ∙ sym new_count;
+  pub can_visit_all : (hops : List (List Hop)) → length hops ≡ length order → HaveHops (routes_of_certs order rate certs) hops → AreVisitable new rate (routes_of_certs order rate certs) hops
+  can_visit_all hops count over = record {
+    routes_fit = AreRoutes-renumbered net new certs order rate (choice_of kind) are once renumbered enough;
+    each_link = count ∙ once.whole ∙ sym new_count;
     hops_over = over;
   }
 
@@ -87,9 +80,9 @@ module _ (net new : Net) (certs : List Cert) (order : List ℕ) (rate : ℕ) (ki
       accepted-at_most_rate net of.order of.choice rate other of.once of.network (IsRate-least_value net certs rate are least) accepted
 
   -- a code that is made so is one of the network
-  pub compiled : (size : ℕ) → size ≡ size_of kind → demand_count net ≤ size → (routes : Routes) → routes ≡ routes_of_certs order rate certs → (operands : List (List Operand)) (decoders : List Decoder)
-      → IsFilled new kind rate routes operands decoders → (code : Code) → code.net ≡ new → code.rate ≡ rate → code.field ≡ kind → code.operands ≡ operands → code.decoders ≡ decoders → IsCompiled net kind code certs
-  compiled size same served routes are_routes operands decoders filled code of_net of_rate of_field of_operands of_decoders = record {
+  pub compiled : (size : ℕ) → size ≡ size_of kind → demand_count net ≤ size → (operands : List (List Operand)) (decoders : List Decoder)
+      → IsFilled new kind rate (routes_of_certs order rate certs) operands decoders → (code : Code) → code.net ≡ new → code.rate ≡ rate → code.field ≡ kind → code.operands ≡ operands → code.decoders ≡ decoders → IsCompiled net kind code certs
+  compiled size same served operands decoders filled code of_net of_rate of_field of_operands of_decoders = record {
     acyclic = acyclic;
     served = omega (arith, served, same);
     certified = are;
@@ -101,10 +94,10 @@ module _ (net new : Net) (certs : List Cert) (order : List ℕ) (rate : ℕ) (ki
     accepted = filled.accepted code of_net of_rate of_field of_operands of_decoders;
     greatest = λ other of good. subst (λ rate. other.rate ≤ rate) (sym of_rate) (at_most_least other of good);
     of_paths = λ link below.
-        let of_hops : All (IsOfHop routes link) (slice_index_or operands link []) = filled.of_hops link (omega (arith, new_count)) in
+        let of_hops = filled.of_hops link (omega (arith, new_count)) in
         let of_these : All (IsOfHop (routes_of_certs order rate certs) link) (operands_at code.operands link) =
         subst (λ (own : List Operand). All (IsOfHop (routes_of_certs order rate certs) link) own)
-        (sym (unwrap_or-slice_get operands link []) ∙ ap (λ (table : List (List Operand)). operands_at table link) (sym of_operands)) (subst (λ routes. All (IsOfHop routes link) (slice_index_or operands link [])) are_routes of_hops) in
+        (sym (unwrap_or-slice_get operands link []) ∙ ap (λ (table : List (List Operand)). operands_at table link) (sym of_operands)) of_hops in
         All-weaker (IsOfHop (routes_of_certs order rate certs) link) (IsOfPaths (order_of net.links) certs code link)
         (λ operand from.
         subst (λ order. IsOfPaths order certs code link operand) order_is

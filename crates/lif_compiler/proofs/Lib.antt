@@ -17,6 +17,7 @@ pub mod PlanningLaws
 pub mod OriginLaws
 pub mod RouteSteps
 pub mod TableSteps
+pub mod FailingSteps
 pub mod CarrySteps
 pub mod AdvanceSteps
 pub mod ChoosingSteps

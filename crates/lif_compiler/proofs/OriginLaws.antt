@@ -4,7 +4,6 @@ use Rattle.std.specs.Prelude.{◌≡◌, ◌<◌, ◌≤◌, ◌+◌, ◌-◌, �
 use Rattle.std.proofs.Common.{sym, ◌∙◌, ap, subst, arith, get_or}
 use Rattle.std.proofs.lemmas.Bool.{eqb-true}
 use Rattle.std.proofs.lemmas.List.{get_or-map, get_or-take, length-map, length-take-le}
-use Rattle.std.proofs.lemmas.List.Elements.{All-weaker}
 use Rattle.std.proofs.lemmas.Option.{get_or_from_slice_get, slice_get-get_or, unwrap_or-slice_get}
 use Rattle.cut_witness.specs.Certificate.{AreCertificates}
 use Rattle.cut_witness.specs.declared.cert.Cert.{Cert}
@@ -23,7 +22,7 @@ use Rattle.node_program.specs.declared.Operand.{Operand}
 use Rattle.lif_compiler.specs.Compiled.{Feeds, IsPrintedPath}
 use Rattle.lif_compiler.proofs.HopLaws.{hop-before_first, hop-before_inner, hop-demand, hop-leaves, hop-path}
 use Rattle.lif_compiler.specs.Hops.{IsHop, Routes, route_of}
-use Rattle.lif_compiler.proofs.RouteLaws.{IsFlow-below, IsFlow-routes, cert_of, length-routes, routes-count, routes_there}
+use Rattle.lif_compiler.proofs.RouteLaws.{IsFlow-below, IsFlow-routes, cert_of, length-routes, routes_there}
 use Rattle.lif_compiler.specs.Routes.{renumbered_paths, routes_of_certs}
 use Rattle.lif_compiler.specs.Visits.{AreRoutes, IsOfHop, paths_of}
 use Rattle.lif_compiler.specs.declared.hops.Hop.{Hop}
@@ -50,10 +49,6 @@ module _ (net new : Net) (certs : List Cert) (order : List ℕ) (rate : ℕ) (ch
   -- there are routes for each demand
   pub count-routes : length routes ≡ demand_count net
   count-routes = length-map certs (λ cert. renumbered_paths order (take rate cert.paths)) ∙ are.each_demand
-
-  -- at most 32 for one where the rate is that low
-  pub few_paths : rate ≤ 32 → All (λ paths. length paths ≤ 32) routes
-  few_paths low = All-weaker (λ paths. length paths ≡ rate) (λ paths. length paths ≤ 32) (λ paths same. omega arith) routes (routes-count net certs order rate are enough)
 
   -- the routes are routes of the network with new numbers
   pub AreRoutes-renumbered : AreRoutes new rate routes

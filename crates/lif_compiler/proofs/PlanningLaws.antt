@@ -10,7 +10,7 @@ use Rattle.std.proofs.lemmas.List.{append-nil, get_or-set_other, get_or-set_same
 use Rattle.std.proofs.lemmas.List.Concat.{concat_is}
 use Rattle.std.proofs.lemmas.List.Elements.{All-append, All-cons, All-filter, All-map, All-nil, filter-append, filter_passes}
 use Rattle.std.proofs.lemmas.List.Folds.{Any-from_list_any, list_any-append}
-use Rattle.std.proofs.lemmas.Option.{get_or_from_slice_get, same_Some, slice_get-get_or, slice_get-map, slice_get_past, slice_get_within, unwrap_or-slice_get}
+use Rattle.std.proofs.lemmas.Option.{get_or_from_slice_get, same_Some, slice_get-get_or, slice_get-map, slice_get_past, slice_get_read, slice_get_within, unwrap_or-slice_get}
 use Rattle.net_model.specs.Lists.{are_distinct, is_rising}
 use Rattle.lif_compiler.specs.Hops.{AreHops, IsHop, Routes, before_place, route_of}
 use Rattle.lif_compiler.specs.Planning.{Gains, hop_of_place, hops_of_demand, hops_of_demands, hops_of_path, hops_over, list_of}
@@ -83,9 +83,11 @@ pub before_place-next : (path : ℕ) (links : List ℕ) (place : ℕ) → before
 before_place-next path links place =
     ap (λ first. if first then path else slice_index links (place + 1 - 1)) (ne_eqb (place + 1) 0 (λ same. absurd (omega arith))) ∙ ap (slice_index links) (omega arith)
 
--- an item that was read is the one at its number
-pub item_read : {X : Type 0} (xs : List X) (number : ℕ) (none x : X) → number < length xs → x ≡ get_or xs number x → x ≡ unwrap_or (slice_get xs number) none
-item_read xs number none x within here = here ∙ get_or_default xs number x none within ∙ sym (unwrap_or-slice_get xs number none)
+-- an item that was read is changed to the one at its number among the changed items
+pub mapped_read : {X Y : Type 0} (f : X → Y) (xs : List X) (number : ℕ) (none : Y) (x : X) → number < length xs → x ≡ get_or xs number x → f x ≡ unwrap_or (slice_get (map f xs) number) none
+mapped_read {X} {Y} f xs number none x within here =
+    let there : slice_get (map f xs) number ≡ Some (f x) = slice_get-map f xs number ∙ ap (option_map f) (slice_get_read xs (length xs) number x refl within here) in
+    sym (ap (λ (found : Option Y). unwrap_or found none) there)
 
 -- what holds of each hop that is listed at a number of a range
 All-flat_map_range : {X : Type 0} (P : X → Type 0) (f : ℕ → List X) (start count : ℕ) → ((number : ℕ) → start ≤ number → number < start + count → All P (f number)) → All P (flat_map f (range_with_len start count))

@@ -130,7 +130,7 @@ module _ (frontier : List (Option ℕ)) (reached : AreReached frontier) where
         sym (reached_at (get_or (range_with_len 0 n) k d) inside)))
 
     -- all paths have a link in the sorted list
-    sorted_count : length sorted ≡ length frontier
+    pub sorted_count : length sorted ≡ length frontier
     sorted_count = length_permutation (placed_links frontier) sorted is.each ∙ length-map-range_with_len (placed_link frontier) 0 (length frontier)
 
     -- the decoder of the sorted links and of the entries of their paths

@@ -16,7 +16,7 @@ use Rattle.net_model.specs.Demands.{demand_count}
 use Rattle.net_model.specs.Flows.{FlowNetwork, IsFlow, IsPath, flow_network}
 use Rattle.net_model.specs.Lists.{are_distinct}
 use Rattle.net_model.specs.Renumbering.{HasEachOnce, new_number, renumbered_network}
-use Rattle.net_model.proofs.RenumberingLaws.{IsFlow-new, length-renumbered_links}
+use Rattle.net_model.proofs.RenumberingLaws.{IsFlow-new}
 use Rattle.net_model.proofs.WalkLaws.{IsWalk-below}
 use Rattle.net_model.specs.declared.net.Net.{Net}
 use Rattle.lif_compiler.specs.Routes.{renumbered_paths, routes_of_certs}
@@ -90,15 +90,6 @@ module _ (net : Net) (certs : List Cert) (order : List ℕ) (rate : ℕ) (are : 
       let many : length routes ≡ demand_count net = length-map certs (λ cert. renumbered_paths order (take rate cert.paths)) ∙ are.each_demand in
       All-from_get_or P routes [] (λ number within. subst P (unwrap_or-slice_get routes number []) (each number (omega (arith, many))))
 
-  -- each link of the routes is one of the network's
-  pub routes-below : HasEachOnce (length net.links) order → All (All (All (λ link. link < length net.links))) (routes_of_certs order rate certs)
-  routes-below once = All-routes (All (All (λ link. link < length net.links))) (λ number within.
-      subst (λ bound. All (All (λ link. link < bound)) (unwrap_or (slice_get (routes_of_certs order rate certs) number) [])) (length-renumbered_links net.links once) (IsFlow-below _ _ (IsFlow-routes once number within)))
-
   -- no link stands twice in the routes of a demand
   pub routes-apart : HasEachOnce (length net.links) order → All (λ paths. IsTrue (are_distinct nat_eq (concat paths))) (routes_of_certs order rate certs)
   routes-apart once = All-routes (λ paths. IsTrue (are_distinct nat_eq (concat paths))) (λ number within. (IsFlow-routes once number within).disjoint)
-
-  -- each demand has as many routes as the rate says
-  pub routes-count : All (λ cert. rate ≤ length cert.paths) certs → All (λ paths. length paths ≡ rate) (routes_of_certs order rate certs)
-  routes-count enough = All-routes (λ paths. length paths ≡ rate) (length-routes enough)

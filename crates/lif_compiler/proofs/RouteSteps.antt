@@ -1,7 +1,7 @@
 -- Steps of the routes: the table of new numbers, and paths that it leads to new ones.
 use Rattle.std.specs.Prelude.{◌≡◌, ◌≢◌, ◌<◌, ◌+◌, ◌-◌, ℕ, List, [], ◌∷◌, length, map, slice_index, slice_set, All}
-use Rattle.std.proofs.Common.{refl, sym, ◌∙◌, ap, arith, below_more}
-use Rattle.std.proofs.lemmas.List.{get_or-set_same, get_or-set_other}
+use Rattle.std.proofs.Common.{refl, sym, ◌∙◌, ap, arith, below_more, get_or}
+use Rattle.std.proofs.lemmas.List.{get_or-set_same, get_or-set_other, get_or_default}
 use Rattle.std.proofs.lemmas.List.Elements.{All-head, All-tail}
 use Rattle.net_model.specs.Renumbering.{HasEachOnce, new_number}
 use Rattle.net_model.proofs.RenumberingLaws.{new_number-below, new-old, old-new, old_number-below}
@@ -25,6 +25,12 @@ inverse_all order table once whole each = record {
   whole = whole;
   each = λ link within. ap (slice_index table) (sym (old-new once link within)) ∙ each (new_number order link) (new_number-below once link within);
 }
+
+-- each of the new numbers is one
+pub inverse_below : (order table : List ℕ) → HasEachOnce (length order) order → IsInverse order table → All (λ link. link < length order) table
+inverse_below order table once inverse = λ old none within.
+    let here : get_or table old none ≡ new_number order old = get_or_default table old none 0 within ∙ inverse.each old (omega (arith, inverse.whole)) in
+    omega (arith, here, new_number-below once old (omega (arith, inverse.whole)))
 
 -- numbers that stand in an order leave room for its places
 pub places_fit : (order : List ℕ) (bound new : ℕ) → HasEachOnce (length order) order → ((k : ℕ) → slice_index order k < bound) → new < length order → new < bound

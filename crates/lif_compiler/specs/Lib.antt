@@ -12,6 +12,7 @@ pub mod Tables
 pub mod Bases
 pub mod PartialCodes
 pub mod Steps
+pub mod Failing
 pub mod Routes
 pub mod Planning
 pub mod Work

@@ -5,6 +5,7 @@ ghost use Rattle.field_vectors.specs.Grid.{IsMatrix, row_of};
 ghost use Rattle.gf_tables.specs.Kind.{IsOfKind};
 ghost use Rattle.gf_tables.specs.declared.kind.FieldKind.{FieldKind};
 ghost use Rattle.node_program.specs.Value.{leaves_source};
+ghost use Rattle.lif_compiler.specs.Failing.{AreFailedTables};
 ghost use Rattle.lif_compiler.specs.Steps.{AreCarried, AreFromBelow, IsCarriedUnless};
 ghost use Rattle.lif_compiler.specs.Tables.{AreOfShape};
 
@@ -41,16 +42,19 @@ fn carry_unless<F: Field, L: Ledger>(
     let _rows = vectors.rows();
 }
 
-/// Makes under each pattern the row of a link, which is zero, what the link carries by its operands. It counts at most
-/// a step for each place of each operand's vector.
+/// Makes under each pattern the row of a link, which is zero, what the link carries by its
+/// operands. The tables say which links fail. It counts at most a step for each place of each
+/// operand's vector.
 pub fn carry_all<F: Field, L: Ledger>(
     vectors: &mut [Matrix<F>],
     rate: u32,
     net: &Net,
+    failed: &[Vec<bool>],
     link: u32,
     operands: &[Operand],
     steps: &mut Steps<L>,
 )
+    requires failed { AreFailedTables net.now failed.now }
     requires link { link < length net.now.links }
     requires each_pattern { length vectors.old ≡ length net.now.patterns }
     requires shape { AreOfShape (length net.now.links) rate vectors.old }
@@ -66,7 +70,7 @@ pub fn carry_all<F: Field, L: Ledger>(
 {
     let leaves = net.leaves_source(link);
     for pattern in 0..vectors.len() {
-        let is_failed = net.is_failed(pattern as u32, link);
+        let is_failed = failed[pattern][link as usize];
         carry_unless(
             is_failed,
             &mut vectors[pattern],

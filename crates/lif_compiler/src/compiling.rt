@@ -22,7 +22,6 @@ use crate::kinds::kind_of;
 use crate::partial_code::PartialCode;
 use crate::planning::hops_of;
 use crate::rating::bounded_rate;
-use crate::routes::routes_of;
 use crate::{CompileRefusal, HopList};
 use counted_steps::Steps;
 use cut_witness::{Cert, certify_all_along};
@@ -98,8 +97,7 @@ fn build<F: Field, L: Ledger>(
     ensures ticks { RoseByAtMost
         (choice_bound (length net.now.links) (demand_count net.now) rate) steps.old steps.new }
 {
-    let routes = routes_of(alloc, certs, order, rate)?;
-    let hops = hops_of(alloc, net.links.len(), &routes)?;
+    let hops = hops_of(alloc, certs, order, rate)?;
     let net = in_order::<F>(alloc, net, order)?;
     let (operands, decoders) = fill::<F, L>(alloc, &net, rate, &hops, steps)?;
     Ok(Code::of(net, rate, kind_of::<F>(), operands, decoders))

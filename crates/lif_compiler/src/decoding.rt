@@ -93,11 +93,13 @@ fn entries_of<F: Field>(
     inverses: &Matrix<F>,
     sorted: &[PlacedLink],
 ) -> Result<Entries, AllocError>
-    requires { All (λ one. one.path < length inverses.now.rows) sorted.now }
+    requires paths { All (λ one. one.path < length inverses.now.rows) sorted.now }
+    requires few { length sorted.now ≤ highest_rate }
     ensures value { IfOk result (λ entries. entries ≡ entries_by F.number inverses.now sorted.now) }
     ensures below { IfOk result (All (λ entry. entry < F.SIZE)) }
 {
-    let mut entries = Vec::new(alloc);
+    let count = inverses.columns() as usize * sorted.len();
+    let mut entries = Vec::with_capacity(alloc, count)?;
     for row in 0..inverses.columns() {
         push_row(&mut entries, inverses, sorted, row)?;
     }

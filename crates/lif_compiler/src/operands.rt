@@ -57,7 +57,7 @@ pub(crate) fn operands_with<F: Field>(
     ensures { IfOk result (λ operands.
         operands ≡ operands_of sources.now (map F.number coefficients.now)) }
 {
-    let mut operands = Vec::new(alloc);
+    let mut operands = Vec::with_capacity(alloc, sources.len())?;
     for (place, from) in sources.iter().enumerate() {
         let times = coefficients[place].number();
         if times != 0 {

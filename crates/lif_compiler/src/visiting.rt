@@ -5,12 +5,14 @@ ghost use Rattle.gf_tables.specs.Kind.{IsOfKind};
 ghost use Rattle.net_model.specs.Demands.{demand_count};
 ghost use Rattle.lif_compiler.specs.Bases.{HasMatrices};
 ghost use Rattle.lif_compiler.specs.Compiled.{marked_kind};
+ghost use Rattle.lif_compiler.specs.Failing.{AreFailedTables};
 ghost use Rattle.lif_compiler.specs.Hops.{Routes};
 ghost use Rattle.lif_compiler.specs.Visits.{AreVisitable, CanVisit, IsVisited, VisitsAll, VisitsNext};
 ghost use Rattle.lif_compiler.specs.Work.{choice_bound};
 
 use crate::advancing::advance_all;
 use crate::carrying::carry_all;
+use crate::failing::failed_tables;
 use crate::partial_code::PartialCode;
 use crate::{Hop, HopList};
 use counted_steps::Steps;
@@ -26,10 +28,12 @@ impl<F: Field> PartialCode<F> {
         &mut self,
         alloc: Global,
         net: &Net,
+        failed: &[Vec<bool>],
         hops: &[Hop],
         steps: &mut Steps<L>,
     ) -> Result<(), AllocError>
         requires field { IsOfKind (marked_kind F.MARK) F.SIZE F.BYTES F.MARK F.product }
+        requires failed { AreFailedTables net.now failed.now }
         requires next { length self.old.operands.items < length net.now.links }
         requires few { demand_count net.now ≤ F.SIZE }
         requires matrices { All HasMatrices self.old.bases.items }
@@ -48,6 +52,7 @@ impl<F: Field> PartialCode<F> {
             self.vectors.as_mut_slice(),
             self.rate,
             net,
+            failed,
             link,
             operands.as_slice(),
             steps,
@@ -89,8 +94,9 @@ impl<F: Field> PartialCode<F> {
             (choice_bound (length net.now.links) (demand_count net.now) self.old.rate)
             steps.old steps.new }
     {
+        let failed = failed_tables(alloc, net)?;
         for list in hops {
-            self.visit(alloc, net, list.as_slice(), steps)?;
+            self.visit(alloc, net, &failed, list.as_slice(), steps)?;
         }
         Ok(())
     }

@@ -1,50 +1,31 @@
-use Rattle.std.proofs.Common.{◌∙◌, ◌<◌, ◌≤◌, ℕ, List, All, length, nat_eq, slice_get, ap, subst, sym}
-use Rattle.std.specs.Prelude.{IsTrue}
-use Rattle.std.specs.List.{concat}
+use Rattle.std.proofs.Common.{◌∙◌, ◌<◌, All, length, ap, subst, sym}
 use Rattle.cut_witness.specs.declared.cert.Cert.{Cert}
 use Rattle.gf_tables.specs.declared.kind.FieldKind.{FieldKind}
-use Rattle.net_model.specs.Lists.{are_distinct}
 use Rattle.net_model.specs.Renumbering.{HasEachOnce}
 use Rattle.node_program.specs.Code.{IsCode}
 use Rattle.lif_compiler.specs.Compiled.{marked_kind}
-use Rattle.lif_compiler.proofs.RouteLaws.{AreCertificates-below, routes-apart, routes-below}
-use Rattle.lif_compiler.specs.declared.hops.Hop.{Hop}
-use Rattle.lif_compiler.proofs.BuildSteps.{can_visit_all, compiled, enough_paths, few_routes, new_order, new_ticks, order_once}
+use Rattle.lif_compiler.specs.Hops.{HaveHops}
+use Rattle.lif_compiler.specs.Routes.{routes_of_certs}
+use Rattle.lif_compiler.proofs.RouteLaws.{AreCertificates-below, routes-apart}
+use Rattle.lif_compiler.proofs.BuildSteps.{can_visit_all, compiled, enough_paths, new_order, new_ticks, order_once}
 use Rattle.lif_compiler.proofs.compiling.build.Goals as goal
 
-pub routes_of-requires-clause-order : goal.routes_of-requires-clause-order
-routes_of-requires-clause-order g c =
+pub hops_of-requires-clause-order : goal.hops_of-requires-clause-order
+hops_of-requires-clause-order g c =
     let once = order_once c.args.net.now c.args.order.now c.requires.order c.requires.acyclic in
     subst (λ bound. HasEachOnce bound c.args.order.now) (sym once.whole) once
 
-pub routes_of-requires-clause-links : goal.routes_of-requires-clause-links
-routes_of-requires-clause-links g c =
+pub hops_of-requires-clause-links : goal.hops_of-requires-clause-links
+hops_of-requires-clause-links g c =
     let once = order_once c.args.net.now c.args.order.now c.requires.order c.requires.acyclic in
     subst (λ bound. All (λ (cert : Cert). All (All (λ link. link < bound)) cert.paths) c.args.certs.now) (sym once.whole) (AreCertificates-below c.args.net.now c.args.certs.now c.requires.certified)
 
-pub routes_of-requires-clause-enough : goal.routes_of-requires-clause-enough
-routes_of-requires-clause-enough g c = enough_paths c.args.net.now c.args.certs.now c.args.rate c.requires.certified c.requires.least
-
-pub hops_of-requires-clause-below : goal.hops_of-requires-clause-below
-hops_of-requires-clause-below g c =
-    let net = c.args.net.now in
-    let routes_are = c.deref.ensures.value ∙ c.in_ok-routes.ensures in
-    subst (λ bound. All (All (All (λ link. link < bound))) c.deref.result.now) (sym c.len.ensures)
-    (subst (λ (routes : List (List (List ℕ))). All (All (All (λ link. link < length net.links))) routes) (sym routes_are)
-    (routes-below net c.args.certs.now c.args.order.now c.args.rate c.requires.certified (order_once net c.args.order.now c.requires.order c.requires.acyclic)))
+pub hops_of-requires-clause-enough : goal.hops_of-requires-clause-enough
+hops_of-requires-clause-enough g c = enough_paths c.args.net.now c.args.certs.now c.args.rate c.requires.certified c.requires.least
 
 pub hops_of-requires-clause-apart : goal.hops_of-requires-clause-apart
 hops_of-requires-clause-apart g c =
-    let routes_are = c.deref.ensures.value ∙ c.in_ok-routes.ensures in
-    subst (λ (routes : List (List (List ℕ))). All (λ paths. IsTrue (are_distinct nat_eq (concat paths))) routes) (sym routes_are)
-    (routes-apart c.args.net.now c.args.certs.now c.args.order.now c.args.rate c.requires.certified (order_once c.args.net.now c.args.order.now c.requires.order c.requires.acyclic))
-
-pub hops_of-requires-clause-few_paths : goal.hops_of-requires-clause-few_paths
-hops_of-requires-clause-few_paths g c =
-    let routes_are = c.deref.ensures.value ∙ c.in_ok-routes.ensures in
-    subst (λ (routes : List (List (List ℕ))). All (λ paths. length paths ≤ 32) routes) (sym routes_are)
-    (few_routes c.args.net.now c.args.certs.now c.args.order.now c.args.rate c.requires.certified
-    (enough_paths c.args.net.now c.args.certs.now c.args.rate c.requires.certified c.requires.least) c.requires.low)
+    routes-apart c.args.net.now c.args.certs.now c.args.order.now c.args.rate c.requires.certified (order_once c.args.net.now c.args.order.now c.requires.order c.requires.acyclic)
 
 pub in_order-requires : goal.in_order-requires
 in_order-requires g c = order_once c.args.net.now c.args.order.now c.requires.order c.requires.acyclic
@@ -55,30 +36,27 @@ fill-requires-clause-order g c =
 
 pub fill-requires-clause-ready : goal.fill-requires-clause-ready
 fill-requires-clause-ready g c =
-    let routes = c.deref.result.now in
-    let routes_are = c.deref.ensures.value ∙ c.in_ok-routes.ensures in
-    let visitable = can_visit_all c.args.net.now c.in_ok-net.net c.args.certs.now c.args.order.now c.args.rate (marked_kind g.F.Field.MARK) c.requires.order c.requires.acyclic c.requires.certified c.requires.least c.in_ok-net.ensures routes c.deref-2.result.now routes_are
-    (ap length c.deref-2.ensures.value ∙ c.in_ok-hops.ensures.count ∙ c.len.ensures) (λ link at there. c.in_ok-hops.ensures.hops link at (ap (λ (hops : List (List Hop)). slice_get hops link) (sym c.deref-2.ensures.value) ∙ there)) in
+    let routes = routes_of_certs c.args.order.now c.args.rate c.args.certs.now in
+    let visitable = can_visit_all c.args.net.now c.in_ok-net.net c.args.certs.now c.args.order.now c.args.rate (marked_kind g.F.Field.MARK) c.requires.order c.requires.acyclic c.requires.certified c.requires.least c.in_ok-net.ensures c.deref.result.now
+    (ap length c.deref.ensures.value ∙ c.in_ok-hops.ensures.count) (subst (HaveHops routes) (sym c.deref.ensures.value) c.in_ok-hops.ensures.hops) in
     (routes, visitable)
 
 pub of-requires : goal.of-requires
 of-requires g c =
-    let routes = c.deref.result.now in
-    let routes_are = c.deref.ensures.value ∙ c.in_ok-routes.ensures in
-    let visitable = can_visit_all c.args.net.now c.in_ok-net.net c.args.certs.now c.args.order.now c.args.rate (marked_kind g.F.Field.MARK) c.requires.order c.requires.acyclic c.requires.certified c.requires.least c.in_ok-net.ensures routes c.deref-2.result.now routes_are
-    (ap length c.deref-2.ensures.value ∙ c.in_ok-hops.ensures.count ∙ c.len.ensures) (λ link at there. c.in_ok-hops.ensures.hops link at (ap (λ (hops : List (List Hop)). slice_get hops link) (sym c.deref-2.ensures.value) ∙ there)) in
+    let routes = routes_of_certs c.args.order.now c.args.rate c.args.certs.now in
+    let visitable = can_visit_all c.args.net.now c.in_ok-net.net c.args.certs.now c.args.order.now c.args.rate (marked_kind g.F.Field.MARK) c.requires.order c.requires.acyclic c.requires.certified c.requires.least c.in_ok-net.ensures c.deref.result.now
+    (ap length c.deref.ensures.value ∙ c.in_ok-hops.ensures.count) (subst (HaveHops routes) (sym c.deref.ensures.value) c.in_ok-hops.ensures.hops) in
     subst (λ (kind : FieldKind). IsCode c.in_ok-net.net c.args.rate kind c.in_ok-operands.operands c.in_ok-operands.decoders) (sym c.kind_of.ensures) (c.in_ok-operands.ensures.filled routes visitable).is_code
 
 pub returns-clause-compiled : goal.returns-clause-compiled
 returns-clause-compiled g c =
     let net = c.args.net.now in
     let new = c.in_ok-net.net in
-    let routes = c.deref.result.now in
-    let routes_are = c.deref.ensures.value ∙ c.in_ok-routes.ensures in
-    let visitable = can_visit_all net new c.args.certs.now c.args.order.now c.args.rate (marked_kind g.F.Field.MARK) c.requires.order c.requires.acyclic c.requires.certified c.requires.least c.in_ok-net.ensures routes c.deref-2.result.now routes_are
-    (ap length c.deref-2.ensures.value ∙ c.in_ok-hops.ensures.count ∙ c.len.ensures) (λ link at there. c.in_ok-hops.ensures.hops link at (ap (λ (hops : List (List Hop)). slice_get hops link) (sym c.deref-2.ensures.value) ∙ there)) in
+    let routes = routes_of_certs c.args.order.now c.args.rate c.args.certs.now in
+    let visitable = can_visit_all net new c.args.certs.now c.args.order.now c.args.rate (marked_kind g.F.Field.MARK) c.requires.order c.requires.acyclic c.requires.certified c.requires.least c.in_ok-net.ensures c.deref.result.now
+    (ap length c.deref.ensures.value ∙ c.in_ok-hops.ensures.count) (subst (HaveHops routes) (sym c.deref.ensures.value) c.in_ok-hops.ensures.hops) in
     let made = c.of.ensures in
-    compiled net new c.args.certs.now c.args.order.now c.args.rate (marked_kind g.F.Field.MARK) c.requires.order c.requires.acyclic c.requires.certified c.requires.least c.in_ok-net.ensures g.F.Field.SIZE c.requires.field.size c.requires.few routes routes_are
+    compiled net new c.args.certs.now c.args.order.now c.args.rate (marked_kind g.F.Field.MARK) c.requires.order c.requires.acyclic c.requires.certified c.requires.least c.in_ok-net.ensures g.F.Field.SIZE c.requires.field.size c.requires.few
     c.in_ok-operands.operands c.in_ok-operands.decoders (c.in_ok-operands.ensures.filled routes visitable) c.of.result made.net made.rate (made.field ∙ c.kind_of.ensures) made.operands made.decoders
 
 pub returns-in_err-operands-clause-ticks : goal.returns-in_err-operands-clause-ticks

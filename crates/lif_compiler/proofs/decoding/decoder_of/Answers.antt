@@ -1,21 +1,29 @@
 use Rattle.std.specs.Prelude.{◌<◌, List, All, Option, ℕ, length, map}
-use Rattle.std.proofs.Common.{sym, ap, subst, ◌∙◌}
+use Rattle.std.proofs.Common.{◌≡◌, arith, sym, ap, subst, ◌∙◌}
 use Rattle.std.proofs.Math.Path.{ap₂}
 use Rattle.std.proofs.lemmas.List.Elements.{All-same}
 use Rattle.linear_algebra.specs.Elements.{numbers}
 use Rattle.lif_compiler.specs.ReadOff.{AreSorted, entries_of_paths}
-use Rattle.lif_compiler.proofs.ReadOffLaws.{IsReadOff-made, paths_below}
+use Rattle.lif_compiler.proofs.ReadOffLaws.{IsReadOff-made, paths_below, sorted_count}
 use Rattle.lif_compiler.specs.declared.decoding.PlacedLink.{PlacedLink}
 use Rattle.lif_compiler.proofs.decoding.decoder_of.Goals as goal
 
-pub entries_of-requires : goal.entries_of-requires
-entries_of-requires g c =
+pub entries_of-requires-clause-paths : goal.entries_of-requires-clause-paths
+entries_of-requires-clause-paths g c =
     let basis = c.args.basis.now in
     let sorted = c.in_ok-sorted.sorted.items in
     let is : AreSorted basis.frontier sorted = subst (λ (frontier : List (Option ℕ)). AreSorted frontier sorted) c.as_slice.ensures c.in_ok-sorted.ensures in
     let P : PlacedLink → Type 0 = λ one. one.path < length basis.inverses.rows in
     All-same P c.deref-2.result.now sorted c.deref-2.ensures.value
     (subst (λ (n : ℕ). All (λ (one : PlacedLink). one.path < n) sorted) (sym basis.basis.inverses_high) (paths_below basis.frontier c.requires.reached sorted is))
+
+pub entries_of-requires-clause-few : goal.entries_of-requires-clause-few
+entries_of-requires-clause-few g c =
+    let basis = c.args.basis.now in
+    let sorted = c.in_ok-sorted.sorted.items in
+    let is : AreSorted basis.frontier sorted = subst (λ (frontier : List (Option ℕ)). AreSorted frontier sorted) c.as_slice.ensures c.in_ok-sorted.ensures in
+    let count : length c.deref-2.result.now ≡ length basis.frontier = ap length c.deref-2.ensures.value ∙ sorted_count basis.frontier c.requires.reached sorted is in
+    omega (arith, count, basis.few)
 
 pub returns : goal.returns
 returns g c =

@@ -1,6 +1,6 @@
 use Rattle.std.proofs.Common.{◌^◌, ℕ, arith, length-set}
 use Rattle.lif_compiler.proofs.RouteSteps.{inverse_all, inverse_more, places_fit}
-use Rattle.lif_compiler.proofs.routes.inverse.Goals as goal
+use Rattle.lif_compiler.proofs.planning.inverse.Goals as goal
 
 pub overflow_cast-new : goal.overflow_cast-new
 overflow_cast-new c = omega (arith, places_fit c.args.order.now (2 ^ 32) c.loop-new.new c.requires (λ k. omega (arith, c.type_inv.order k)) (omega arith))

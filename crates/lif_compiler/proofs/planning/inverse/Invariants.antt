@@ -1,5 +1,5 @@
 use Rattle.std.proofs.Common.{◌≡◌, ◌<◌, ℕ, length, slice_index}
-use Rattle.lif_compiler.proofs.routes.inverse.Given as goal
+use Rattle.lif_compiler.proofs.planning.inverse.Given as goal
 
 -- the numbers of the new links before this one stand at their old links
 abbrev pub invariant-loop-new : goal.invariant-loop-new
