@@ -45,7 +45,7 @@ module _ (plan : Plan) (places : List ℕ) (first count : ℕ) (sums : Waiting) 
   none-due none key due =
       true≢false (sym (due-bit key due) ∙ none (key.generation - first) (out_place plan key.link) key.piece (omega (arith, due.out.begun.from_first, due.out.begun.to_last)) due.out.of_piece)
 
-  module _ (new : Waiting) (generation sum piece : ℕ) (packet : Packet) (begun : generation < count) (takes : waiting.Takes generation sum piece sums new)
+  module _ (new : Waiting) (generation sum piece : ℕ) (packet : Packet) (takes : waiting.Takes count generation sum piece sums new)
       (link : packet.link ≡ get_or plan.outs sum 0) (of_generation : packet.generation ≡ first + generation) (of_piece : packet.piece ≡ piece) where
     sum_within : sum < length plan.outs
     sum_within = omega (arith, takes.in_sums, sum_count plan places first count sums is)
@@ -60,7 +60,7 @@ module _ (plan : Plan) (places : List ℕ) (first count : ℕ) (sums : Waiting) 
     place_of_generation = omega (arith, of_generation)
 
     out : IsOut (at sums) (key_of packet)
-    out = record { leaves = leaves; begun = record { from_first = omega (arith, of_generation); to_last = omega (arith, of_generation, begun) }; of_piece = omega (arith, of_piece, takes.in_pieces) }
+    out = record { leaves = leaves; begun = record { from_first = omega (arith, of_generation); to_last = omega (arith, of_generation, takes.in_generations) }; of_piece = omega (arith, of_piece, takes.in_pieces) }
 
     -- the words of sums at the packet
     at_packet : (f : ℕ → ℕ → ℕ → Bool) → f (packet.generation - first) (out_place plan packet.link) packet.piece ≡ f generation sum piece
@@ -74,12 +74,12 @@ module _ (plan : Plan) (places : List ℕ) (first count : ℕ) (sums : Waiting) 
           not_given = at_packet (waiting.is_given sums) ∙ not_given_of (waiting.is_complete sums generation sum piece) (waiting.is_due sums generation sum piece) takes.due;
         }
 
-    least : ((g s p : ℕ) → g < generation → p < pieces → waiting.is_due sums g s p ≡ false) → (other : Key) → IsDue (at sums) other → IsAtMost (key_of packet) other
-    least none other is_due = elim (cases_lt packet.generation other.generation) [
+    least : (other : Key) → IsDue (at sums) other → IsAtMost (key_of packet) other
+    least other is_due = elim (cases_lt packet.generation other.generation) [
       | inl earlier ↦ inl earlier
       | inr rest ↦ elim (cases_lt other.generation packet.generation) [
         | inr at_least ↦ inr (same_generation rest at_least, by_sum (takes.least (out_place plan other.link) other.piece is_due.out.of_piece (subst (λ g. waiting.is_due sums g (out_place plan other.link) other.piece ≡ true) (ap (λ g. g - first) (sym (same_generation rest at_least)) ∙ place_of_generation) (due-bit other is_due))))
-        | inl later ↦ absurd (true≢false (sym (due-bit other is_due) ∙ none (other.generation - first) (out_place plan other.link) other.piece (omega (arith, later, of_generation, is_due.out.begun.from_first)) is_due.out.of_piece))
+        | inl later ↦ absurd (true≢false (sym (due-bit other is_due) ∙ takes.before (other.generation - first) (out_place plan other.link) other.piece (omega (arith, later, of_generation, is_due.out.begun.from_first)) is_due.out.of_piece))
       ]
     ]
       where
@@ -121,13 +121,11 @@ module _ (plan : Plan) (places : List ℕ) (first count : ℕ) (sums : Waiting) 
         ∙ ap (λ (g : ℕ). sum_of plan.field (summands_at plan sum) (λ operand. waiting.input_at sums g (input_place plan operand.from) packet.piece)) place_of_generation
         ∙ ap (λ (p : ℕ). sum_of plan.field (summands_at plan sum) (came_of plan sums generation p)) of_piece)
 
-    pub gives : ((g s p : ℕ) → g < generation → p < pieces → waiting.is_due sums g s p ≡ false)
-        → packet.payload ≡ sum_at plan new generation sum piece
-        → Gives packet (at sums) (at new)
-    gives none made =
+    pub gives : packet.payload ≡ sum_at plan new generation sum piece → Gives packet (at sums) (at new)
+    gives made =
         record {
           due = due;
-          least = least none;
+          least = least;
           payload = payload-given made;
           work = record { plan = refl; first = refl; count = refl };
           given = at_packet (waiting.is_given new)

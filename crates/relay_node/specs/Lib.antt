@@ -1,4 +1,3 @@
 pub mod Relay
 pub mod Feeding
 pub mod Summed
-pub mod Giving

@@ -135,6 +135,6 @@ pub record IsNode (plan : Plan) (places : List ℕ) (first count : ℕ) (sums : 
   pub inputs : sums.inputs ≡ input_count plan
   pub each_sum : sums.sums ≡ sums_of plan
   pub are_sums : AreSums (input_count plan) (sums_of plan)
-  pub generations : length sums.tables ≡ 4
+  pub generations : length sums.held ≡ 4
   pub few : count ≤ 4
   pub last : first + count ≤ 2 ^ 32

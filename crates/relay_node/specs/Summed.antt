@@ -28,7 +28,7 @@ pub record CanSum (plan : Plan) (sums : Waiting) (generation sum piece : ℕ) : 
   pub is_plan : IsPlan plan
   pub inputs : sums.inputs ≡ input_count plan
   pub each_sum : sums.sums ≡ sums_of plan
-  pub in_generations : generation < length sums.tables
+  pub in_generations : generation < length sums.held
   pub in_sums : sum < length plan.operands
   pub in_pieces : piece < pieces
 

@@ -22,7 +22,7 @@ fn piece_of(row: &[u8], piece: usize) -> [u8; 128]
 
 // Takes all pieces of an input in, of which none has come in the generation.
 fn take_row(sums: &mut DueSums, generation: usize, input: u32, row: &[u8])
-    requires generation { generation < length sums.old.tables }
+    requires generation { generation < length sums.old.held }
     requires input { input < sums.old.inputs }
     requires row { length row.now ≡ row_bytes }
     requires none { (p : ℕ) → p < pieces → has_input sums.old generation input p ≡ false }
@@ -36,7 +36,7 @@ fn take_row(sums: &mut DueSums, generation: usize, input: u32, row: &[u8])
 
 /// Takes the rows of a block in as the inputs of a generation, of which none has come.
 pub fn take_rows(sums: &mut DueSums, generation: usize, rows: u32, block: &[u8])
-    requires generation { generation < length sums.old.tables }
+    requires generation { generation < length sums.old.held }
     requires inputs { sums.old.inputs ≡ rows }
     requires few { rows ≤ 32 }
     requires block { length block.now ≡ rows * row_bytes }

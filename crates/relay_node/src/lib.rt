@@ -7,7 +7,6 @@
 #![tactic(auto)]
 
 mod feeding;
-mod giving;
 mod node;
 mod sharing;
 mod summing;

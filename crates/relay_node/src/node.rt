@@ -6,7 +6,6 @@ ghost use Rattle.gf_tables.specs.Kind.{IsOfKind};
 ghost use Rattle.std.specs.Arc.{arc_value};
 
 use crate::feeding::take_rows;
-use crate::giving::{Taken, take_first};
 use crate::summing::payload_of;
 use code_checker::Checked;
 use due_sums::DueSums;
@@ -159,17 +158,11 @@ impl<F: Field> Node<F> {
             → TakesTraffic code pattern node window self.old
             → packet ≡ packet_of code pattern window (key_of packet)) }
     {
-        let Taken { generation, due } = take_first(&mut self.sums, self.count)?;
-        let payload = payload_of(
-            &self.tables,
-            &self.plan,
-            &self.sums,
-            generation as usize,
-            due,
-        );
+        let due = self.sums.take_due(self.count)?;
+        let payload = payload_of(&self.tables, &self.plan, &self.sums, due);
         Some(Packet {
             link: *self.plan.outs.at(due.sum as usize),
-            generation: self.first + generation,
+            generation: self.first + due.generation,
             piece: due.piece,
             payload,
         })

@@ -10,56 +10,36 @@ use generation_frame::PIECE;
 use node_plans::Plan;
 
 // A piece of a sum: over the operands of a link out of the node, the coefficient times what came of the operand.
-pub(crate) fn payload_of(
-    tables: &RowTables,
-    plan: &Plan,
-    sums: &DueSums,
-    generation: usize,
-    due: Due,
-) -> [u8; 128]
-    requires { CanSum plan.now sums.now generation due.sum due.piece }
-    ensures { result ≡ sum_at plan.now sums.now generation due.sum due.piece }
+pub(crate) fn payload_of(tables: &RowTables, plan: &Plan, sums: &DueSums, due: Due) -> [u8; 128]
+    requires { CanSum plan.now sums.now due.generation due.sum due.piece }
+    ensures { result ≡ sum_at plan.now sums.now due.generation due.sum due.piece }
 {
     let mut payload = [0; PIECE];
-    sum_up(tables, plan, sums, generation, due, &mut payload);
+    sum_up(tables, plan, sums, due, &mut payload);
     payload
 }
 
 // Makes a payload of zeros the sum.
-fn sum_up(
-    tables: &RowTables,
-    plan: &Plan,
-    sums: &DueSums,
-    generation: usize,
-    due: Due,
-    payload: &mut [u8],
-)
-    requires sum { CanSum plan.now sums.now generation due.sum due.piece }
+fn sum_up(tables: &RowTables, plan: &Plan, sums: &DueSums, due: Due, payload: &mut [u8])
+    requires sum { CanSum plan.now sums.now due.generation due.sum due.piece }
     requires zeros { payload.old ≡ zero_row piece_bytes }
-    ensures { payload.new ≡ sum_at plan.now sums.now generation due.sum due.piece }
+    ensures { payload.new ≡ sum_at plan.now sums.now due.generation due.sum due.piece }
 {
-    add_operands(tables, plan, sums, generation, due, payload);
+    add_operands(tables, plan, sums, due, payload);
 }
 
 // Adds operand after operand to a payload of zeros.
-fn add_operands(
-    tables: &RowTables,
-    plan: &Plan,
-    sums: &DueSums,
-    generation: usize,
-    due: Due,
-    payload: &mut [u8],
-)
-    requires sum { CanSum plan.now sums.now generation due.sum due.piece }
+fn add_operands(tables: &RowTables, plan: &Plan, sums: &DueSums, due: Due, payload: &mut [u8])
+    requires sum { CanSum plan.now sums.now due.generation due.sum due.piece }
     requires zeros { payload.old ≡ zero_row piece_bytes }
     ensures { IsSummed plan.now.field (summands_at plan.now due.sum)
-        (came_of plan.now sums.now generation due.piece) (length (summands_at plan.now due.sum))
+        (came_of plan.now sums.now due.generation due.piece) (length (summands_at plan.now due.sum))
         payload.new }
 {
     let operands = plan.operands.at(due.sum as usize).as_slice();
     let inputs = sums.sums().at(due.sum as usize).as_slice();
     for place in 0..operands.len() {
-        let came = sums.input(generation, inputs[place], due.piece);
+        let came = sums.input(due.generation as usize, inputs[place], due.piece);
         tables.add_scaled(plan.field, payload, operands[place].times, came);
     }
 }

@@ -20,8 +20,8 @@ named table place items listed found same = get_or_from_slice_get table place it
 pub loop-place-init : goal.loop-place-init
 loop-place-init c =
     let plan = c.args.plan.now in
-    subst (IsSummed plan.field (summands_at plan c.args.due.sum) (came_of plan c.args.sums.now c.args.generation c.args.due.piece) 0) (sym c.requires.zeros)
-    (summed-none plan.field (summands_at plan c.args.due.sum) (came_of plan c.args.sums.now c.args.generation c.args.due.piece))
+    subst (IsSummed plan.field (summands_at plan c.args.due.sum) (came_of plan c.args.sums.now c.args.due.generation c.args.due.piece) 0) (sym c.requires.zeros)
+    (summed-none plan.field (summands_at plan c.args.due.sum) (came_of plan c.args.sums.now c.args.due.generation c.args.due.piece))
 
 pub bounds-inputs-place : goal.bounds-inputs-place
 bounds-inputs-place c =
@@ -61,9 +61,9 @@ loop-place-preserved c =
     let k = c.loop-place.place in
     let d : Operand = record { from = 0; times = 0 } in
     let operand = get_or items k d in
-    let came = came_of plan c.args.sums.now c.args.generation c.args.due.piece in
+    let came = came_of plan c.args.sums.now c.args.due.generation c.args.due.piece in
     let given : c.input-came.result.now ≡ came operand =
-    c.input-came.ensures ∙ ap (λ (input : ℕ). input_at c.args.sums.now c.args.generation input c.args.due.piece) (sum-input plan sum c.as_slice-inputs.result.now items k 0 d is same c.loop-place-test.true) in
+    c.input-came.ensures ∙ ap (λ (input : ℕ). input_at c.args.sums.now c.args.due.generation input c.args.due.piece) (sum-input plan sum c.as_slice-inputs.result.now items k 0 d is same c.loop-place-test.true) in
     let long : length (came operand) ≡ piece_bytes = subst (λ (bytes : List ℕ). length bytes ≡ piece_bytes) given (search rules) in
     let made = subst (λ (from : List ℕ). elements_of plan.field c.add_scaled.new.into ≡ add_rows (elements_of plan.field c.loop-place.payload) (scale_row plan.field operand.times (elements_of plan.field from))) given c.add_scaled.ensures.sum in
     let within : k < length (summands_at plan sum) = subst (λ (os : List Operand). k < length os) (sym same) c.loop-place-test.true in
@@ -76,4 +76,4 @@ returns c =
     let items = c.as_slice-operands.result.now in
     let same = named plan.operands c.args.due.sum c.at.result.now items c.at.ensures c.as_slice-operands.ensures in
     let whole : c.loop-place.place ≡ length (summands_at plan c.args.due.sum) = omega (arith, ap length same) in
-    subst (λ (n : ℕ). IsSummed plan.field (summands_at plan c.args.due.sum) (came_of plan c.args.sums.now c.args.generation c.args.due.piece) n c.loop-place.payload) whole c.loop-place.invariant
+    subst (λ (n : ℕ). IsSummed plan.field (summands_at plan c.args.due.sum) (came_of plan c.args.sums.now c.args.due.generation c.args.due.piece) n c.loop-place.payload) whole c.loop-place.invariant

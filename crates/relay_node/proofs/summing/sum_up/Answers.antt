@@ -9,5 +9,5 @@ pub returns : goal.returns
 returns c =
     let plan = c.args.plan.now in
     let payload = c.add_operands.new.payload in
-    summed-all plan.field (summands_at plan c.args.due.sum) (came_of plan c.args.sums.now c.args.generation c.args.due.piece) payload
+    summed-all plan.field (summands_at plan c.args.due.sum) (came_of plan c.args.sums.now c.args.due.generation c.args.due.piece) payload
     (All-from_get_or (λ byte. byte < 256) payload 0 (λ k within. (c.type_inv.payload k).fits)) c.add_operands.ensures

@@ -8,21 +8,19 @@ use Rattle.relay_node.proofs.GivingLaws.{gives, none-due}
 use Rattle.relay_node.proofs.TrafficLaws.{gives-traffic}
 use Rattle.relay_node.proofs.node.Node.next_out.Goals as goal
 
-pub returns-in_err-generation-clause-none : goal.returns-in_err-generation-clause-none
-returns-in_err-generation-clause-none g c = λ none key due.
+pub returns-in_err-due-clause-none : goal.returns-in_err-due-clause-none
+returns-in_err-due-clause-none g c = λ none key due.
     let inside = c.self.inside in
-    none-due inside.plan _ inside.first inside.count inside.sums c.self.invariant (c.in_err-generation.ensures.none refl) key (subst (λ (r : Relay). IsDue r key) (sym c.self.view_is) due)
+    none-due inside.plan _ inside.first inside.count inside.sums c.self.invariant (c.in_err-due.ensures.none refl) key (subst (λ (r : Relay). IsDue r key) (sym c.self.view_is) due)
 
 pub returns-clause-given : goal.returns-clause-given
 returns-clause-given g c =
     let inside = c.self.inside in
-    let taken = c.in_ok-generation.field-0 in
-    let due = taken.due in
-    let first = c.in_ok-generation.ensures.taken in
-    let packet : Packet = record { link = c.at.result.now; generation = inside.first + taken.generation; piece = due.piece; payload = c.payload_of-payload.result } in
+    let due = c.in_ok-due.due in
+    let packet : Packet = record { link = c.at.result.now; generation = inside.first + due.generation; piece = due.piece; payload = c.payload_of-payload.result } in
     let link = sym (get_or_from_slice_get inside.plan.outs due.sum c.at.result.now 0 c.at.ensures) in
     rw (← c.self.view_is)
-    (gives inside.plan _ inside.first inside.count inside.sums c.self.invariant c.take_first.new.sums taken.generation due.sum due.piece packet first.within first.takes link refl refl first.before c.payload_of-payload.ensures)
+    (gives inside.plan _ inside.first inside.count inside.sums c.self.invariant c.take_due.new.self due.generation due.sum due.piece packet c.in_ok-due.ensures.least link refl refl c.payload_of-payload.ensures)
 
 pub returns-clause-traffic : goal.returns-clause-traffic
 returns-clause-traffic g c = λ code pattern node window takes.
