@@ -96,8 +96,8 @@ impl<F: Field> Node<F> {
     {
         let plan = wiring.plan(alloc, code.code(), pattern, node)?;
         let sums = sum_table(alloc, &plan, wiring.places().as_slice())?;
-        let summands = Summands::of(alloc, &plan, &sums)?;
         let sums = DueSums::new(alloc, plan.input_count(), sums, GENERATIONS)?;
+        let summands = Summands::of(alloc, &plan, sums.sums())?;
         Ok(Node {
             plan,
             places: wiring.places().clone()?,
