@@ -12,7 +12,8 @@ use Rattle.generation_frame.specs.declared.frame.Packet.{Packet}
 use Rattle.node_plans.specs.Plans.{input_place, operands_of, out_place}
 use Rattle.node_plans.specs.declared.plan.Plan.{Plan}
 use Rattle.relay_node.specs.Relay.{Gives, IsAtMost, IsDue, IsNode, IsOut, Relay, input_at, is_given}
-use Rattle.relay_node.specs.Summed.{came_of, sum_at, summands_at}
+use Rattle.relay_node.specs.Summands.{operands_at}
+use Rattle.relay_node.specs.Summed.{sum_at}
 use Rattle.list_laws.proofs.Positions.{place_in-found, place_in-within}
 use Rattle.net_model.proofs.RisingLaws.{place_in-at, rising-below}
 use Rattle.relay_node.proofs.WorkLaws.{complete-same, relay, same_out, sum_count}
@@ -116,10 +117,10 @@ module _ (plan : Plan) (places : List ℕ) (first count : ℕ) (sums : Waiting) 
         → packet.payload ≡ sum_of plan.field (operands_of plan packet.link) (λ operand. input_at (at sums) packet.generation operand.from packet.piece)
     payload-given made =
         made
-        ∙ ap (sum_of plan.field (summands_at plan sum)) (λ i operand. takes.bytes generation (input_place plan operand.from) piece i)
-        ∙ sym (ap (λ (s : ℕ). sum_of plan.field (summands_at plan s) (λ operand. input_at (at sums) packet.generation operand.from packet.piece)) place
-        ∙ ap (λ (g : ℕ). sum_of plan.field (summands_at plan sum) (λ operand. waiting.input_at sums g (input_place plan operand.from) packet.piece)) place_of_generation
-        ∙ ap (λ (p : ℕ). sum_of plan.field (summands_at plan sum) (came_of plan sums generation p)) of_piece)
+        ∙ ap (sum_of plan.field (operands_at plan sum)) (λ i operand. takes.bytes generation (input_place plan operand.from) piece i)
+        ∙ sym (ap (λ (s : ℕ). sum_of plan.field (operands_at plan s) (λ operand. input_at (at sums) packet.generation operand.from packet.piece)) place
+        ∙ ap (λ (g : ℕ). sum_of plan.field (operands_at plan sum) (λ operand. waiting.input_at sums g (input_place plan operand.from) packet.piece)) place_of_generation
+        ∙ ap (λ (p : ℕ). sum_of plan.field (operands_at plan sum) (λ operand. waiting.input_at sums generation (input_place plan operand.from) p)) of_piece)
 
     pub gives : packet.payload ≡ sum_at plan new generation sum piece → Gives packet (at sums) (at new)
     gives made =

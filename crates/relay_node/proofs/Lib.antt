@@ -3,3 +3,4 @@ pub mod WorkLaws
 pub mod GivingLaws
 pub mod FeedingLaws
 pub mod PayloadLaws
+pub mod SummandLaws

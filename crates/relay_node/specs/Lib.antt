@@ -1,3 +1,4 @@
 pub mod Relay
 pub mod Feeding
+pub mod Summands
 pub mod Summed

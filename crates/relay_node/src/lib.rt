@@ -9,6 +9,7 @@
 mod feeding;
 mod node;
 mod sharing;
+mod summands;
 mod summing;
 
 pub use node::Node;

@@ -6,6 +6,7 @@ ghost use Rattle.gf_tables.specs.Kind.{IsOfKind};
 ghost use Rattle.std.specs.Arc.{arc_value};
 
 use crate::feeding::take_rows;
+use crate::summands::Summands;
 use crate::summing::payload_of;
 use code_checker::Checked;
 use due_sums::DueSums;
@@ -31,6 +32,7 @@ pub struct Node<F> {
     first: u32,
     count: u32,
     sums: DueSums,
+    summands: Summands,
     of_field: PhantomData<F>,
 }
 
@@ -40,11 +42,14 @@ impl<F> Model for Node<F> {
     ghost Value = { Relay };
 
     ghost use Rattle.std.specs.Arc.{arc_value};
+    ghost use Rattle.std.specs.Prelude.{◌≡◌};
     ghost use Rattle.relay_node.specs.Relay.{IsNode};
+    ghost use Rattle.relay_node.specs.Summands.{summands_of};
 
     ghost view = { λ n. record { plan = n.plan; first = n.first; count = n.count; sums = n.sums } };
 
-    ghost invariant = { λ n. IsNode n.plan (arc_value n.places) n.first n.count n.sums };
+    ghost invariant = { λ n. IsNode n.plan (arc_value n.places) n.first n.count n.sums
+        × (n.summands ≡ summands_of n.plan) };
 }
 
 impl<F: Field> Node<F> {
@@ -92,6 +97,7 @@ impl<F: Field> Node<F> {
         let plan = wiring.plan(alloc, code.code(), pattern, node)?;
         let sums = sum_table(alloc, &plan, wiring.places().as_slice())?;
         let sums = DueSums::new(alloc, plan.input_count(), sums, GENERATIONS)?;
+        let summands = Summands::of(alloc, &plan, sums.sums())?;
         Ok(Node {
             plan,
             places: wiring.places().clone()?,
@@ -99,6 +105,7 @@ impl<F: Field> Node<F> {
             first: 0,
             count: 0,
             sums,
+            summands,
             of_field: PhantomData,
         })
     }
@@ -159,7 +166,8 @@ impl<F: Field> Node<F> {
             → packet ≡ packet_of code pattern window (key_of packet)) }
     {
         let due = self.sums.take_due(self.count)?;
-        let payload = payload_of(&self.tables, &self.plan, &self.sums, due);
+        let summands = self.summands.at(due.sum);
+        let payload = payload_of(&self.tables, self.plan.field, summands, &self.sums, due);
         Some(Packet {
             link: *self.plan.outs.at(due.sum as usize),
             generation: self.first + due.generation,

@@ -10,7 +10,7 @@ accept-requires-clause-input g c =
     let inside = c.self.inside in
     let packet = c.args.packet.now in
     let stands = subst (λ (r : Relay). Contains r.plan.ins packet.link) (sym c.self.view_is) c.requires.link in
-    omega (arith, input-within inside.plan _ inside.first inside.count inside.sums c.self.invariant packet.link stands, c.input_place-input.ensures)
+    omega (arith, input-within inside.plan _ inside.first inside.count inside.sums c.self.invariant.0 packet.link stands, c.input_place-input.ensures)
 
 pub returns-clause-new : goal.returns-clause-new
 returns-clause-new g c = λ new.
@@ -19,4 +19,4 @@ returns-clause-new g c = λ new.
     let stands = subst (λ (r : Relay). Contains r.plan.ins packet.link) (sym c.self.view_is) c.requires.link in
     let begun = subst (λ (r : Relay). IsBegun r packet.generation) (sym c.self.view_is) c.requires.begun in
     let came = subst (λ (input : ℕ). waiting.Gains (packet.generation - inside.first) input packet.piece packet.payload inside.sums c.accept.new.self) c.input_place-input.ensures (c.accept.ensures.new new) in
-    rw (← c.self.view_is) (gained inside.plan _ inside.first inside.count inside.sums c.self.invariant c.accept.new.self packet stands begun c.requires.piece came)
+    rw (← c.self.view_is) (gained inside.plan _ inside.first inside.count inside.sums c.self.invariant.0 c.accept.new.self packet stands begun c.requires.piece came)
