@@ -11,7 +11,5 @@ mod counting;
 mod due_sums;
 mod groups;
 mod readers;
-#[cfg(test)]
-mod tests;
 
 pub use due_sums::{Due, DueSums, SumTable};

@@ -2,4 +2,3 @@ pub mod Batches
 pub mod Demands
 pub mod UsedField
 pub mod Rate
-pub mod SmallNetwork

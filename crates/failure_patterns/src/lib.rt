@@ -7,8 +7,6 @@ ghost use Rattle.failure_patterns.specs.Demands.{demand_of, number_of};
 ghost use Rattle.failure_patterns.specs.UsedField.{most_demands, used_field};
 
 mod batches;
-#[cfg(test)]
-mod tests;
 
 pub use batches::batch_start;
 use net_model::{Demand, FieldChoice, Net};

@@ -3,9 +3,6 @@
 
 ghost use Rattle.std.specs.Prelude.{◌≡◌, ◌<◌, ◌≤◌, ◌*◌, ◌+◌, length, IfOk, true, false, not};
 
-#[cfg(test)]
-mod tests;
-
 use generation_frame::{Accepted, PIECES};
 use std::alloc::{AllocError, Global};
 use std::marker::Model;

@@ -8,8 +8,6 @@
 ghost use Rattle.std.specs.Prelude.{◌≡◌, ◌≢◌, ◌<◌, ◌≤◌, ◌*◌, ◌+◌, ◌%◌, ℕ, length, IfOk, IfSome, IsNone, Some};
 
 mod levels;
-#[cfg(test)]
-mod tests;
 mod words;
 
 use levels::{add, add_eighths, take_away};

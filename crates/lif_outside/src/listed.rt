@@ -5,8 +5,6 @@ ghost use Rattle.lif_outside.specs.Counts.{one_more};
 ghost use Rattle.lif_outside.specs.Spoils.{is_in_payload};
 
 mod spoils;
-#[cfg(test)]
-mod tests;
 
 use crate::memory::parts::{count_one, failed, place_of};
 use crate::{Failed, Flight, Links};

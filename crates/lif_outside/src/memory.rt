@@ -8,8 +8,6 @@ ghost use Rattle.lif_outside.specs.Files.{SameFiles};
 ghost use Rattle.lif_outside.specs.Puts.{put_event};
 
 pub mod parts;
-#[cfg(test)]
-mod tests;
 
 use crate::{Failed, Sink, Store};
 use parts::{add_bytes, count_one, empty_file, failed, keep_of, read_part};

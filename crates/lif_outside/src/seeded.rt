@@ -2,9 +2,6 @@
 ghost use Rattle.std.specs.Prelude.{◌≡◌, ◌≤◌, ◌<◌, ◌++◌, ◌∷◌, [], length, IsOk, OnOk, OnErr};
 ghost use Rattle.std.specs.Vec.{vec_capacity};
 
-#[cfg(test)]
-mod tests;
-
 use crate::{Failed, Flight, Links};
 use rand_core::utils::NextWord;
 use rand_pcg::Pcg32;

@@ -3,8 +3,6 @@
 
 mod event;
 mod logged;
-#[cfg(test)]
-mod tests;
 
 pub use event::Event;
 pub use logged::Logged;

@@ -8,8 +8,6 @@ mod maker;
 mod names;
 mod source;
 mod subsets;
-#[cfg(test)]
-mod tests;
 
 pub use fits::demo_fits;
 pub use maker::combination;

@@ -1,0 +1,3 @@
+//! Worked examples that are run, by subject.
+mod combinations;
+mod demands;

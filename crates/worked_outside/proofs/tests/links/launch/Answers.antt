@@ -1,0 +1,8 @@
+use Rattle.std.proofs.Common.{arith}
+use Rattle.worked_outside.proofs.RoomLaws.{room-put}
+use Rattle.worked_outside.proofs.tests.links.launch.Goals as goal
+
+pub returns-in-Ok : goal.returns-in-Ok
+returns-in-Ok g c =
+    room-put (g.L.Links.faithful c.args.links.now) _ c.args.free.now _ _ (g.met.L.Links.accounts _ c.args.links.now c.put.new.self c.in-Ok.ensures).follows
+    (omega (arith, c.if-free-eq0.false)) c.requires

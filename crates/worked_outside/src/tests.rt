@@ -1,0 +1,21 @@
+//! Worked examples that are run, by subject. They show what no clause says: that calls succeed while there is memory.
+ghost use Rattle.std.specs.Prelude.{OnOk};
+
+mod links;
+mod logs;
+mod sinks;
+mod stores;
+
+use lif_outside::{Call, Fail, Failed, Store};
+
+fn failing(call: Call, nth: u64, keep: usize) -> Fail {
+    Fail { call, nth, keep }
+}
+
+// Makes a file with these bytes.
+fn make<S: Store>(store: &mut S, path: &str, bytes: &[u8]) -> Result<(), Failed>
+    ensures { OnOk result (S.made store.new path.now) }
+{
+    store.create(path)?;
+    store.append(path, bytes)
+}
