@@ -39,6 +39,21 @@ fn read_once<F: Read>(file: &mut F, into: &mut [u8]) -> io::Result<usize>
     Err(io::Error::from(ErrorKind::TimedOut))
 }
 
+// Reads through a piece to the front of a buffer. What stands behind it stays.
+fn read_through<F: Read>(file: &mut F, piece: &mut [u8], into: &mut [u8]) -> io::Result<usize>
+    requires { 0 < length piece.old }
+    ensures count { IfOk result (λ n. n ≤ length into.old) }
+    ensures rest { IfOk result (λ n. drop n into.new ≡ drop n into.old) }
+    ensures bytes { IfOk result
+        (λ n. Consumes (F.remaining file.old) (F.remaining file.new) (take n into.new)) }
+    ensures end { IfOk result (λ n. n ≡ 0 → 0 < length into.old → IsAtEnd (F.remaining file.new)) }
+{
+    let room = into.len().min(piece.len());
+    let count = read_once(file, &mut piece[..room])?;
+    into[..count].copy_from_slice(&piece[..count]);
+    Ok(count)
+}
+
 // Reads a piece to the front of a buffer. What stands behind it stays.
 fn read_piece<F: Read>(file: &mut F, into: &mut [u8]) -> io::Result<usize>
     ensures count { IfOk result (λ n. n ≤ length into.old) }
@@ -47,11 +62,7 @@ fn read_piece<F: Read>(file: &mut F, into: &mut [u8]) -> io::Result<usize>
         (λ n. Consumes (F.remaining file.old) (F.remaining file.new) (take n into.new)) }
     ensures end { IfOk result (λ n. n ≡ 0 → 0 < length into.old → IsAtEnd (F.remaining file.new)) }
 {
-    let mut piece = [0; PIECE];
-    let room = into.len().min(PIECE);
-    let count = read_once(file, &mut piece[..room])?;
-    into[..count].copy_from_slice(&piece[..count]);
-    Ok(count)
+    read_through(file, &mut [0; PIECE], into)
 }
 
 /// Reads until the buffer is full or the reader is at its end, and answers how many bytes came.
