@@ -1,5 +1,5 @@
 //! Windows of blocks through a code, over any links.
-ghost use Rattle.std.specs.Prelude.{◌≡◌, ◌<◌, ◌≤◌, ◌+◌, ◌*◌, ◌^◌, [], length, false, true};
+ghost use Rattle.std.specs.Prelude.{◌≡◌, ◌<◌, ◌≤◌, ◌+◌, ◌*◌, ◌/◌, ◌^◌, [], IfSome, length, false, true};
 ghost use Rattle.generation_frame.specs.Blocks.{row_bytes};
 ghost use Rattle.gf_tables.specs.Kind.{IsOfKind};
 ghost use Rattle.relay_runner.specs.Decoding.{HasDecoded};
@@ -7,10 +7,11 @@ ghost use Rattle.relay_runner.specs.Decoding.{HasDecoded};
 use code_checker::Checked;
 use generation_frame::ROW;
 use gf_tables::{Field, FieldKind, Gf8, Gf16};
-use lif_outside::{Gate, Links};
+use lif_outside::{Gate, Links, NoGate};
 use relay_runner::Runner;
 use std::alloc::Global;
 use std::thread::Threads;
+use worked_rows::codes::checked_of;
 
 /// How a source goes through a code: under which pattern, by which number of the links, how many blocks of it at a time, and in
 /// how many windows.
@@ -46,12 +47,54 @@ fn sinks_have<F: Field>(
     true
 }
 
+// Whether every sink decodes all blocks of the window carried last.
+fn sinks_have_all<F: Field>(
+    runner: &Runner<'_, F>,
+    sinks: u32,
+    count: u32,
+    window: &[u8],
+    into: &mut [u8],
+) -> bool
+    requires decoded { HasDecoded runner.now }
+    requires sinks { sinks ≡ length runner.now.code.net.sinks }
+    requires count { count ≡ runner.now.count }
+    requires room { length into.old ≡ runner.now.code.rate * row_bytes }
+    ensures { length into.new ≡ length into.old }
+{
+    let mut rest = window;
+    for place in 0..count {
+        match rest.split_at_checked(into.len()) {
+            Some((block, behind)) => {
+                if !sinks_have(runner, sinks, place, block, into) {
+                    return false;
+                }
+                rest = behind;
+            }
+            None => return false,
+        }
+    }
+    true
+}
+
+/// How many blocks of a size these bytes are, where they are 1 to 4 whole ones.
+pub(super) fn blocks_in(bytes: &[u8], size: usize) -> Option<u32>
+    ensures some { IfSome result (λ count. 1 ≤ count) }
+    ensures few { IfSome result (λ count. count ≤ 4) }
+    ensures count { IfSome result (λ count. count ≡ length bytes.now / size) }
+    ensures whole { IfSome result (λ count. length bytes.now ≡ count * size) }
+{
+    let count = bytes.len().checked_div(size)?;
+    if count == 0 || count > 4 || bytes.len() != count * size {
+        return None;
+    }
+    Some(count as u32)
+}
+
 // Whether a window of blocks comes to every sink.
 fn carries_window<F: Field + Send + Sync, K: Links, G: Gate + Sync, R: Threads + Sync>(
     rt: &R,
     runner: &mut Runner<'_, F>,
     sinks: u32,
-    size: usize,
     window: &[u8],
     links: &mut K,
     into: &mut [u8],
@@ -61,9 +104,8 @@ fn carries_window<F: Field + Send + Sync, K: Links, G: Gate + Sync, R: Threads +
     requires nothing_flies { K.flying links.old ≡ [] }
     requires room { 32 * length runner.old.code.net.links ≤ K.room links.old }
     requires sinks { sinks ≡ length runner.old.code.net.sinks }
-    requires size { size ≡ runner.old.code.rate * row_bytes }
     requires next { runner.old.next + 4 ≤ 2 ^ 32 }
-    requires into { length into.old ≡ size }
+    requires into { length into.old ≡ runner.old.code.rate * row_bytes }
     ensures code { runner.new.code ≡ runner.old.code }
     ensures works { result ≡ true → runner.new.has_failed ≡ false }
     ensures nothing_flies { result ≡ true → K.flying links.new ≡ [] }
@@ -71,27 +113,54 @@ fn carries_window<F: Field + Send + Sync, K: Links, G: Gate + Sync, R: Threads +
     ensures next { runner.new.next ≤ runner.old.next + 4 }
     ensures into { length into.new ≡ length into.old }
 {
-    if size == 0 {
+    let Some(count) = blocks_in(window, into.len()) else {
         return false;
-    }
-    let count = window.len() / size;
-    if count == 0 || count > 4 || window.len() != count * size {
-        return false;
-    }
+    };
     if runner.carry(window, links).is_err() {
         return false;
     }
     runner.decode_all(rt, gate);
-    for place in 0..count as u32 {
-        let start = place as usize * size;
-        if !sinks_have(runner, sinks, place, &window[start..start + size], into) {
-            return false;
+    sinks_have_all(runner, sinks, count, window, into)
+}
+
+// The same of all windows of a source.
+fn carries_windows<F: Field + Send + Sync, K: Links, G: Gate + Sync, R: Threads + Sync>(
+    rt: &R,
+    runner: &mut Runner<'_, F>,
+    sinks: u32,
+    course: Course,
+    links: &mut K,
+    source: &[u8],
+    into: &mut [u8],
+    gate: &G,
+) -> bool
+    requires works { runner.old.has_failed ≡ false }
+    requires nothing_flies { K.flying links.old ≡ [] }
+    requires room { 32 * length runner.old.code.net.links ≤ K.room links.old }
+    requires sinks { sinks ≡ length runner.old.code.net.sinks }
+    requires next { runner.old.next ≡ 0 }
+    requires into { length into.old ≡ runner.old.code.rate * row_bytes }
+{
+    if course.windows > 1000 {
+        return false;
+    }
+    let width = (course.blocks as usize).saturating_mul(into.len());
+    let mut rest = source;
+    'windows: for turn in 0..course.windows {
+        match rest.split_at_checked(width) {
+            Some((window, behind)) => {
+                if !carries_window(rt, runner, sinks, window, links, into, gate) {
+                    return false;
+                }
+                rest = behind;
+            }
+            None => return false,
         }
     }
     true
 }
 
-// The same of all windows of a source, over the code's field.
+// The same, over the code's field.
 fn carries_over<F: Field + Send + Sync, K: Links, G: Gate + Sync, R: Threads + Sync>(
     rt: &R,
     alloc: Global,
@@ -105,31 +174,28 @@ fn carries_over<F: Field + Send + Sync, K: Links, G: Gate + Sync, R: Threads + S
     requires nothing_flies { K.flying links.old ≡ [] }
 {
     let code = checked.code();
+    if course.pattern as usize >= code.net.patterns.len() {
+        return false;
+    }
     let sinks = code.net.sinks.len() as u32;
-    let size = code.rate as usize * ROW;
-    let width = course.blocks as usize * size;
-    if course.pattern as usize >= code.net.patterns.len()
-        || course.windows > 1000
-        || course.windows as usize * width > source.len()
-    {
-        return false;
-    }
-    let Ok(mut room) = vec![in alloc; 0u8; size] else {
+    let Ok(mut into) = vec![in alloc; 0u8; code.rate as usize * ROW] else {
         return false;
     };
-    let into = room.as_mut_slice();
-    let Ok(mut runner) = Runner::<F>::open(alloc, checked, course.pattern, course.seed, links)
-    else {
-        return false;
-    };
-    'windows: for turn in 0..course.windows {
-        let start = turn as usize * width;
-        let window = &source[start..start + width];
-        if !carries_window(rt, &mut runner, sinks, size, window, links, into, gate) {
-            return false;
+    match Runner::<F>::open(alloc, checked, course.pattern, course.seed, links) {
+        Ok(mut runner) => {
+            carries_windows(
+                rt,
+                &mut runner,
+                sinks,
+                course,
+                links,
+                source,
+                &mut into,
+                gate,
+            )
         }
+        Err(_) => false,
     }
-    true
 }
 
 /// Whether all windows of a source come to every sink of a code.
@@ -152,5 +218,22 @@ pub(super) fn carries<K: Links, G: Gate + Sync, R: Threads + Sync>(
         FieldKind::Sixteen => {
             carries_over::<Gf16, K, G, R>(rt, alloc, code, course, links, source, gate)
         }
+    }
+}
+
+/// Whether they come to every sink of the code of a file.
+pub(super) fn file_carries<K: Links, R: Threads + Sync>(
+    rt: &R,
+    alloc: Global,
+    file: &[u8],
+    course: Course,
+    links: &mut K,
+    source: &[u8],
+) -> bool
+    requires nothing_flies { K.flying links.old ≡ [] }
+{
+    match checked_of(rt, alloc, file) {
+        Ok(code) => carries(rt, alloc, &code, course, links, source, &NoGate),
+        Err(_) => false,
     }
 }

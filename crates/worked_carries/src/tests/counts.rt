@@ -1,12 +1,19 @@
 //! How many frames are put for a block, and which bytes they have.
-use super::carrying::{Course, carries};
-use lif_outside::{NoGate, SeedLinks};
+use super::carrying::{Course, file_carries};
+use lif_outside::{Flight, SeedLinks};
 use std::alloc::Global;
 use std::test;
 use std::thread::Threads;
-use worked_rows::codes::checked_of;
 use worked_rows::files::{BUTTERFLY, ONE_LINK, TWO_WAYS};
 use worked_rows::watched::watch;
+
+// How many pairs were put, and the frame of one piece on one link.
+fn count_and_frame(puts: &[Flight], link: u32, piece: u8) -> (usize, Option<[u8; 140]>) {
+    let put = puts
+        .iter()
+        .find(|put| put.link == link && put.frame[3] == piece);
+    (puts.len(), put.map(|put| put.frame))
+}
 
 // How many frames a code puts for a block under a pattern, and the frame of one piece on one link.
 fn put_for<R: Threads + Sync>(
@@ -18,7 +25,6 @@ fn put_for<R: Threads + Sync>(
     link: u32,
     piece: u8,
 ) -> Option<(usize, Option<[u8; 140]>)> {
-    let code = checked_of(rt, alloc, file).ok()?;
     let course = Course {
         pattern,
         seed: 0,
@@ -26,14 +32,10 @@ fn put_for<R: Threads + Sync>(
         windows: 1,
     };
     let mut links = watch(alloc, SeedLinks::new(alloc));
-    if !carries(rt, alloc, &code, course, &mut links, block, &NoGate) {
+    if !file_carries(rt, alloc, file, course, &mut links, block) {
         return None;
     }
-    let puts = links.calls.puts.as_slice();
-    let put = puts
-        .iter()
-        .find(|put| put.link == link && put.frame[3] == piece);
-    Some((puts.len(), put.map(|put| put.frame)))
+    Some(count_and_frame(&links.calls.puts, link, piece))
 }
 
 // Whether so many frames are put, among them one with these bytes and then one byte again and again.
@@ -70,10 +72,13 @@ fn the_middle_of_the_butterfly_carries_the_sum_of_the_rows(rt: HostRuntime) {
     assert!(rt; are_put(last, 72, &front, 7), "piece 7");
 }
 
+// The patterns of the two ways, each with how many links carry frames: where the link from `s` to `a` fails, that behind
+// it carries nothing either.
+const LIVE: &[(u32, usize)] = &[(0, 4), (1, 2)];
+
 #[test]
 fn only_live_links_carry_frames(rt: HostRuntime) {
-    // Where the link from `s` to `a` fails, that behind it carries nothing either.
-    for (pattern, live) in [(0, 4), (1, 2)] {
+    for &(pattern, live) in LIVE {
         let put = put_for(&rt, rt.alloc(), TWO_WAYS, pattern, &[9; 1024], 3, 0);
         let puts = put.map(|(puts, _)| puts);
         assert!(rt; puts == Some(8 * live), "{pattern}");

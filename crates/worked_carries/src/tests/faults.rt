@@ -1,7 +1,9 @@
 //! Links of which a call fails.
 ghost use Rattle.std.specs.Prelude.{◌≡◌, []};
 ghost use Rattle.gf_tables.specs.Kind.{IsOfKind};
+ghost use Rattle.lif_outside.specs.Listed.{held_in};
 
+use super::carrying::blocks_in;
 use code_checker::Checked;
 use generation_frame::ROW;
 use gf_tables::{Field, FieldKind, Gf8};
@@ -12,6 +14,7 @@ use std::test;
 use std::thread::Threads;
 use worked_rows::codes::checked_of;
 use worked_rows::files::BUTTERFLY;
+use worked_rows::orders::{PLAIN, Script, hostile};
 
 // Whether a block is carried under the first pattern, where the runner says the same of its failure.
 fn is_carried<F: Field, K: Links>(
@@ -25,30 +28,57 @@ fn is_carried<F: Field, K: Links>(
 {
     let code = checked.code();
     let size = code.rate as usize * ROW;
-    if code.net.patterns.is_empty() || size == 0 {
+    if code.net.patterns.is_empty() {
         return None;
     }
-    let count = block.len() / size;
-    if count != 1 || block.len() != count * size {
-        return None;
-    }
-    let Ok(mut runner) = Runner::<F>::open(alloc, checked, 0, 0, links) else {
+    let Some(1) = blocks_in(block, size) else {
         return None;
     };
-    let carried = runner.carry(block, links).is_ok();
-    (carried != runner.has_failed()).then_some(carried)
+    match Runner::<F>::open(alloc, checked, 0, 0, links) {
+        Ok(mut runner) => {
+            let carried = runner.carry(block, links).is_ok();
+            (carried != runner.has_failed()).then_some(carried)
+        }
+        Err(_) => None,
+    }
 }
 
-// The same of the butterfly, where one put and one take are to fail.
+// The same over the field of 256 elements.
 #[tactic(auto, unfolding(gf_tables::specs::Product::product))]
-fn carries_with<R: Threads + Sync>(rt: &R, alloc: Global, put: u64, take: u64) -> Option<bool> {
-    let code = checked_of(rt, alloc, BUTTERFLY).ok()?;
-    let puts = Vec::from_slice(alloc, &[put]).ok()?;
-    let takes = Vec::from_slice(alloc, &[take]).ok()?;
-    let mut links = ListLinks::new(alloc, Vec::new(alloc), puts, takes);
+fn sevens_are_carried(alloc: Global, code: &Checked, links: &mut ListLinks) -> Option<bool>
+    requires nothing_flies { (held_in links.old).flying ≡ [] }
+{
     match code.code().field {
-        FieldKind::Eight => is_carried::<Gf8, ListLinks>(alloc, &code, &[7; 2048], &mut links),
+        FieldKind::Eight => is_carried::<Gf8, ListLinks>(alloc, code, &[7; 2048], links),
         FieldKind::Sixteen => None,
+    }
+}
+
+// The same in the code of the butterfly.
+fn butterfly_carries<R: Threads + Sync>(
+    rt: &R,
+    alloc: Global,
+    links: &mut ListLinks,
+) -> Option<bool>
+    requires nothing_flies { (held_in links.old).flying ≡ [] }
+{
+    match checked_of(rt, alloc, BUTTERFLY) {
+        Ok(code) => sevens_are_carried(alloc, &code, links),
+        Err(_) => None,
+    }
+}
+
+// The same, where one put and one take are to fail.
+fn carries_with<R: Threads + Sync>(rt: &R, alloc: Global, put: u64, take: u64) -> Option<bool> {
+    let fails = [put, take];
+    let script = Script {
+        put_fails: &fails[..1],
+        take_fails: &fails[1..],
+        ..PLAIN
+    };
+    match hostile(alloc, &script) {
+        Some(mut links) => butterfly_carries(rt, alloc, &mut links),
+        None => None,
     }
 }
 
@@ -56,13 +86,8 @@ fn carries_with<R: Threads + Sync>(rt: &R, alloc: Global, put: u64, take: u64) -
 fn each_put_and_each_take_can_fail(rt: HostRuntime) {
     // 72 frames are put and taken, and the last take finds nothing.
     for nth in 1..=75 {
-        assert!(rt;
-            carries_with(&rt, rt.alloc(), nth, 0) == Some(nth > 72),
-            "put {nth}"
-        );
-        assert!(rt;
-            carries_with(&rt, rt.alloc(), 0, nth) == Some(nth > 73),
-            "take {nth}"
-        );
+        let put = carries_with(&rt, rt.alloc(), nth, 0);
+        let take = carries_with(&rt, rt.alloc(), 0, nth);
+        assert_eq!(rt; (put, take), (Some(nth > 72), Some(nth > 73)), "{nth}");
     }
 }

@@ -1,5 +1,6 @@
 //! Which jobs enter the gate of a decoding.
 use super::carrying::{Course, carries};
+use code_checker::Checked;
 use lif_outside::{NoGate, SeedLinks};
 use std::alloc::Global;
 use std::test;
@@ -8,15 +9,8 @@ use top_tools::combination_code;
 use worked_rows::gates::Meeting;
 use worked_rows::runs::source_of;
 
-// Whether two jobs enter the gate for one window and meet there, where its blocks come to the sinks behind each two of
-// four nodes.
-fn two_meet<R: Threads + Sync>(rt: &R, alloc: Global) -> bool {
-    let Ok(code) = combination_code(rt, alloc, 4, 2, &NoGate) else {
-        return false;
-    };
-    let Some(source) = source_of(alloc, 8192) else {
-        return false;
-    };
+// Whether two jobs enter the gate for one window of a source and meet there, where its blocks come to all sinks.
+fn two_meet<R: Threads + Sync>(rt: &R, alloc: Global, code: &Checked, source: &[u8]) -> bool {
     let course = Course {
         pattern: 0,
         seed: 1,
@@ -25,11 +19,27 @@ fn two_meet<R: Threads + Sync>(rt: &R, alloc: Global) -> bool {
     };
     let mut links = SeedLinks::new(alloc);
     let gate = Meeting::new();
-    carries(rt, alloc, &code, course, &mut links, &source, &gate) && gate.is_met(11)
+    carries(rt, alloc, code, course, &mut links, source, &gate) && gate.is_met(11)
+}
+
+// Whether they do for so many bytes.
+fn code_meets<R: Threads + Sync>(rt: &R, alloc: Global, code: &Checked) -> bool {
+    match source_of(alloc, 8192) {
+        Some(source) => two_meet(rt, alloc, code, &source),
+        None => false,
+    }
+}
+
+// Whether they do where the sinks are behind each two of four nodes.
+fn combination_meets<R: Threads + Sync>(rt: &R, alloc: Global) -> bool {
+    match combination_code(rt, alloc, 4, 2, &NoGate) {
+        Ok(code) => code_meets(rt, alloc, &code),
+        Err(_) => false,
+    }
 }
 
 // Three sinks are decoded in each of two runs.
 #[test]
 fn six_sinks_are_decoded_side_by_side(rt: HostRuntime) {
-    assert!(rt; two_meet(&rt, rt.alloc()));
+    assert!(rt; combination_meets(&rt, rt.alloc()));
 }

@@ -1,20 +1,35 @@
 //! The order in which links deliver.
-use super::carrying::{Course, carries};
-use lif_outside::{NoGate, SeedLinks};
+ghost use Rattle.std.specs.Prelude.{◌≡◌, []};
+
+use super::carrying::{Course, file_carries};
+use lif_outside::{Links, SeedLinks};
 use std::alloc::Global;
 use std::test;
 use std::thread::Threads;
-use worked_rows::codes::checked_of;
 use worked_rows::files::{BUTTERFLY, DOUBLED_ONE_LINK, ONE_LINK, TWO_WAYS, WIDE_ONE_LINK};
 use worked_rows::orders::{PLAIN, Script, hostile, listed};
 use worked_rows::runs::source_of;
 
-// Whether two blocks come through a code in an order that a number decides.
-fn by_seed<R: Threads + Sync>(rt: &R, alloc: Global, file: &[u8], course: Course) -> Option<bool> {
-    let code = checked_of(rt, alloc, file).ok()?;
-    let source = source_of(alloc, 16384)?;
+// Whether windows of a source come through the code of a file, over links.
+fn comes_through<K: Links, R: Threads + Sync>(
+    rt: &R,
+    alloc: Global,
+    file: &[u8],
+    course: Course,
+    links: &mut K,
+) -> bool
+    requires nothing_flies { K.flying links.old ≡ [] }
+{
+    match source_of(alloc, 16384) {
+        Some(source) => file_carries(rt, alloc, file, course, links, &source),
+        None => false,
+    }
+}
+
+// Whether they do in an order that a number decides.
+fn by_seed<R: Threads + Sync>(rt: &R, alloc: Global, file: &[u8], course: Course) -> bool {
     let mut links = SeedLinks::new(alloc);
-    Some(carries(rt, alloc, &code, course, &mut links, &source, &NoGate))
+    comes_through(rt, alloc, file, course, &mut links)
 }
 
 // Whether they do in an order that a list says.
@@ -24,87 +39,97 @@ fn by_list<R: Threads + Sync>(
     file: &[u8],
     course: Course,
     rule: u32,
-) -> Option<bool> {
-    let code = checked_of(rt, alloc, file).ok()?;
-    let source = source_of(alloc, 16384)?;
-    let mut links = listed(alloc, rule)?;
-    Some(carries(rt, alloc, &code, course, &mut links, &source, &NoGate))
+) -> bool {
+    match listed(alloc, rule) {
+        Some(mut links) => comes_through(rt, alloc, file, course, &mut links),
+        None => false,
+    }
 }
 
-// Each code with its name, its file, and how many patterns it has.
-const CODES: [(&str, &[u8], u32); 5] = [
-    ("one link", ONE_LINK, 1),
-    ("doubled one link", DOUBLED_ONE_LINK, 1),
-    ("wide one link", WIDE_ONE_LINK, 1),
-    ("butterfly", BUTTERFLY, 1),
-    ("two ways", TWO_WAYS, 2),
+// Each code with its name, its file, and a pattern.
+const CODES: &[(&str, &[u8], u32)] = &[
+    ("one link", ONE_LINK, 0),
+    ("doubled one link", DOUBLED_ONE_LINK, 0),
+    ("wide one link", WIDE_ONE_LINK, 0),
+    ("butterfly", BUTTERFLY, 0),
+    ("two ways", TWO_WAYS, 0),
+    ("one of two ways", TWO_WAYS, 1),
 ];
 
-#[test]
-fn a_number_decides_the_order(rt: HostRuntime) {
-    for (name, file, patterns) in CODES {
-        for pattern in 0..patterns {
-            for (seed, blocks) in [(0, 1), (1, 2), (7, 3), (u64::MAX, 4)] {
-                let course = Course {
-                    pattern,
-                    seed,
-                    blocks,
-                    windows: 2,
-                };
-                assert!(rt;
-                    by_seed(&rt, rt.alloc(), file, course) == Some(true),
-                    "{name} {pattern} {seed}"
-                );
+// Numbers that decide the order, each with how many blocks are a window.
+const SEEDS: &[(u64, u32)] = &[(0, 1), (1, 2), (7, 3), (u64::MAX, 4)];
+
+// The first code and number by which not all comes.
+fn lost_by_seed<R: Threads + Sync>(rt: &R, alloc: Global) -> Option<(&'static str, u64)> {
+    for &(name, file, pattern) in CODES {
+        for &(seed, blocks) in SEEDS {
+            let course = Course {
+                pattern,
+                seed,
+                blocks,
+                windows: 2,
+            };
+            if !by_seed(rt, alloc, file, course) {
+                return Some((name, seed));
             }
         }
     }
+    None
+}
+
+#[test]
+fn a_number_decides_the_order(rt: HostRuntime) {
+    assert_eq!(rt; lost_by_seed(&rt, rt.alloc()), None);
+}
+
+// The first code and rule of a list by which not all comes.
+fn lost_by_list<R: Threads + Sync>(rt: &R, alloc: Global) -> Option<(&'static str, u32)> {
+    for &(name, file, pattern) in CODES {
+        for rule in 0..3 {
+            let course = Course {
+                pattern,
+                seed: 0,
+                blocks: 1,
+                windows: 3,
+            };
+            if !by_list(rt, alloc, file, course, rule) {
+                return Some((name, rule));
+            }
+        }
+    }
+    None
 }
 
 #[test]
 fn a_list_says_the_order(rt: HostRuntime) {
-    for (name, file, patterns) in CODES {
-        for pattern in 0..patterns {
-            for rule in 0..3 {
-                let course = Course {
-                    pattern,
-                    seed: 0,
-                    blocks: 1,
-                    windows: 3,
-                };
-                assert!(rt;
-                    by_list(&rt, rt.alloc(), file, course, rule) == Some(true),
-                    "{name} {pattern} {rule}"
-                );
-            }
-        }
-    }
+    assert_eq!(rt; lost_by_list(&rt, rt.alloc()), None);
 }
 
-// Whether a window of four blocks comes through a code over links that keep the pairs of every second take.
-fn by_repeats<R: Threads + Sync>(rt: &R, alloc: Global, file: &[u8]) -> Option<bool> {
-    let code = checked_of(rt, alloc, file).ok()?;
-    let source = source_of(alloc, 16384)?;
-    let mut keeps = Vec::new(alloc);
-    for half in 0..1000u64 {
-        keeps.push(2 * half + 1).ok()?;
+// Whether a window of four blocks comes over links of which each second take keeps its pair.
+fn by_repeats<R: Threads + Sync>(rt: &R, alloc: Global, file: &[u8], pattern: u32) -> bool {
+    let course = Course {
+        pattern,
+        seed: 0,
+        blocks: 4,
+        windows: 1,
+    };
+    let mut keeps = [0; 1000];
+    for (place, keep) in keeps.iter_mut().enumerate() {
+        *keep = 2 * place as u64 + 1;
     }
     let script = Script {
         keeps: &keeps,
         ..PLAIN
     };
-    let course = Course {
-        pattern: 0,
-        seed: 0,
-        blocks: 4,
-        windows: 1,
-    };
-    let mut links = hostile(alloc, &script)?;
-    Some(carries(rt, alloc, &code, course, &mut links, &source, &NoGate))
+    match hostile(alloc, &script) {
+        Some(mut links) => comes_through(rt, alloc, file, course, &mut links),
+        None => false,
+    }
 }
 
 #[test]
 fn pairs_may_come_again(rt: HostRuntime) {
-    for (name, file, _) in CODES {
-        assert!(rt; by_repeats(&rt, rt.alloc(), file) == Some(true), "{name}");
+    for &(name, file, pattern) in CODES {
+        assert!(rt; by_repeats(&rt, rt.alloc(), file, pattern), "{name}");
     }
 }

@@ -1,32 +1,20 @@
-use Rattle.std.specs.Prelude.{◌≤◌, ◌*◌, length}
-use Rattle.std.proofs.Common.{◌∙◌, arith, refl, subst}
+use Rattle.std.specs.Prelude.{◌≡◌, ◌≤◌, ◌*◌, [], length}
+use Rattle.std.proofs.Common.{subst, sym}
 use Rattle.node_program.specs.declared.code.Code.{Code}
 use Rattle.worked_carries.proofs.OpenedLaws.{just_opened}
 use Rattle.worked_carries.proofs.tests.carrying.carries_over.Goals as goal
+use Rattle.worked_carries.proofs.tests.carrying.carries_over.Goals.{In-Ok-open}
 
 -- the links were just opened
-pub windows-init : goal.windows-init
-windows-init g c =
-    let runner = c.in-Ok-open.ensures in
-    let links = just_opened g.K.Links c.args.course.seed (32 * length c.args.checked.now.net.links) c.args.links.now c.open.new.links
-    g.met.K.Links.accounts runner.opened in
-    record {
-      same_code = runner.code;
-      works = runner.works;
-      nothing_flies = links.0;
-      room = links.1;
-      next = omega (arith, runner.next);
-    }
+opened_here : (g : _) (c : In-Ok-open g)
+    → (g.K.Links.flying c.open.new.links ≡ []) × (32 * length c.args.checked.now.net.links ≤ g.K.Links.room c.open.new.links)
+opened_here g c =
+    just_opened g.K.Links c.args.course.seed (32 * length c.args.checked.now.net.links) c.args.links.now c.open.new.links g.met.K.Links.accounts c.in-Ok-open.ensures.opened
 
--- a window more
-pub windows-preserved : goal.windows-preserved
-windows-preserved g c =
-    let before = c.windows.invariant in
-    let after = c.if-not-carries_window.ensures in
-    record {
-      same_code = after.code ∙ before.same_code;
-      works = after.works refl;
-      nothing_flies = after.nothing_flies refl;
-      room = subst (λ (code : Code). 32 * length code.net.links ≤ g.K.Links.room c.carries_window.new.links) before.same_code (after.room refl);
-      next = omega (arith, after.next, before.next);
-    }
+pub carries_windows-requires-clause-nothing_flies : goal.carries_windows-requires-clause-nothing_flies
+carries_windows-requires-clause-nothing_flies g c κs within = (opened_here g (goal.at.carries_windows-requires-clause-nothing_flies g c).In-Ok-open).0
+
+pub carries_windows-requires-clause-room : goal.carries_windows-requires-clause-room
+carries_windows-requires-clause-room g c κs within =
+    subst (λ (code : Code). 32 * length code.net.links ≤ g.K.Links.room c.open.new.links) (sym c.in-Ok-open.ensures.code)
+    (opened_here g (goal.at.carries_windows-requires-clause-room g c).In-Ok-open).1

@@ -1,7 +1,7 @@
 -- The network with a sink behind each two of four nodes is one that is made.
 use Rattle.std.proofs.Common.{◌≡◌, arith, refl}
 use Rattle.net_maker.specs.Subsets.{binomial}
-use Rattle.worked_carries.proofs.tests.gates.two_meet.Goals as goal
+use Rattle.worked_carries.proofs.tests.gates.combination_meets.Goals as goal
 
 pub combination_code-requires-after_bounds : goal.combination_code-requires-after_bounds
 unfolding binomial

@@ -2,7 +2,7 @@ use Rattle.std.specs.Prelude.{◌≡◌, ◌≤◌, ◌*◌, ℕ, [], false, len
 use Rattle.lif_outside.specs.declared.links.Links.{Ghosts as LinksGhosts}
 use Rattle.node_program.specs.declared.code.Code.{Code}
 use Rattle.relay_runner.specs.Running.{Running}
-use Rattle.worked_carries.proofs.tests.carrying.carries_over.Given as goal
+use Rattle.worked_carries.proofs.tests.carrying.carries_windows.Given as goal
 
 -- A runner of a code that can carry the next window, after so many of at most 4 blocks.
 pub record IsReady {L : Type 0} (g : LinksGhosts L) (code : Code) (windows : ℕ) (runner : Running) (links : L) : Type 0 where
@@ -14,4 +14,4 @@ pub record IsReady {L : Type 0} (g : LinksGhosts L) (code : Code) (windows : ℕ
 
 -- the windows so far have come to the sinks
 abbrev pub invariant-windows : goal.invariant-windows
-invariant-windows g l = IsReady g.K.Links l.checked l.turn l.runner l.links
+invariant-windows g l = IsReady g.K.Links l.fn.runner.code l.turn l.runner l.links
