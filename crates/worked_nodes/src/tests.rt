@@ -6,4 +6,5 @@ mod links;
 mod many_links;
 mod repeats;
 mod runs;
+mod told;
 mod windows;

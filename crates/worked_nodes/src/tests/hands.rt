@@ -1,13 +1,15 @@
 //! A node and a sink, of which a call is made only where it may be: that is looked at when it is made.
-ghost use Rattle.std.specs.Prelude.{◌≡◌, ◌<◌, ◌≤◌, ◌+◌, ◌^◌, true, length};
+ghost use Rattle.std.specs.Prelude.{◌≡◌, ◌<◌, ◌≤◌, ◌+◌, ◌^◌, IfOk, true, length};
 ghost use Rattle.gf_tables.specs.Kind.{IsOfKind};
+ghost use Rattle.node_plans.specs.Plans.{plan_of};
 ghost use Rattle.relay_node.specs.Relay.{HasNothing};
 
 use code_checker::{CheckRefusal, Checked};
 use generation_frame::{Accepted, PIECES, Packet, ROW};
 use gf_tables::Field;
-use net_model::Demand;
+use net_model::{Demand, LinkList};
 use node_plans::{Plan, Wiring};
+use node_program::Code;
 use relay_node::Node;
 use sink_decoder::Decoder;
 use std::alloc::{AllocError, AllocFailed, Global};
@@ -104,13 +106,27 @@ fn feed_each<F: Field>(
     Ok(())
 }
 
+// What a node does of a code under a pattern.
+fn planned(alloc: Global, code: &Code, pattern: u32, node: u32) -> Result<Plan, AllocError>
+    requires pattern { pattern < length code.now.net.patterns }
+    requires node { node < length code.now.net.nodes }
+    ensures { IfOk result (λ plan. plan ≡ plan_of code.now pattern node) }
+{
+    let wiring = Wiring::of(alloc, code, pattern)?;
+    wiring.plan(alloc, code, pattern, node)
+}
+
 /// A node that has begun generations.
 #[derive(Drop)]
 pub(super) struct Worker<F> {
-    plan: Plan,
+    is_source: bool,
+    rate: u32,
+    ins: LinkList,
     span: Span,
     node: Node<F>,
-    ghost planned: { node.plan ≡ plan },
+    ghost of_source: { node.plan.is_source ≡ is_source },
+    ghost of_rate: { node.plan.rate ≡ rate },
+    ghost of_ins: { node.plan.ins ≡ ins },
     ghost from_first: { node.first ≡ span.first },
     ghost has_count: { node.count ≡ span.count },
 }
@@ -128,11 +144,16 @@ impl<F: Field> Worker<F> {
         requires node { node < length code.now.net.nodes }
         requires field { IsOfKind code.now.field F.SIZE F.BYTES F.MARK F.product }
     {
-        let wiring = Wiring::of(alloc, code.code(), pattern)?;
-        let plan = wiring.plan(alloc, code.code(), pattern, node)?;
+        let plan = planned(alloc, code.code(), pattern, node)?;
         let mut node = Node::open(alloc, code, pattern, node)?;
         node.begin(span.first, span.count);
-        Ok(Worker { plan, span, node })
+        Ok(Worker {
+            is_source: plan.is_source,
+            rate: plan.rate,
+            ins: plan.ins,
+            span,
+            node,
+        })
     }
 
     /// Begins generations anew.
@@ -143,17 +164,17 @@ impl<F: Field> Worker<F> {
 
     /// Begins generations anew, and takes in their blocks, which stand one after another.
     pub(super) fn feed(&mut self, span: Span, blocks: &[u8]) -> Result<(), Wrong> {
-        if !self.plan.is_source {
+        if !self.is_source {
             return Err(Wrong::Call);
         }
         self.node.begin(span.first, span.count);
         self.span = span;
-        feed_each(&mut self.node, span, self.plan.rate, blocks)
+        feed_each(&mut self.node, span, self.rate, blocks)
     }
 
     /// Takes a packet in.
     pub(super) fn accept(&mut self, packet: &Packet) -> Result<Accepted, Wrong> {
-        let comes_in = self.plan.ins.as_slice().contains(&packet.link);
+        let comes_in = self.ins.as_slice().contains(&packet.link);
         if !comes_in || !self.span.has(packet.generation) || packet.piece as usize >= PIECES {
             return Err(Wrong::Call);
         }
@@ -235,5 +256,30 @@ impl<F: Field> Taker<F> {
         let mut block = vec![in alloc; 1; self.rate as usize * ROW]?;
         self.sink.block(generation, &mut block);
         Ok(Some(block))
+    }
+
+    // Whether the block of a generation, of which all has come, is this one.
+    fn has(&self, alloc: Global, generation: u32, block: &[u8]) -> Result<bool, Wrong> {
+        match self.block(alloc, generation)? {
+            Some(found) => Ok(found.as_slice() == block),
+            None => Err(Wrong::NotWhole),
+        }
+    }
+
+    /// Whether the blocks of its generations, of which all has come, are these, which stand one after another.
+    pub(super) fn decodes(&self, alloc: Global, blocks: &[u8]) -> Result<bool, Wrong> {
+        let mut rest = blocks;
+        for place in 0..self.span.count {
+            match rest.split_at_checked(self.rate as usize * ROW) {
+                Some((block, behind)) => {
+                    if !self.has(alloc, self.span.first + place, block)? {
+                        return Ok(false);
+                    }
+                    rest = behind;
+                }
+                None => return Ok(false),
+            }
+        }
+        Ok(rest.is_empty())
     }
 }

@@ -1,11 +1,12 @@
 //! A node with as many links as a network may have.
 use super::hands::{Span, Worker, Wrong};
-use super::repeats::{packet_of, worker};
+use super::repeats::packet_of;
+use super::runs::{Hands, open_file};
 use generation_frame::Accepted;
 use gf_tables::Gf8;
 use std::alloc::{AllocError, Global};
 use std::test;
-use worked_rows::codes::checked_of;
+use std::thread::Threads;
 
 // How many links leave the node.
 const OUTS: u32 = 8191;
@@ -55,21 +56,52 @@ fn gives_on_each(worker: &mut Worker<Gf8>, generation: u32, piece: u8) -> bool {
     worker.next_out().is_none()
 }
 
-#[test]
-fn a_node_gives_on_8191_links(rt: HostRuntime) -> Result<(), test::Fail> {
-    let alloc = rt.alloc();
-    let file = file_of(alloc)?;
-    let code = checked_of(&rt, alloc, &file)?;
-    let mut worker = worker(alloc, &code, 1, Span::of(0, 4)?)?;
-    for (generation, piece) in [(0, 0), (3, 7), (1, 4)] {
-        let packet = packet_of(0, generation, piece, 1);
-        assert_eq!(rt; worker.accept(&packet), Ok(Accepted::New));
-        assert!(rt;
-            gives_on_each(&mut worker, generation, piece),
-            "{generation}"
-        );
-        assert_eq!(rt; worker.accept(&packet), Ok(Accepted::Known));
-        assert!(rt; worker.next_out().is_none());
+// Whether a piece comes once, and is given on each link once.
+fn comes_once(worker: &mut Worker<Gf8>, generation: u32, piece: u8) -> Result<bool, Wrong> {
+    let packet = packet_of(0, generation, piece, 1);
+    Ok(
+        worker.accept(&packet)? == Accepted::New
+            && gives_on_each(worker, generation, piece)
+            && worker.accept(&packet)? == Accepted::Known
+            && worker.next_out().is_none(),
+    )
+}
+
+// Pieces, each of another generation.
+const PIECES: &[(u32, u8)] = &[(0, 0), (3, 7), (1, 4)];
+
+// Whether they come once.
+fn each_comes_once(worker: &mut Worker<Gf8>) -> Result<bool, Wrong> {
+    for &(generation, piece) in PIECES {
+        if !comes_once(worker, generation, piece)? {
+            return Ok(false);
+        }
     }
-    Ok(())
+    Ok(true)
+}
+
+// Whether they do at the node of the code of a file.
+fn each_comes_to_node<R: Threads + Sync>(
+    rt: &R,
+    alloc: Global,
+    file: &[u8],
+    hands: &mut Hands<Gf8>,
+) -> Result<bool, Wrong> {
+    open_file(rt, alloc, file, Span::of(0, 4)?, hands)?;
+    match hands.workers.get_mut(1) {
+        Some(worker) => each_comes_once(worker),
+        None => Err(Wrong::Call),
+    }
+}
+
+// The same, of that code.
+fn each_comes_through<R: Threads + Sync>(rt: &R, alloc: Global) -> Result<bool, Wrong> {
+    let file = file_of(alloc)?;
+    let mut hands = Hands::new(alloc);
+    each_comes_to_node(rt, alloc, &file, &mut hands)
+}
+
+#[test]
+fn a_node_gives_on_8191_links(rt: HostRuntime) {
+    assert_eq!(rt; each_comes_through(&rt, rt.alloc()), Ok(true));
 }

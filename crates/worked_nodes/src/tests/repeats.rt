@@ -1,50 +1,14 @@
 //! Pieces that come again, with the same bytes or with others, and generations that are begun again.
 use super::hands::{Span, Taker, Worker, Wrong};
-use super::runs::is_of_runs;
-use code_checker::Checked;
+use super::runs::{Hands, open_file};
+use super::told::is_of_runs;
 use generation_frame::Accepted::{Known, New};
 use generation_frame::{Accepted, Packet};
-use gf_tables::{FieldKind, Gf8};
-use net_model::Demand;
+use gf_tables::Gf8;
 use std::alloc::Global;
 use std::test;
-use worked_rows::codes::checked_of;
+use std::thread::Threads;
 use worked_rows::files::{BUTTERFLY, ONE_LINK};
-
-/// A node of a code over the field of 256 elements, where no link fails.
-#[tactic(auto, unfolding(gf_tables::specs::Product::product))]
-pub(super) fn worker(
-    alloc: Global,
-    code: &Checked,
-    node: u32,
-    span: Span,
-) -> Result<Worker<Gf8>, Wrong> {
-    let code_of = code.code();
-    if node as usize >= code_of.net.nodes.len() || code_of.net.patterns.is_empty() {
-        return Err(Wrong::Call);
-    }
-    match code_of.field {
-        FieldKind::Eight => Worker::open(alloc, code, 0, node, span),
-        FieldKind::Sixteen => Err(Wrong::Call),
-    }
-}
-
-// Its first sink.
-#[tactic(auto, unfolding(gf_tables::specs::Product::product))]
-fn taker(alloc: Global, code: &Checked, span: Span) -> Result<Taker<Gf8>, Wrong> {
-    let code_of = code.code();
-    if code_of.net.sinks.is_empty() || code_of.net.patterns.is_empty() {
-        return Err(Wrong::Call);
-    }
-    let demand = Demand {
-        sink: 0,
-        pattern: 0,
-    };
-    match code_of.field {
-        FieldKind::Eight => Taker::open(alloc, code, demand, span),
-        FieldKind::Sixteen => Err(Wrong::Call),
-    }
-}
 
 /// A packet of so many times one byte.
 pub(super) fn packet_of(link: u32, generation: u32, piece: u8, byte: u8) -> Packet {
@@ -56,68 +20,114 @@ pub(super) fn packet_of(link: u32, generation: u32, piece: u8, byte: u8) -> Pack
     }
 }
 
-// What is done with a node: it begins so many generations from one on, or it is given a packet by its link, generation,
-// piece and byte, says whether it was new, and gives then the piece of such a byte on another link, or none.
-enum Step {
-    Begins(u32, u32),
-    Comes(u32, u32, u8, u8, Accepted, Option<u8>),
-}
+// A node is given a packet by its link, generation, piece and byte, says whether it was new, and gives then the piece of
+// such a byte on another link, or none.
+type Step = (u32, u32, u8, u8, Accepted, Option<u8>);
 
-// The node from which the link 6 of the butterfly leaves adds what comes on the links 4 and 5.
-const STEPS: &[Step] = &[
-    Step::Comes(4, 3, 5, 0x01, New, None),
-    Step::Comes(4, 3, 5, 0x01, Known, None),
-    // Another payload isn't taken.
-    Step::Comes(4, 3, 5, 0x10, Known, None),
-    Step::Comes(5, 3, 5, 0x02, New, Some(0x03)),
-    // What was given isn't given again.
-    Step::Comes(5, 3, 5, 0x02, Known, None),
-    Step::Comes(4, 3, 5, 0x30, Known, None),
-    // Another piece, and another generation.
-    Step::Comes(4, 3, 6, 0x11, New, None),
-    Step::Comes(5, 4, 6, 0x22, New, None),
-    Step::Comes(5, 3, 6, 0x44, New, Some(0x55)),
-    Step::Comes(4, 4, 6, 0x88, New, Some(0xaa)),
-    Step::Comes(4, 4, 0, 0x01, New, None),
+// What is done with a node each time that it has begun so many generations from one on. The node from which the link 6 of
+// the butterfly leaves adds what comes on the links 4 and 5.
+const TURNS: &[(u32, u32, &[Step])] = &[
+    (
+        3,
+        2,
+        &[
+            (4, 3, 5, 0x01, New, None),
+            (4, 3, 5, 0x01, Known, None),
+            // Another payload isn't taken.
+            (4, 3, 5, 0x10, Known, None),
+            (5, 3, 5, 0x02, New, Some(0x03)),
+            // What was given isn't given again.
+            (5, 3, 5, 0x02, Known, None),
+            (4, 3, 5, 0x30, Known, None),
+            // Another piece, and another generation.
+            (4, 3, 6, 0x11, New, None),
+            (5, 4, 6, 0x22, New, None),
+            (5, 3, 6, 0x44, New, Some(0x55)),
+            (4, 4, 6, 0x88, New, Some(0xaa)),
+            (4, 4, 0, 0x01, New, None),
+        ],
+    ),
     // Begun again, nothing has come and nothing was given.
-    Step::Begins(3, 2),
-    Step::Comes(5, 4, 0, 0x04, New, None),
-    Step::Comes(5, 3, 5, 0x40, New, None),
-    Step::Comes(4, 3, 5, 0x05, New, Some(0x45)),
-    Step::Comes(4, 4, 0, 0x09, New, Some(0x0d)),
+    (
+        3,
+        2,
+        &[
+            (5, 4, 0, 0x04, New, None),
+            (5, 3, 5, 0x40, New, None),
+            (4, 3, 5, 0x05, New, Some(0x45)),
+            (4, 4, 0, 0x09, New, Some(0x0d)),
+        ],
+    ),
     // The next generations have the room of those.
-    Step::Begins(4, 1),
-    Step::Comes(4, 4, 5, 0x0a, New, None),
-    Step::Comes(5, 4, 5, 0x0c, New, Some(0x06)),
+    (
+        4,
+        1,
+        &[(4, 4, 5, 0x0a, New, None), (5, 4, 5, 0x0c, New, Some(0x06))],
+    ),
 ];
+
+// Whether a node gives a piece of a byte on the link 6 alone, or nothing.
+fn gives(worker: &mut Worker<Gf8>, generation: u32, piece: u8, byte: Option<u8>) -> bool {
+    let is_given = match byte {
+        Some(sum) => worker.next_out() == Some(packet_of(6, generation, piece, sum)),
+        None => true,
+    };
+    is_given && worker.next_out().is_none()
+}
 
 // Does a step, and says whether all is as it tells.
 fn is_done(worker: &mut Worker<Gf8>, step: &Step) -> Result<bool, Wrong> {
-    match *step {
-        Step::Begins(first, count) => {
-            worker.begin(Span::of(first, count)?);
-            Ok(worker.next_out().is_none())
+    let &(link, generation, piece, byte, accepted, sum) = step;
+    let said = worker.accept(&packet_of(link, generation, piece, byte))?;
+    Ok(said == accepted && gives(worker, generation, piece, sum))
+}
+
+// The first of the steps that isn't as told.
+fn first_wrong_step(worker: &mut Worker<Gf8>, steps: &[Step]) -> Result<Option<usize>, Wrong> {
+    for (number, step) in steps.iter().enumerate() {
+        if !is_done(worker, step)? {
+            return Ok(Some(number));
         }
-        Step::Comes(link, generation, piece, byte, accepted, gives) => {
-            let said = worker.accept(&packet_of(link, generation, piece, byte))?;
-            let given = worker.next_out();
-            let is_given = match gives {
-                Some(sum) => given == Some(packet_of(6, generation, piece, sum)),
-                None => given.is_none(),
-            };
-            Ok(said == accepted && is_given && worker.next_out().is_none())
+    }
+    Ok(None)
+}
+
+// The first of the turns that isn't as told, and the step of it.
+fn first_wrong_turn(worker: &mut Worker<Gf8>) -> Result<Option<(usize, usize)>, Wrong> {
+    for (number, &(first, count, steps)) in TURNS.iter().enumerate() {
+        worker.begin(Span::of(first, count)?);
+        if worker.next_out().is_some() {
+            return Ok(Some((number, 0)));
         }
+        if let Some(step) = first_wrong_step(worker, steps)? {
+            return Ok(Some((number, step)));
+        }
+    }
+    Ok(None)
+}
+
+// The same at a node of the butterfly.
+fn wrong_turn_at<R: Threads + Sync>(
+    rt: &R,
+    alloc: Global,
+    hands: &mut Hands<Gf8>,
+) -> Result<Option<(usize, usize)>, Wrong> {
+    open_file(rt, alloc, BUTTERFLY, Span::of(3, 2)?, hands)?;
+    match hands.workers.get_mut(5) {
+        Some(worker) => first_wrong_turn(worker),
+        None => Err(Wrong::Call),
     }
 }
 
+// The same, where none is open before.
+fn wrong_turn<R: Threads + Sync>(rt: &R, alloc: Global) -> Result<Option<(usize, usize)>, Wrong> {
+    let mut hands = Hands::new(alloc);
+    wrong_turn_at(rt, alloc, &mut hands)
+}
+
 #[test]
-fn a_node_takes_the_first_payload(rt: HostRuntime) -> Result<(), test::Fail> {
-    let code = checked_of(&rt, rt.alloc(), BUTTERFLY)?;
-    let mut worker = worker(rt.alloc(), &code, 5, Span::of(3, 2)?)?;
-    for (number, step) in STEPS.iter().enumerate() {
-        assert_eq!(rt; is_done(&mut worker, step), Ok(true), "step {number}");
-    }
-    Ok(())
+fn a_node_takes_the_first_payload(rt: HostRuntime) {
+    assert_eq!(rt; wrong_turn(&rt, rt.alloc()), Ok(None));
 }
 
 // The sink of one link is given these pieces of a generation, each so many times a byte, and says of each whether it was
@@ -169,22 +179,48 @@ fn has_block(alloc: Global, taker: &Taker<Gf8>, row: &Row) -> Result<bool, Wrong
     }
 }
 
-// Whether all is as the rows tell.
-fn are_done(alloc: Global, taker: &mut Taker<Gf8>, rows: &[Row]) -> Result<bool, Wrong> {
-    for row in rows {
+// The first of the rows that isn't as told, where the sink is begun before.
+fn first_wrong_row(
+    alloc: Global,
+    taker: &mut Taker<Gf8>,
+    rows: &[Row],
+) -> Result<Option<usize>, Wrong> {
+    taker.begin(Span::of(3, 2)?);
+    for (number, row) in rows.iter().enumerate() {
         if !are_taken(taker, row)? || !has_block(alloc, taker, row)? {
-            return Ok(false);
+            return Ok(Some(number));
         }
     }
-    Ok(true)
+    Ok(None)
+}
+
+// The same of all rows.
+fn first_wrong_rows(alloc: Global, taker: &mut Taker<Gf8>) -> Result<[Option<usize>; 2], Wrong> {
+    let first = first_wrong_row(alloc, taker, ROWS)?;
+    let again = first_wrong_row(alloc, taker, ROWS_AGAIN)?;
+    Ok([first, again])
+}
+
+// The same at the sink of one link.
+fn wrong_rows_at<R: Threads + Sync>(
+    rt: &R,
+    alloc: Global,
+    hands: &mut Hands<Gf8>,
+) -> Result<[Option<usize>; 2], Wrong> {
+    open_file(rt, alloc, ONE_LINK, Span::of(3, 2)?, hands)?;
+    match hands.takers.first_mut() {
+        Some(taker) => first_wrong_rows(alloc, taker),
+        None => Err(Wrong::Call),
+    }
+}
+
+// The same, where none is open before.
+fn wrong_rows<R: Threads + Sync>(rt: &R, alloc: Global) -> Result<[Option<usize>; 2], Wrong> {
+    let mut hands = Hands::new(alloc);
+    wrong_rows_at(rt, alloc, &mut hands)
 }
 
 #[test]
-fn a_sink_takes_the_first_payload(rt: HostRuntime) -> Result<(), test::Fail> {
-    let code = checked_of(&rt, rt.alloc(), ONE_LINK)?;
-    let mut taker = taker(rt.alloc(), &code, Span::of(3, 2)?)?;
-    assert_eq!(rt; are_done(rt.alloc(), &mut taker, ROWS), Ok(true));
-    taker.begin(Span::of(3, 2)?);
-    assert_eq!(rt; are_done(rt.alloc(), &mut taker, ROWS_AGAIN), Ok(true));
-    Ok(())
+fn a_sink_takes_the_first_payload(rt: HostRuntime) {
+    assert_eq!(rt; wrong_rows(&rt, rt.alloc()), Ok([None, None]));
 }

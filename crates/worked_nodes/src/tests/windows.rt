@@ -1,8 +1,10 @@
 //! Several generations at work together, under numbers that begin anywhere.
-use super::hands::Span;
-use super::runs::{ORDERS, send};
+use super::hands::Wrong;
+use super::runs::wrong_row;
+use super::told::Told;
 use std::alloc::{AllocError, Global};
 use std::test;
+use std::thread::Threads;
 use worked_rows::files::{BUTTERFLY, ONE_LINK, TWO_WAYS};
 
 // Bytes that differ from block to block.
@@ -14,30 +16,80 @@ fn blocks_of(alloc: Global, size: u32, count: u32) -> Result<Vec<u8>, AllocError
     Ok(bytes)
 }
 
-// A code's file, the size of its blocks, a pattern, the live links, and the number of sinks.
-type Row = (&'static [u8], u32, u32, &'static [u32], usize);
-
-const ROWS: &[Row] = &[
-    (ONE_LINK, 1024, 0, &[0], 1),
-    (TWO_WAYS, 1024, 1, &[1, 3], 1),
-    (BUTTERFLY, 2048, 0, &[0, 1, 2, 3, 4, 5, 6, 7, 8], 2),
+// Codes, by the size of their blocks.
+const ROWS: &[(u32, &[Told])] = &[
+    (
+        1024,
+        &[
+            Told {
+                file: ONE_LINK,
+                pattern: 0,
+                live: &[0],
+                pieces: &[],
+                sinks: 1,
+            },
+            Told {
+                file: TWO_WAYS,
+                pattern: 1,
+                live: &[1, 3],
+                pieces: &[],
+                sinks: 1,
+            },
+        ],
+    ),
+    (
+        2048,
+        &[Told {
+            file: BUTTERFLY,
+            pattern: 0,
+            live: &[0, 1, 2, 3, 4, 5, 6, 7, 8],
+            pieces: &[],
+            sinks: 2,
+        }],
+    ),
 ];
 
-#[test]
-fn frames_of_generations_mix(rt: HostRuntime) -> Result<(), test::Fail> {
-    for (row, &(file, size, pattern, live, sinks)) in ROWS.iter().enumerate() {
-        for first in [0, 7, 0xffff_fffc] {
-            for count in [1, 2, 3, 4] {
-                let span = Span::of(first, count)?;
-                let blocks = blocks_of(rt.alloc(), size, count)?;
-                for order in ORDERS {
-                    let sent = send(&rt, rt.alloc(), file, pattern, span, &blocks, order)?;
-                    let name = (row, first, count, order);
-                    assert!(rt; sent.is_on(live, span), "{name:?}");
-                    assert!(rt; sent.decodes(&blocks, sinks), "{name:?}");
-                }
+// Whether so many blocks of a size come through codes, from a number on.
+fn size_comes<R: Threads + Sync>(
+    rt: &R,
+    alloc: Global,
+    size: u32,
+    codes: &[Told],
+    first: u32,
+    count: u32,
+) -> Result<bool, Wrong> {
+    let blocks = blocks_of(alloc, size, count)?;
+    Ok(wrong_row(rt, alloc, codes, first, count, &blocks)?.is_none())
+}
+
+// Whether they do of all sizes.
+fn all_come<R: Threads + Sync>(
+    rt: &R,
+    alloc: Global,
+    first: u32,
+    count: u32,
+) -> Result<bool, Wrong> {
+    for &(size, codes) in ROWS {
+        if !size_comes(rt, alloc, size, codes, first, count)? {
+            return Ok(false);
+        }
+    }
+    Ok(true)
+}
+
+// The first number and the count with which they don't.
+fn lost_numbers<R: Threads + Sync>(rt: &R, alloc: Global) -> Result<Option<(u32, u32)>, Wrong> {
+    for &first in &[0, 7, 0xffff_fffc] {
+        for count in 1..=4 {
+            if !all_come(rt, alloc, first, count)? {
+                return Ok(Some((first, count)));
             }
         }
     }
-    Ok(())
+    Ok(None)
+}
+
+#[test]
+fn frames_of_generations_mix(rt: HostRuntime) {
+    assert_eq!(rt; lost_numbers(&rt, rt.alloc()), Ok(None));
 }
