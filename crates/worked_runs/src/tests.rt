@@ -22,7 +22,6 @@ use std::process::Abort;
 use std::test;
 use std::thread::Threads;
 use worked_rows::files::ONE_LINK;
-use worked_rows::runs::words_of;
 
 // How a run ends, as tables may hold it.
 #[derive(Clone, Copy)]
@@ -44,6 +43,14 @@ enum Ending {
 }
 
 impl Ending {
+    // How the program ends where the line can't be said: that's a fault only where all else was done.
+    fn unsaid(self) -> Ending {
+        match self {
+            Ending::Done => Ending::WriteFault,
+            refusal => refusal,
+        }
+    }
+
     fn status(self) -> Status {
         match self {
             Ending::Done => Status::Done,
@@ -73,7 +80,8 @@ impl Ending {
 #[derive(Clone, Copy)]
 struct Run<'a> {
     name: &'a str,
-    words: &'a [&'a str],
+    // The words, with a space between each two.
+    words: &'a str,
     // What stands at `code`, at `src`, and at other paths.
     code: Option<&'a [u8]>,
     source: Option<&'a [u8]>,
@@ -84,66 +92,68 @@ struct Run<'a> {
     say_fails: &'a [u64],
     status: Ending,
     line: &'a str,
-    // At which paths the source stands then, and what stands at others, or that nothing does. Each other file stands
-    // as before.
-    received: &'a [&'a str],
-    made: &'a [(&'a str, Option<&'a [u8]>)],
+    // At which paths the source stands then, with a space between each two, and what stands at others. Each other file
+    // stands as before.
+    received: &'a str,
+    made: &'a [(&'a str, &'a [u8])],
 }
 
-const SEND: &[&str] = &["send", "code", "none", "1", "src", "out"];
+const SEND: &str = "send code none 1 src out";
 
-const CHECK: &[&str] = &["check", "code"];
+const CHECK: &str = "check code";
 
 // The files of the one link's sink, and of the butterfly's.
-const ONE_SINK: &[&str] = &["out.t"];
+const ONE_SINK: &str = "out.t";
 
-const TWO_SINKS: &[&str] = &["out.t1", "out.t2"];
+const TWO_SINKS: &str = "out.t1 out.t2";
 
-// One byte is sent over one link.
-const ONE_BYTE: Run<'static> = Run {
-    name: "one byte",
-    words: SEND,
-    code: Some(ONE_LINK),
+// Where nothing stands but what a run tells of.
+const PATHS: &str = "code src out.t out.t0 out.t1 out.t2 out.t254";
+
+// A run without words and without a code.
+const NO_WORDS: Run<'static> = Run {
+    name: "no words",
+    words: "",
+    code: None,
     source: Some(b"A"),
     files: &[],
     most: 65536,
     fails: &[],
     say_fails: &[],
     status: Ending::Done,
-    line: "sent 1 bytes in 1 generations to 1 sinks\n",
-    received: ONE_SINK,
+    line: "",
+    received: "",
     made: &[],
 };
 
 // No output is made.
 const NO_OUTPUT: Run<'static> = Run {
     name: "no output",
-    received: &[],
-    made: &[("out.t", None), ("out.t1", None), ("out.t2", None)],
-    ..ONE_BYTE
+    words: SEND,
+    code: Some(ONE_LINK),
+    ..NO_WORDS
+};
+
+// One byte is sent over one link.
+const ONE_BYTE: Run<'static> = Run {
+    name: "one byte",
+    line: "sent 1 bytes in 1 generations to 1 sinks\n",
+    received: ONE_SINK,
+    ..NO_OUTPUT
 };
 
 // The letters from `A` on, again and again.
 fn letters(alloc: Global, count: usize) -> Result<Vec<u8>, AllocError> {
-    let mut bytes = Vec::with_capacity(alloc, count)?;
-    for place in 0..count {
-        bytes.push(b'A' + (place % 26) as u8)?;
-    }
-    Ok(bytes)
+    (0..count)
+        .map(|place| b'A' + (place % 26) as u8)
+        .collect(alloc)
 }
 
 // A file's bytes with others in their place from a byte on.
 fn changed(alloc: Global, file: &[u8], at: usize, put: &[u8]) -> Result<Vec<u8>, AllocError> {
-    let mut bytes = Vec::with_capacity(alloc, file.len())?;
-    for byte in file.iter().take(at) {
-        bytes.push(*byte)?;
-    }
-    for byte in put {
-        bytes.push(*byte)?;
-    }
-    for byte in file.iter().skip(bytes.len()) {
-        bytes.push(*byte)?;
-    }
+    let mut bytes = Vec::from_slice(alloc, file.get(..at).unwrap_or(file))?;
+    bytes.extend_from_slice(put)?;
+    bytes.extend_from_slice(file.get(bytes.len()..).unwrap_or_default())?;
     Ok(bytes)
 }
 
@@ -159,20 +169,44 @@ fn call<R: Threads + Sync>(
     lif(rt, alloc, words, store, say, &mut links, &NoGate)
 }
 
-// Whether a run tells what stands at a path then.
-fn is_told(run: &Run<'_>, path: &str) -> bool {
-    run.received.iter().any(|&told| told == path) || run.made.iter().any(|&(told, _)| told == path)
+// The words of a line, which have a space between each two.
+fn words_in(alloc: Global, line: &str) -> Result<Vec<String>, AllocError> {
+    if line.is_empty() {
+        return Ok(Vec::new(alloc));
+    }
+    line.split(' ')
+        .map(|word| String::from_str(alloc, word))
+        .try_collect(alloc)
 }
 
-// Does a run, and looks at all that comes of it.
-fn check<R: Abort + Threads + Sync>(
-    rt: &R,
-    alloc: Global,
-    run: &Run<'_>,
-) -> Result<(), test::Fail> {
-    let name = run.name;
-    let mut store = MemStore::new(alloc, run.most.max(1), Vec::from_slice(alloc, run.fails)?);
-    let mut say = MemSink::new(alloc, Vec::from_slice(alloc, run.say_fails)?);
+// What stands at a path among files.
+fn file_at<'a>(files: &[(&'a str, &'a [u8])], path: &str) -> Option<&'a [u8]> {
+    for &(at, bytes) in files {
+        if at == path {
+            return Some(bytes);
+        }
+    }
+    None
+}
+
+// Whether a path is one of these, which have spaces between them.
+fn is_among(paths: &str, path: &str) -> bool {
+    paths.split_whitespace().any(|other| other == path)
+}
+
+// What stands at a path, as a run tells it.
+fn told<'a>(run: &Run<'a>, path: &str) -> Option<&'a [u8]> {
+    if path == "code" {
+        run.code
+    } else if path == "src" || is_among(run.received, path) {
+        run.source
+    } else {
+        file_at(run.made, path).or(file_at(run.files, path))
+    }
+}
+
+// Puts the files of a run into the store.
+fn put_files(alloc: Global, store: &mut MemStore, run: &Run<'_>) -> Result<(), AllocError> {
     if let Some(code) = run.code {
         store.put_file(alloc, "code", code)?;
     }
@@ -182,23 +216,116 @@ fn check<R: Abort + Threads + Sync>(
     for &(path, bytes) in run.files {
         store.put_file(alloc, path, bytes)?;
     }
-    let words = words_of(alloc, run.words)?;
-    let status = call(rt, alloc, words.as_slice(), &mut store, &mut say);
-    assert_eq!(rt; status, run.status.status(), "{name}");
-    assert_eq!(rt; say.bytes(), run.line.as_bytes(), "{name}");
-    assert!(rt; store.file("code") == run.code, "{name}: code");
-    assert!(rt; store.file("src") == run.source, "{name}: src");
-    for &(path, bytes) in run.files {
-        assert!(rt;
-            is_told(run, path) || store.file(path) == Some(bytes),
-            "{name}: {path}"
-        );
+    Ok(())
+}
+
+// The first of these paths where something else stands than a run tells.
+fn first_wrong_path<'a>(run: &Run<'_>, store: &MemStore, paths: &'a str) -> Option<&'a str> {
+    paths
+        .split_whitespace()
+        .find(|&path| store.file(path) != told(run, path))
+}
+
+// The same for the paths of files.
+fn first_wrong_file<'a>(
+    run: &Run<'_>,
+    store: &MemStore,
+    files: &[(&'a str, &[u8])],
+) -> Option<&'a str> {
+    for &(path, _) in files {
+        if store.file(path) != told(run, path) {
+            return Some(path);
+        }
     }
-    for &path in run.received {
-        assert!(rt; store.file(path) == run.source, "{name}: {path}");
+    None
+}
+
+// The first thing that isn't as a run tells: `status`, `line`, or a path.
+fn first_wrong<'a>(
+    run: &Run<'a>,
+    status: &Status,
+    store: &MemStore,
+    say: &MemSink,
+) -> Option<&'a str> {
+    if *status != run.status.status() {
+        Some("status")
+    } else if say.bytes() != run.line.as_bytes() {
+        Some("line")
+    } else {
+        first_wrong_path(run, store, PATHS)
+            .or(first_wrong_path(run, store, run.received))
+            .or(first_wrong_file(run, store, run.made))
+            .or(first_wrong_file(run, store, run.files))
     }
-    for &(path, bytes) in run.made {
-        assert!(rt; store.file(path) == bytes, "{name}: {path}");
+}
+
+// Does a run with this store and this sink, and looks at all that comes of it.
+fn run_with<'a, R: Threads + Sync>(
+    rt: &R,
+    alloc: Global,
+    run: &Run<'a>,
+    store: &mut MemStore,
+    say: &mut MemSink,
+) -> Result<Option<&'a str>, AllocError> {
+    put_files(alloc, store, run)?;
+    let words = words_in(alloc, run.words)?;
+    let status = call(rt, alloc, words.as_slice(), store, say);
+    Ok(first_wrong(run, &status, store, say))
+}
+
+// Does a run, and tells the first thing that isn't as it tells.
+fn outcome<'a, R: Threads + Sync>(
+    rt: &R,
+    alloc: Global,
+    run: &Run<'a>,
+) -> Result<Option<&'a str>, AllocError> {
+    let fails = Vec::from_slice(alloc, run.fails)?;
+    let say_fails = Vec::from_slice(alloc, run.say_fails)?;
+    let mut store = MemStore::new(alloc, run.most.max(1), fails);
+    let mut say = MemSink::new(alloc, say_fails);
+    run_with(rt, alloc, run, &mut store, &mut say)
+}
+
+// Does a run, of which all is as it tells.
+fn check<R: Abort + Threads + Sync>(
+    rt: &R,
+    alloc: Global,
+    run: &Run<'_>,
+) -> Result<(), test::Fail> {
+    let wrong = outcome(rt, alloc, run)?;
+    assert_eq!(rt; wrong, None, "{}", run.name);
+    Ok(())
+}
+
+// Does runs, of which all is as they tell.
+fn check_each<R: Abort + Threads + Sync>(
+    rt: &R,
+    alloc: Global,
+    runs: &[Run<'_>],
+) -> Result<(), test::Fail> {
+    for run in runs {
+        check(rt, alloc, run)?;
+    }
+    Ok(())
+}
+
+// Does runs that differ from one in their names and words.
+fn check_words<R: Abort + Threads + Sync>(
+    rt: &R,
+    alloc: Global,
+    run: &Run<'_>,
+    rows: &[(&str, &str)],
+) -> Result<(), test::Fail> {
+    for &(name, words) in rows {
+        check(
+            rt,
+            alloc,
+            &Run {
+                name,
+                words,
+                ..*run
+            },
+        )?;
     }
     Ok(())
 }
@@ -210,19 +337,36 @@ fn send_to<'a, R: Abort + Threads + Sync>(
     code: &'a [u8],
     source: &'a [u8],
     most: usize,
-    received: &'a [&'a str],
+    received: &'a str,
     line: &'a str,
 ) -> Result<(), test::Fail> {
     let run = Run {
         name: line,
+        words: SEND,
         code: Some(code),
         source: Some(source),
         most,
         received,
         line,
-        ..ONE_BYTE
+        ..NO_WORDS
     };
     check(rt, alloc, &run)
+}
+
+// Sources of these lengths are sent so, each with its line.
+fn send_each<R: Abort + Threads + Sync>(
+    rt: &R,
+    alloc: Global,
+    code: &[u8],
+    most: usize,
+    lengths: &[(usize, &str)],
+    received: &str,
+) -> Result<(), test::Fail> {
+    for &(count, line) in lengths {
+        let source = letters(alloc, count)?;
+        send_to(rt, alloc, code, source.as_slice(), most, received, line)?;
+    }
+    Ok(())
 }
 
 // A code is accepted, and nothing is made.
@@ -237,7 +381,7 @@ fn accept<'a, R: Abort + Threads + Sync>(
         words: CHECK,
         code: Some(code),
         line,
-        ..NO_OUTPUT
+        ..NO_WORDS
     };
     check(rt, alloc, &run)
 }

@@ -2,64 +2,92 @@
 use gf_tables::Field;
 use std::alloc::{AllocError, Global};
 
-/// A number of two bytes.
-pub(super) fn put_number(file: &mut Vec<u8>, number: u16) -> Result<(), AllocError> {
-    for byte in number.to_be_bytes() {
-        file.push(byte)?;
+/// A code file that is written, and whether memory ran out for bytes of it.
+#[derive(Drop)]
+pub(super) struct CodeWriter {
+    bytes: Vec<u8>,
+    is_cut: bool,
+}
+
+impl CodeWriter {
+    /// A file without bytes.
+    pub(super) fn new(alloc: Global) -> CodeWriter {
+        CodeWriter {
+            bytes: Vec::new(alloc),
+            is_cut: false,
+        }
     }
-    Ok(())
-}
 
-/// A name, behind its length.
-pub(super) fn put_name(file: &mut Vec<u8>, name: &str) -> Result<(), AllocError> {
-    file.push(u8::try_from(name.len()).unwrap_or(0))?;
-    file.extend_from_slice(name.as_bytes())
-}
-
-/// An element, of one or two bytes.
-pub(super) fn put_element<F: Field>(file: &mut Vec<u8>, element: u32) -> Result<(), AllocError> {
-    let bytes = element.to_be_bytes();
-    for byte in bytes.iter().skip(4usize.saturating_sub(F::BYTES)) {
-        file.push(*byte)?;
+    /// The whole file.
+    pub(super) fn done(self) -> Result<Vec<u8>, AllocError> {
+        if self.is_cut {
+            Err(AllocError)
+        } else {
+            Ok(self.bytes)
+        }
     }
-    Ok(())
-}
 
-/// A link with its tail and head.
-pub(super) fn put_link(
-    file: &mut Vec<u8>,
-    name: &str,
-    tail: u16,
-    head: u16,
-) -> Result<(), AllocError> {
-    put_name(file, name)?;
-    put_number(file, tail)?;
-    put_number(file, head)
-}
-
-/// An operand: a row or a link, and its coefficient.
-pub(super) fn put_operand<F: Field>(
-    file: &mut Vec<u8>,
-    from: u16,
-    times: u32,
-) -> Result<(), AllocError> {
-    put_number(file, from)?;
-    put_element::<F>(file, times)
-}
-
-/// The decoder of two links.
-pub(super) fn put_decoder<F: Field>(
-    file: &mut Vec<u8>,
-    links: [u16; 2],
-    matrix: [u32; 4],
-) -> Result<(), AllocError> {
-    for link in links {
-        put_number(file, link)?;
+    /// Bytes as they are.
+    pub(super) fn bytes(&mut self, bytes: &[u8]) {
+        self.is_cut |= self.bytes.extend_from_slice(bytes).is_err();
     }
-    for entry in matrix {
-        put_element::<F>(file, entry)?;
+
+    /// A number of two bytes.
+    pub(super) fn number(&mut self, number: u16) {
+        self.bytes(&number.to_be_bytes());
     }
-    Ok(())
+
+    /// Numbers.
+    pub(super) fn numbers(&mut self, numbers: &[u16]) {
+        for number in numbers {
+            self.number(*number);
+        }
+    }
+
+    /// A name, behind its length.
+    pub(super) fn name(&mut self, name: &str) {
+        self.bytes(&[u8::try_from(name.len()).unwrap_or(0)]);
+        self.bytes(name.as_bytes());
+    }
+
+    /// A name that was made, if memory was left for it.
+    pub(super) fn made_name(&mut self, name: Result<String, AllocError>) {
+        match name {
+            Ok(name) => self.name(name.as_str()),
+            Err(AllocError) => self.is_cut = true,
+        }
+    }
+
+    /// An element, of one or two bytes.
+    pub(super) fn element<F: Field>(&mut self, element: u32) {
+        let unused = 4usize.saturating_sub(F::BYTES);
+        self.bytes(element.to_be_bytes().get(unused..).unwrap_or_default());
+    }
+
+    /// Elements.
+    pub(super) fn elements<F: Field>(&mut self, elements: &[u32]) {
+        for element in elements {
+            self.element::<F>(*element);
+        }
+    }
+
+    /// An operand: a row or a link, and its coefficient.
+    pub(super) fn operand<F: Field>(&mut self, from: u16, times: u32) {
+        self.number(from);
+        self.element::<F>(times);
+    }
+
+    /// The operands of a link with one.
+    pub(super) fn one_operand<F: Field>(&mut self, from: u16, times: u32) {
+        self.number(1);
+        self.operand::<F>(from, times);
+    }
+
+    /// The decoder of two links.
+    pub(super) fn decoder<F: Field>(&mut self, links: [u16; 2], matrix: [u32; 4]) {
+        self.numbers(&links);
+        self.elements::<F>(&matrix);
+    }
 }
 
 // The element with a number, which is taken modulo the number of elements.

@@ -1,5 +1,5 @@
 //! A code with 300 demands: each sink has a link of its own.
-use super::making::{put_link, put_name, put_number, put_operand};
+use super::making::CodeWriter;
 use super::refusals::refuse;
 use super::{Ending, accept, changed};
 use gf_tables::Gf8;
@@ -14,48 +14,46 @@ const SINKS: u16 = 300;
 const DECODER: usize = 3;
 
 // The nodes, which are the source and the sinks, and the links.
-fn put_nodes_and_links(alloc: Global, file: &mut Vec<u8>) -> Result<(), AllocError> {
-    put_number(file, SINKS + 1)?;
-    put_name(file, "s")?;
+fn write_nodes_and_links(alloc: Global, file: &mut CodeWriter) {
+    file.number(SINKS + 1);
+    file.name("s");
     for sink in 1..=SINKS {
-        put_name(file, format!(in alloc; "t{sink}")?.as_str())?;
+        file.made_name(format!(in alloc; "t{sink}"));
     }
-    put_number(file, SINKS)?;
+    file.number(SINKS);
     for sink in 1..=SINKS {
-        put_link(file, format!(in alloc; "l{sink}")?.as_str(), 0, sink)?;
+        file.made_name(format!(in alloc; "l{sink}"));
+        file.numbers(&[0, sink]);
     }
-    Ok(())
 }
 
 // The source, the sinks, and no listed pattern.
-fn put_ends(file: &mut Vec<u8>) -> Result<(), AllocError> {
-    put_number(file, 0)?;
-    put_number(file, SINKS)?;
+fn write_ends(file: &mut CodeWriter) {
+    file.numbers(&[0, SINKS]);
     for sink in 1..=SINKS {
-        put_number(file, sink)?;
+        file.number(sink);
     }
-    put_number(file, 0)
+    file.number(0);
 }
 
 // Each link carries the row of the source, and each sink takes it from its link.
-fn put_program(file: &mut Vec<u8>) -> Result<(), AllocError> {
+fn write_program(file: &mut CodeWriter) {
     for _ in 0..SINKS {
-        put_number(file, 1)?;
-        put_operand::<Gf8>(file, 0, 1)?;
+        file.one_operand::<Gf8>(0, 1);
     }
     for link in 0..SINKS {
-        put_operand::<Gf8>(file, link, 1)?;
+        file.operand::<Gf8>(link, 1);
     }
-    Ok(())
 }
 
 // The file of the code.
 fn code_file(alloc: Global) -> Result<Vec<u8>, AllocError> {
-    let mut file = Vec::from_slice(alloc, b"LIFC\x01\x08\x01")?;
-    put_nodes_and_links(alloc, &mut file)?;
-    put_ends(&mut file)?;
-    put_program(&mut file)?;
-    Ok(file)
+    let mut file = CodeWriter::new(alloc);
+    file.bytes(b"LIFC\x01\x08\x01");
+    write_nodes_and_links(alloc, &mut file);
+    write_ends(&mut file);
+    write_program(&mut file);
+    file.done()
 }
 
 // The decoder of a sink, counted from 0, has the entry 2 instead, and its check says so.
@@ -79,14 +77,21 @@ fn refuse_changed<R: Abort + Threads + Sync>(
     refuse(rt, alloc, code.as_slice(), status, line.as_str())
 }
 
-#[test]
-fn each_of_many_demands_may_fail(rt: HostRuntime) -> Result<(), test::Fail> {
-    let alloc = rt.alloc();
-    let file = code_file(alloc)?;
-    let line = "accepted rate 1 field 8 demands 300\n";
-    accept(&rt, alloc, file.as_slice(), line)?;
+// The code is accepted, and refused where a decoder is changed.
+fn check_demands<R: Abort + Threads + Sync>(
+    rt: &R,
+    alloc: Global,
+    file: &[u8],
+) -> Result<(), test::Fail> {
+    accept(rt, alloc, file, "accepted rate 1 field 8 demands 300\n")?;
     for sink in 0..SINKS {
-        refuse_changed(&rt, alloc, file.as_slice(), sink)?;
+        refuse_changed(rt, alloc, file, sink)?;
     }
     Ok(())
+}
+
+#[test]
+fn each_of_many_demands_may_fail(rt: HostRuntime) -> Result<(), test::Fail> {
+    let file = code_file(rt.alloc())?;
+    check_demands(&rt, rt.alloc(), file.as_slice())
 }

@@ -1,7 +1,7 @@
 //! A code with as many nodes and links as there can be: a chain of nodes, with two links from each to the next, and two
 //! more into the last. The first link of each pair carries what the first one before it does, the second one the sum of
 //! both, so that after each second pair the rows stand on the links as they are.
-use super::making::{put_decoder, put_link, put_name, put_number, put_operand};
+use super::making::CodeWriter;
 use super::{ONE_SINK, accept, letters, send_to};
 use gf_tables::Gf8;
 use std::alloc::{AllocError, Global};
@@ -17,51 +17,48 @@ fn tail(link: u16) -> u16 {
     (link / 2).min(4094)
 }
 
-fn put_nodes_and_links(alloc: Global, file: &mut Vec<u8>) -> Result<(), AllocError> {
-    put_number(file, 4096)?;
-    put_name(file, "s")?;
+fn write_nodes(alloc: Global, file: &mut CodeWriter) {
+    file.number(4096);
+    file.name("s");
     for node in 1..PAIRS {
-        put_name(file, format!(in alloc; "n{node}")?.as_str())?;
+        file.made_name(format!(in alloc; "n{node}"));
     }
-    put_name(file, "t")?;
-    put_number(file, LINKS)?;
+    file.name("t");
+}
+
+fn write_links(alloc: Global, file: &mut CodeWriter) {
+    file.number(LINKS);
     for link in 0..LINKS {
-        let name = format!(in alloc; "l{link}")?;
-        put_link(
-            file,
-            name.as_str(),
-            tail(link),
-            tail(link).saturating_add(1),
-        )?;
+        file.made_name(format!(in alloc; "l{link}"));
+        file.numbers(&[tail(link), tail(link).saturating_add(1)]);
     }
-    Ok(())
 }
 
 // The operands of a link. Those of the first two are the rows.
-fn put_operands(file: &mut Vec<u8>, link: u16) -> Result<(), AllocError> {
+fn write_operands(file: &mut CodeWriter, link: u16) {
     let first = tail(link).saturating_sub(1).saturating_mul(2);
-    if link % 2 == 0 || link < 2 {
-        put_number(file, 1)?;
-        put_operand::<Gf8>(file, if link < 2 { link } else { first }, 1)
+    if link < 2 {
+        file.one_operand::<Gf8>(link, 1);
+    } else if link % 2 == 0 {
+        file.one_operand::<Gf8>(first, 1);
     } else {
-        put_number(file, 2)?;
-        put_operand::<Gf8>(file, first, 1)?;
-        put_operand::<Gf8>(file, first.saturating_add(1), 1)
+        file.number(2);
+        file.operand::<Gf8>(first, 1);
+        file.operand::<Gf8>(first.saturating_add(1), 1);
     }
 }
 
 fn code_file(alloc: Global) -> Result<Vec<u8>, AllocError> {
-    let mut file = Vec::new(alloc);
-    file.extend_from_slice(b"LIFC\x01\x08\x02")?;
-    put_nodes_and_links(alloc, &mut file)?;
-    for number in [0, 1, 4095, 0] {
-        put_number(&mut file, number)?;
-    }
+    let mut file = CodeWriter::new(alloc);
+    file.bytes(b"LIFC\x01\x08\x02");
+    write_nodes(alloc, &mut file);
+    write_links(alloc, &mut file);
+    file.numbers(&[0, 1, 4095, 0]);
     for link in 0..LINKS {
-        put_operands(&mut file, link)?;
+        write_operands(&mut file, link);
     }
-    put_decoder::<Gf8>(&mut file, [8188, 8189], [1, 0, 0, 1])?;
-    Ok(file)
+    file.decoder::<Gf8>([8188, 8189], [1, 0, 0, 1]);
+    file.done()
 }
 
 #[test]

@@ -1,7 +1,7 @@
 //! A code of the greatest rate, with listed patterns: each of 33 links but the last carries a row, and the last one
 //! the sum of all. Each listed pattern is of one link.
-use super::making::{inverse, put_element, put_link, put_name, put_number, put_operand};
-use super::{ONE_BYTE, Run, accept, check, letters};
+use super::making::{CodeWriter, inverse};
+use super::{NO_WORDS, ONE_SINK, Run, accept, check_words, letters};
 use gf_tables::Gf8;
 use std::alloc::{AllocError, Global};
 use std::process::Abort;
@@ -19,37 +19,28 @@ fn times(row: u16) -> u32 {
 }
 
 // All up to the operands.
-fn put_front(alloc: Global, file: &mut Vec<u8>) -> Result<(), AllocError> {
-    file.extend_from_slice(b"LIFC\x01\x08\x20")?;
-    put_number(file, 2)?;
-    put_name(file, "s")?;
-    put_name(file, "t")?;
-    put_number(file, RATE + 1)?;
+fn write_front(alloc: Global, file: &mut CodeWriter) {
+    file.bytes(b"LIFC\x01\x08\x20\x00\x02\x01s\x01t");
+    file.number(RATE + 1);
     for link in 0..=RATE {
-        put_link(file, format!(in alloc; "l{link}")?.as_str(), 0, 1)?;
+        file.made_name(format!(in alloc; "l{link}"));
+        file.numbers(&[0, 1]);
     }
-    put_number(file, 0)?;
-    put_number(file, 1)?;
-    put_number(file, 1)?;
-    put_number(file, PATTERNS.len() as u16)?;
+    file.numbers(&[0, 1, 1, PATTERNS.len() as u16]);
     for (name, failed) in PATTERNS {
-        put_name(file, name)?;
-        put_number(file, 1)?;
-        put_number(file, failed)?;
+        file.name(name);
+        file.numbers(&[1, failed]);
     }
-    Ok(())
 }
 
-fn put_operands(file: &mut Vec<u8>) -> Result<(), AllocError> {
+fn write_operands(file: &mut CodeWriter) {
     for row in 0..RATE {
-        put_number(file, 1)?;
-        put_operand::<Gf8>(file, row, times(row))?;
+        file.one_operand::<Gf8>(row, times(row));
     }
-    put_number(file, RATE)?;
+    file.number(RATE);
     for row in 0..RATE {
-        put_operand::<Gf8>(file, row, 1)?;
+        file.operand::<Gf8>(row, 1);
     }
-    Ok(())
 }
 
 // What the value on a link gives of a row, where a link fails: its own row, or a part of the row of the failed link.
@@ -63,33 +54,37 @@ fn entry(row: u16, link: u16, failed: u16) -> u32 {
     }
 }
 
-// The decoder of all links but one.
-fn put_decoder_without(file: &mut Vec<u8>, failed: u16) -> Result<(), AllocError> {
+// The row of the decoder of all links but one.
+fn write_decoder_row(file: &mut CodeWriter, row: u16, failed: u16) {
     for link in 0..=RATE {
         if link != failed {
-            put_number(file, link)?;
+            file.element::<Gf8>(entry(row, link, failed));
+        }
+    }
+}
+
+// The decoder of all links but one.
+fn write_decoder_without(file: &mut CodeWriter, failed: u16) {
+    for link in 0..=RATE {
+        if link != failed {
+            file.number(link);
         }
     }
     for row in 0..RATE {
-        for link in 0..=RATE {
-            if link != failed {
-                put_element::<Gf8>(file, entry(row, link, failed))?;
-            }
-        }
+        write_decoder_row(file, row, failed);
     }
-    Ok(())
 }
 
 // The file of the code. Where no link fails, the last one isn't used.
 fn code_file(alloc: Global) -> Result<Vec<u8>, AllocError> {
-    let mut file = Vec::new(alloc);
-    put_front(alloc, &mut file)?;
-    put_operands(&mut file)?;
-    put_decoder_without(&mut file, RATE)?;
+    let mut file = CodeWriter::new(alloc);
+    write_front(alloc, &mut file);
+    write_operands(&mut file);
+    write_decoder_without(&mut file, RATE);
     for (_, failed) in PATTERNS {
-        put_decoder_without(&mut file, failed)?;
+        write_decoder_without(&mut file, failed);
     }
-    Ok(file)
+    file.done()
 }
 
 // Lengths of sources, and the lines.
@@ -103,44 +98,54 @@ const LENGTHS: &[(usize, &str)] = &[
 ];
 
 // The words for each pattern.
-const SENDS: &[&[&str]] = &[
-    &["send", "code", "none", "1", "src", "out"],
-    &["send", "code", "first", "1", "src", "out"],
-    &["send", "code", "inner", "1", "src", "out"],
-    &["send", "code", "last-row", "1", "src", "out"],
-    &["send", "code", "sum", "1", "src", "out"],
+const SENDS: &[(&str, &str)] = &[
+    ("none", "send code none 1 src out"),
+    ("first", "send code first 1 src out"),
+    ("inner", "send code inner 1 src out"),
+    ("last-row", "send code last-row 1 src out"),
+    ("sum", "send code sum 1 src out"),
 ];
 
-// A source is sent through the code under a pattern, and comes to the sink.
-fn send_under<'a, R: Abort + Threads + Sync>(
+// A source is sent through the code under each pattern, and comes to the sink.
+fn send_under_each<'a, R: Abort + Threads + Sync>(
     rt: &R,
     alloc: Global,
-    words: &'a [&'a str],
     code: &'a [u8],
     source: &'a [u8],
     line: &'a str,
 ) -> Result<(), test::Fail> {
     let run = Run {
-        name: line,
-        words,
         code: Some(code),
         source: Some(source),
         line,
-        ..ONE_BYTE
+        received: ONE_SINK,
+        ..NO_WORDS
     };
-    check(rt, alloc, &run)
+    check_words(rt, alloc, &run, SENDS)
+}
+
+// Sources of each length are sent so.
+fn send_all<R: Abort + Threads + Sync>(
+    rt: &R,
+    alloc: Global,
+    code: &[u8],
+) -> Result<(), test::Fail> {
+    for &(count, line) in LENGTHS {
+        let source = letters(alloc, count)?;
+        send_under_each(rt, alloc, code, source.as_slice(), line)?;
+    }
+    Ok(())
 }
 
 #[test]
 fn many_rows_come_through_each_pattern(rt: HostRuntime) -> Result<(), test::Fail> {
-    let alloc = rt.alloc();
-    let code = code_file(alloc)?;
-    for &(count, line) in LENGTHS {
-        let source = letters(alloc, count)?;
-        for &words in SENDS {
-            send_under(&rt, alloc, words, code.as_slice(), source.as_slice(), line)?;
-        }
-    }
+    let code = code_file(rt.alloc())?;
+    send_all(&rt, rt.alloc(), code.as_slice())
+}
+
+#[test]
+fn many_rows_are_accepted(rt: HostRuntime) -> Result<(), test::Fail> {
+    let code = code_file(rt.alloc())?;
     let line = "accepted rate 32 field 8 demands 5\n";
-    accept(&rt, alloc, code.as_slice(), line)
+    accept(&rt, rt.alloc(), code.as_slice(), line)
 }

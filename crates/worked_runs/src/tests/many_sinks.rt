@@ -1,15 +1,13 @@
 //! A code with 253 sinks: each is behind two of 23 middle nodes, which carry different sums of the two rows.
-use super::making::{
-    inverse_of_rows, product, put_decoder, put_link, put_name, put_number, put_operand,
-};
+use super::making::{CodeWriter, inverse_of_rows, product};
 use super::refusals::refuse;
-use super::{Ending, SEND, accept, call};
+use super::{Ending, accept, send_to};
 use gf_tables::Gf8;
-use lif_outside::{MemSink, MemStore};
-use lif_top::{CodeRefusal, Status};
+use lif_top::CodeRefusal;
 use std::alloc::{AllocError, Global};
+use std::process::Abort;
 use std::test;
-use worked_rows::runs::words_of;
+use std::thread::Threads;
 
 const MIDDLES: u16 = 23;
 
@@ -35,126 +33,147 @@ fn times(middle: u16) -> u32 {
     power
 }
 
-// The nodes and the links. Nodes are the source, the middle nodes and the sinks, in this order.
-fn put_nodes_and_links(
-    alloc: Global,
-    file: &mut Vec<u8>,
-    pairs: &[(u16, u16)],
-) -> Result<(), AllocError> {
-    put_number(file, 1 + MIDDLES + SINKS)?;
-    put_name(file, "s")?;
+// The nodes: the source, the middle nodes and the sinks, in this order.
+fn write_nodes(alloc: Global, file: &mut CodeWriter) {
+    file.number(1 + MIDDLES + SINKS);
+    file.name("s");
     for middle in 1..=MIDDLES {
-        put_name(file, format!(in alloc; "m{middle}")?.as_str())?;
+        file.made_name(format!(in alloc; "m{middle}"));
     }
     for sink in 1..=SINKS {
-        put_name(file, format!(in alloc; "t{sink}")?.as_str())?;
+        file.made_name(format!(in alloc; "t{sink}"));
     }
-    put_number(file, MIDDLES + 2 * SINKS)?;
+}
+
+// The link from a middle node to a sink, counted from 1.
+fn write_last_link(alloc: Global, file: &mut CodeWriter, middle: u16, sink: u16) {
+    file.made_name(format!(in alloc; "b{sink}-{middle}"));
+    file.numbers(&[middle, MIDDLES.saturating_add(sink)]);
+}
+
+// The links.
+fn write_links(alloc: Global, file: &mut CodeWriter, pairs: &[(u16, u16)]) {
+    file.number(MIDDLES + 2 * SINKS);
     for middle in 1..=MIDDLES {
-        put_link(file, format!(in alloc; "a{middle}")?.as_str(), 0, middle)?;
+        file.made_name(format!(in alloc; "a{middle}"));
+        file.numbers(&[0, middle]);
     }
-    let mut sink = 0u16;
-    for &(first, second) in pairs {
-        sink = sink.saturating_add(1);
-        for middle in [first, second] {
-            let name = format!(in alloc; "b{sink}-{middle}")?;
-            put_link(file, name.as_str(), middle, MIDDLES.saturating_add(sink))?;
-        }
+    for (&(first, second), sink) in pairs.iter().zip(1..=SINKS) {
+        write_last_link(alloc, file, first, sink);
+        write_last_link(alloc, file, second, sink);
     }
-    Ok(())
 }
 
 // The source, the sinks, and the number of listed patterns.
-fn put_ends(file: &mut Vec<u8>, listed: u16) -> Result<(), AllocError> {
-    put_number(file, 0)?;
-    put_number(file, SINKS)?;
+fn write_ends(file: &mut CodeWriter, listed: u16) {
+    file.numbers(&[0, SINKS]);
     for sink in 1..=SINKS {
-        put_number(file, MIDDLES + sink)?;
+        file.number(MIDDLES + sink);
     }
-    put_number(file, listed)
+    file.number(listed);
 }
 
-// The operands and the decoders.
-fn put_program(file: &mut Vec<u8>, pairs: &[(u16, u16)]) -> Result<(), AllocError> {
+// The operands.
+fn write_operands(file: &mut CodeWriter, pairs: &[(u16, u16)]) {
     for middle in 1..=MIDDLES {
-        put_number(file, 2)?;
-        put_operand::<Gf8>(file, 0, 1)?;
-        put_operand::<Gf8>(file, 1, times(middle))?;
+        file.number(2);
+        file.operand::<Gf8>(0, 1);
+        file.operand::<Gf8>(1, times(middle));
     }
     for &(first, second) in pairs {
-        for middle in [first, second] {
-            put_number(file, 1)?;
-            put_operand::<Gf8>(file, middle.saturating_sub(1), 1)?;
-        }
+        file.one_operand::<Gf8>(first.saturating_sub(1), 1);
+        file.one_operand::<Gf8>(second.saturating_sub(1), 1);
     }
+}
+
+// The decoders.
+fn write_decoders(file: &mut CodeWriter, pairs: &[(u16, u16)]) {
     let mut link = MIDDLES;
     for &(first, second) in pairs {
         let next = link.saturating_add(1);
         let matrix = inverse_of_rows::<Gf8>(1, times(first), 1, times(second));
-        put_decoder::<Gf8>(file, [link, next], matrix)?;
+        file.decoder::<Gf8>([link, next], matrix);
         link = next.saturating_add(1);
     }
-    Ok(())
 }
 
-// The file of the code, with a number of listed patterns that aren't there.
+// The code, with a number of listed patterns that aren't there.
+fn write_code(alloc: Global, file: &mut CodeWriter, pairs: &[(u16, u16)], listed: u16) {
+    file.bytes(b"LIFC\x01\x08\x02");
+    write_nodes(alloc, file);
+    write_links(alloc, file, pairs);
+    write_ends(file, listed);
+    write_operands(file, pairs);
+    write_decoders(file, pairs);
+}
+
+// The file of the code.
 fn code_file(alloc: Global, listed: u16) -> Result<Vec<u8>, AllocError> {
     let pairs = pairs_of_middles(alloc)?;
-    let mut file = Vec::new(alloc);
-    file.extend_from_slice(b"LIFC\x01\x08\x02")?;
-    put_nodes_and_links(alloc, &mut file, pairs.as_slice())?;
-    put_ends(&mut file, listed)?;
-    put_program(&mut file, pairs.as_slice())?;
-    Ok(file)
+    let mut file = CodeWriter::new(alloc);
+    write_code(alloc, &mut file, pairs.as_slice(), listed);
+    file.done()
 }
 
-const SOURCE: [u8; 10] = [5, 172, 83, 250, 161, 72, 239, 150, 61, 228];
+// The paths of the sinks' files.
+fn outputs(alloc: Global) -> Result<String, AllocError> {
+    let mut paths = String::new(alloc);
+    for sink in 1..=SINKS {
+        write!(paths, "out.t{sink} ")?;
+    }
+    Ok(paths)
+}
 
 #[test]
 fn a_source_comes_to_many_sinks(rt: HostRuntime) -> Result<(), test::Fail> {
-    let alloc = rt.alloc();
-    let code = code_file(alloc, 0)?;
-    let mut store = MemStore::new(alloc, 65536, Vec::new(alloc));
-    let mut say = MemSink::new(alloc, Vec::new(alloc));
-    store.put_file(alloc, "code", code.as_slice())?;
-    store.put_file(alloc, "src", &SOURCE)?;
-    let words = words_of(alloc, SEND)?;
-    let status = call(&rt, alloc, words.as_slice(), &mut store, &mut say);
-    assert_eq!(rt; status, Status::Done);
-    assert_eq!(rt;
-        say.bytes(),
-        b"sent 10 bytes in 1 generations to 253 sinks\n".as_slice()
-    );
-    for sink in 1..=SINKS {
-        let path = format!(in alloc; "out.t{sink}")?;
-        assert!(rt; store.file(path.as_str()) == Some(&SOURCE), "{path}");
-    }
-    assert!(rt; store.file("out.t0").is_none() && store.file("out.t254").is_none());
-    Ok(())
+    let code = code_file(rt.alloc(), 0)?;
+    let received = outputs(rt.alloc())?;
+    send_to(
+        &rt,
+        rt.alloc(),
+        code.as_slice(),
+        &[5, 172, 83, 250, 161, 72, 239, 150, 61, 228],
+        65536,
+        received.as_str(),
+        "sent 10 bytes in 1 generations to 253 sinks\n",
+    )
+}
+
+// A code with more listed patterns than it has is refused.
+fn refuse_listed<R: Abort + Threads + Sync>(
+    rt: &R,
+    alloc: Global,
+    listed: u16,
+    why: CodeRefusal,
+    line: &str,
+) -> Result<(), test::Fail> {
+    let code = code_file(alloc, listed)?;
+    refuse(rt, alloc, code.as_slice(), Ending::CodeRefused(why), line)
 }
 
 #[test]
 fn many_sinks_are_checked(rt: HostRuntime) -> Result<(), test::Fail> {
-    let alloc = rt.alloc();
-    let code = code_file(alloc, 0)?;
+    let code = code_file(rt.alloc(), 0)?;
     let line = "accepted rate 2 field 8 demands 253\n";
-    accept(&rt, alloc, code.as_slice(), line)?;
-    let listed = code_file(alloc, 258)?;
-    let unnamed = Ending::CodeRefused(CodeRefusal::BadName { at: 7598 });
-    refuse(
+    accept(&rt, rt.alloc(), code.as_slice(), line)
+}
+
+#[test]
+fn patterns_that_are_not_there_are_refused(rt: HostRuntime) -> Result<(), test::Fail> {
+    let unnamed = CodeRefusal::BadName { at: 7598 };
+    refuse_listed(
         &rt,
-        alloc,
-        listed.as_slice(),
+        rt.alloc(),
+        258,
         unnamed,
         "code refused: BadName 7598\n",
     )?;
     // With one listed pattern more, there are more than 65,536 demands.
-    let too_many = Ending::CodeRefused(CodeRefusal::TooMany { at: 7596 });
-    let listed = code_file(alloc, 259)?;
-    refuse(
+    let too_many = CodeRefusal::TooMany { at: 7596 };
+    refuse_listed(
         &rt,
-        alloc,
-        listed.as_slice(),
+        rt.alloc(),
+        259,
         too_many,
         "code refused: TooMany 7596\n",
     )

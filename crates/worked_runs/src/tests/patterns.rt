@@ -1,7 +1,10 @@
 //! Codes with listed patterns, sent under each.
-use super::{CHECK, Ending, NO_OUTPUT, ONE_BYTE, Run, check};
+use super::{CHECK, Ending, NO_OUTPUT, NO_WORDS, ONE_BYTE, Run, check, check_each};
+use std::alloc::Global;
+use std::process::Abort;
 use std::test;
-use worked_rows::files::{BUTTERFLY, TWO_WAYS};
+use std::thread::Threads;
+use worked_rows::files::{BUTTERFLY, ONE_LINK, TWO_WAYS};
 
 const TWO_WAYS_BYTE: Run<'static> = Run {
     name: "none of two ways fails",
@@ -10,19 +13,11 @@ const TWO_WAYS_BYTE: Run<'static> = Run {
     ..ONE_BYTE
 };
 
-const UNKNOWN: Run<'static> = Run {
-    name: "a pattern that one link doesn't have",
-    words: &["send", "code", "f9", "1", "src", "out"],
-    status: Ending::UnknownPattern,
-    line: "unknown pattern: f9\n",
-    ..NO_OUTPUT
-};
-
 const PATTERNS: &[Run<'static>] = &[
     TWO_WAYS_BYTE,
     Run {
         name: "one of two ways fails",
-        words: &["send", "code", "f", "1", "src", "out"],
+        words: "send code f 1 src out",
         ..TWO_WAYS_BYTE
     },
     Run {
@@ -34,60 +29,69 @@ const PATTERNS: &[Run<'static>] = &[
     },
     Run {
         name: "a path is shared where one of two ways fails",
-        words: &["send", "code", "f", "1", "out.t", "out"],
+        words: "send code f 1 out.t out",
         code: Some(TWO_WAYS),
         status: Ending::SamePath,
         line: "same path: out.t\n",
         ..NO_OUTPUT
     },
-    UNKNOWN,
-    Run {
-        name: "a pattern that two ways don't have",
-        code: Some(TWO_WAYS),
-        ..UNKNOWN
-    },
-    Run {
-        name: "a pattern that the butterfly doesn't have",
-        code: Some(BUTTERFLY),
-        ..UNKNOWN
-    },
-    Run {
-        name: "no name",
-        words: &["send", "code", "", "1", "src", "out"],
-        line: "unknown pattern: \n",
-        ..UNKNOWN
-    },
-    Run {
-        name: "a part of a name",
-        words: &["send", "code", "non", "1", "src", "out"],
-        line: "unknown pattern: non\n",
-        ..UNKNOWN
-    },
-    Run {
-        name: "a longer word than a line has room for",
-        words: &[
-            "send",
-            "code",
-            "long-long-long-long-long-long-long-long-long-long-long-long-long-long-long-long-long-long-long-long-long-long-long-long-long-long-long-long-long-long-long-long-long-long-long-long-long-long-long-long-long-long-long-long-long-long-long-long-long-long-long-long-long-long-long-long-long-long-long-long",
-            "1",
-            "src",
-            "out",
-        ],
-        line: "unknown pattern: long-long-long-long-long-long-long-long-long-long-long-long-long-long-long-long-long-long-long-long-long-long-long-long-long-long-long-long-long-long-long-long-long-long-long-long-long-long-long-long-long-long-long-long-long-long-long-long-long-long-long-long-long-long-long-long-long-long-long-long\n",
-        ..UNKNOWN
-    },
-    Run {
-        name: "a word with other letters than names have",
-        words: &["send", "code", "\u{e4}\n/", "1", "src", "out"],
-        line: "unknown pattern: \u{e4}\n/\n",
-        ..UNKNOWN
-    },
 ];
 
 #[test]
 fn listed_patterns_are_known(rt: HostRuntime) -> Result<(), test::Fail> {
-    for run in PATTERNS {
-        check(&rt, rt.alloc(), run)?;
+    check_each(&rt, rt.alloc(), PATTERNS)
+}
+
+// A longer word than a line has room for.
+const LONG: &str =
+    "long-long-long-long-long-long-long-long-long-long-long-long-long-long-long-long-long-long-long-long-long-long-long-long-long-long-long-long-long-long-long-long-long-long-long-long-long-long-long-long-long-long-long-long-long-long-long-long-long-long-long-long-long-long-long-long-long-long-long-long";
+
+// Codes, and patterns that they don't have: no name and a part of one among them, and other letters than names have.
+const UNKNOWN: &[(&[u8], &str)] = &[
+    (ONE_LINK, "f9"),
+    (TWO_WAYS, "f9"),
+    (BUTTERFLY, "f9"),
+    (ONE_LINK, ""),
+    (ONE_LINK, "non"),
+    (ONE_LINK, LONG),
+    (ONE_LINK, "\u{e4}\n/"),
+];
+
+// What is sent under a pattern with these words is refused with this line.
+fn refuse_words<'a, R: Abort + Threads + Sync>(
+    rt: &R,
+    alloc: Global,
+    code: &'a [u8],
+    words: &'a str,
+    line: &'a str,
+) -> Result<(), test::Fail> {
+    let run = Run {
+        name: words,
+        words,
+        code: Some(code),
+        status: Ending::UnknownPattern,
+        line,
+        ..NO_WORDS
+    };
+    check(rt, alloc, &run)
+}
+
+// A pattern isn't known.
+fn refuse_pattern<R: Abort + Threads + Sync>(
+    rt: &R,
+    alloc: Global,
+    code: &[u8],
+    pattern: &str,
+) -> Result<(), test::Fail> {
+    let words = format!(in alloc; "send code {pattern} 1 src out")?;
+    let line = format!(in alloc; "unknown pattern: {pattern}\n")?;
+    refuse_words(rt, alloc, code, words.as_str(), line.as_str())
+}
+
+#[test]
+fn other_patterns_are_unknown(rt: HostRuntime) -> Result<(), test::Fail> {
+    for &(code, pattern) in UNKNOWN {
+        refuse_pattern(&rt, rt.alloc(), code, pattern)?;
     }
     Ok(())
 }

@@ -1,5 +1,5 @@
 //! Code files that are refused or not accepted, and the lines of those that are accepted.
-use super::{CHECK, Ending, NO_OUTPUT, ONE_BYTE, Run, SEND, accept, changed, check};
+use super::{CHECK, Ending, NO_WORDS, ONE_BYTE, Run, SEND, accept, changed, check, check_words};
 use lif_top::CodeRefusal;
 use lif_top::CodeRefusal::{
     BadField, BadIndex, BadMagic, BadName, BadOperand, BadRate, BadVersion, NotRising, OutOfOrder,
@@ -149,20 +149,13 @@ pub(super) fn refuse<'a, R: Abort + Threads + Sync>(
     status: Ending,
     line: &'a str,
 ) -> Result<(), test::Fail> {
-    let checked = Run {
-        name: line,
-        words: CHECK,
+    let run = Run {
         code: Some(code),
         status,
         line,
-        ..NO_OUTPUT
+        ..NO_WORDS
     };
-    check(rt, alloc, &checked)?;
-    let sent = Run {
-        words: SEND,
-        ..checked
-    };
-    check(rt, alloc, &sent)
+    check_words(rt, alloc, &run, &[(line, CHECK), (line, SEND)])
 }
 
 // A code file is refused, which is said so.
@@ -216,13 +209,12 @@ fn files_of_no_code_are_refused(rt: HostRuntime) -> Result<(), test::Fail> {
 
 #[test]
 fn beginnings_are_truncated(rt: HostRuntime) -> Result<(), test::Fail> {
-    let alloc = rt.alloc();
     for &(file, count, place) in BEGINNINGS {
-        refuse_beginning(&rt, alloc, file, count, place)?;
+        refuse_beginning(&rt, rt.alloc(), file, count, place)?;
     }
     for count in 0..BUTTERFLY.len() {
         let place = place_of_cut(ITEMS, count);
-        refuse_beginning(&rt, alloc, BUTTERFLY, count, place)?;
+        refuse_beginning(&rt, rt.alloc(), BUTTERFLY, count, place)?;
     }
     // All items are there.
     assert_eq!(rt; place_of_cut(ITEMS, BUTTERFLY.len()), BUTTERFLY.len());
@@ -241,7 +233,9 @@ const DEAD_ONE_LINK: &[u8] = b"LIFC\x01\x08\x01\
 
 // A code file, a place in it, the bytes that stand there instead, the demand that fails, the row and the column, the
 // number that stands there, and the line.
-const FAILED: &[(&[u8], usize, &[u8], [u32; 4], &str)] = &[
+type Failed = (&'static [u8], usize, &'static [u8], [u32; 4], &'static str);
+
+const FAILED: &[Failed] = &[
     (
         BUTTERFLY,
         173,
@@ -300,18 +294,26 @@ const FAILED: &[(&[u8], usize, &[u8], [u32; 4], &str)] = &[
     ),
 ];
 
+// The file that differs from a file in one place fails a check, which ends so.
+fn refuse_changed<R: Abort + Threads + Sync>(
+    rt: &R,
+    alloc: Global,
+    &(file, at, put, [demand, row, column, found], line): &Failed,
+) -> Result<(), test::Fail> {
+    let status = Ending::CheckFailed {
+        demand,
+        row,
+        column,
+        found,
+    };
+    let code = changed(alloc, file, at, put)?;
+    refuse(rt, alloc, code.as_slice(), status, line)
+}
+
 #[test]
 fn codes_that_give_no_block_back_fail(rt: HostRuntime) -> Result<(), test::Fail> {
-    let alloc = rt.alloc();
-    for &(file, at, put, [demand, row, column, found], line) in FAILED {
-        let code = changed(alloc, file, at, put)?;
-        let status = Ending::CheckFailed {
-            demand,
-            row,
-            column,
-            found,
-        };
-        refuse(&rt, alloc, code.as_slice(), status, line)?;
+    for failed in FAILED {
+        refuse_changed(&rt, rt.alloc(), failed)?;
     }
     Ok(())
 }

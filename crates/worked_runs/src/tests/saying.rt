@@ -1,7 +1,10 @@
 //! Each put of what is said fails in turn.
 use super::{CHECK, Ending, NO_OUTPUT, ONE_BYTE, Run, TWO_SINKS, check};
 use lif_top::CodeRefusal;
+use std::alloc::Global;
+use std::process::Abort;
 use std::test;
+use std::thread::Threads;
 use worked_rows::files::{BUTTERFLY, CUT_BUTTERFLY};
 
 // A run, and what is said where the first put fails, where the next one does, and at last where none does.
@@ -10,9 +13,6 @@ struct Said {
     run: Run<'static>,
     lines: &'static [&'static str],
 }
-
-// Which put fails.
-const NTH: &[&[u64]] = &[&[1], &[2], &[3], &[4]];
 
 const SAID: &[Said] = &[
     Said {
@@ -39,7 +39,7 @@ const SAID: &[Said] = &[
     Said {
         run: Run {
             name: "no words",
-            words: &[],
+            words: "",
             status: Ending::Usage,
             ..NO_OUTPUT
         },
@@ -83,7 +83,7 @@ const SAID: &[Said] = &[
     Said {
         run: Run {
             name: "a pattern that isn't known",
-            words: &["send", "code", "f9", "1", "src", "out"],
+            words: "send code f9 1 src out",
             status: Ending::UnknownPattern,
             ..NO_OUTPUT
         },
@@ -97,45 +97,66 @@ const SAID: &[Said] = &[
     Said {
         run: Run {
             name: "one path",
-            words: &["send", "code", "none", "1", "out.t", "out"],
+            words: "send code none 1 out.t out",
             source: None,
             files: &[("out.t", b"A")],
-            received: &[],
+            received: "",
             status: Ending::SamePath,
-            made: &[],
             ..ONE_BYTE
         },
         lines: &["", "same path: ", "same path: out.t", "same path: out.t\n"],
     },
 ];
 
-// The status where the line isn't said to its end: a fault only where all else was done.
-fn status_unsaid(status: Ending) -> Ending {
-    match status {
-        Ending::Done => Ending::WriteFault,
-        refusal => refusal,
+// These puts of what a run says fail.
+fn check_nth<'a, R: Abort + Threads + Sync>(
+    rt: &R,
+    alloc: Global,
+    run: &Run<'a>,
+    say_fails: &'a [u64],
+    status: Ending,
+    line: &'a str,
+) -> Result<(), test::Fail> {
+    let run = Run {
+        say_fails,
+        status,
+        line,
+        ..*run
+    };
+    check(rt, alloc, &run)
+}
+
+// Each put of a run fails in turn, and at last none does.
+fn check_said<R: Abort + Threads + Sync>(
+    rt: &R,
+    alloc: Global,
+    said: &Said,
+) -> Result<(), test::Fail> {
+    let mut left = said.lines.len();
+    for (&line, nth) in said.lines.iter().zip(1..=4u64) {
+        left = left.saturating_sub(1);
+        let status = if left == 0 {
+            said.run.status
+        } else {
+            said.run.status.unsaid()
+        };
+        check_nth(rt, alloc, &said.run, &[nth], status, line)?;
     }
+    Ok(())
+}
+
+fn check_each_said<R: Abort + Threads + Sync>(
+    rt: &R,
+    alloc: Global,
+    all: &[Said],
+) -> Result<(), test::Fail> {
+    for said in all {
+        check_said(rt, alloc, said)?;
+    }
+    Ok(())
 }
 
 #[test]
 fn each_put_fails_in_turn(rt: HostRuntime) -> Result<(), test::Fail> {
-    for said in SAID {
-        let mut left = said.lines.len();
-        for (&line, &say_fails) in said.lines.iter().zip(NTH) {
-            left = left.saturating_sub(1);
-            let status = if left == 0 {
-                said.run.status
-            } else {
-                status_unsaid(said.run.status)
-            };
-            let run = Run {
-                say_fails,
-                status,
-                line,
-                ..said.run
-            };
-            check(&rt, rt.alloc(), &run)?;
-        }
-    }
-    Ok(())
+    check_each_said(&rt, rt.alloc(), SAID)
 }

@@ -1,11 +1,11 @@
 //! Codes over the field of 65,536 elements.
-use super::making::{
-    inverse, inverse_of_rows, product, put_decoder, put_element, put_number, put_operand,
-};
-use super::{ONE_SINK, TWO_SINKS, accept, letters, send_to};
+use super::making::{CodeWriter, inverse, inverse_of_rows, product};
+use super::{ONE_SINK, TWO_SINKS, accept, send_each};
 use gf_tables::Gf16;
 use std::alloc::{AllocError, Global};
+use std::process::Abort;
 use std::test;
+use std::thread::Threads;
 use worked_rows::files::BUTTERFLY;
 
 // The one link with the coefficient y, and the entry that undoes it.
@@ -46,14 +46,12 @@ const BUTTERFLY_LENGTHS: &[(usize, &str)] = &[
 
 // The file of the one link with a coefficient, and the entry that undoes it.
 fn one_link(alloc: Global, times: u32) -> Result<Vec<u8>, AllocError> {
-    let mut file = Vec::new(alloc);
-    for byte in TIMES_Y.iter().take(33) {
-        file.push(*byte)?;
-    }
-    put_element::<Gf16>(&mut file, times)?;
-    put_number(&mut file, 0)?;
-    put_element::<Gf16>(&mut file, inverse::<Gf16>(times))?;
-    Ok(file)
+    let mut file = CodeWriter::new(alloc);
+    file.bytes(TIMES_Y.get(..33).unwrap_or_default());
+    file.element::<Gf16>(times);
+    file.number(0);
+    file.element::<Gf16>(inverse::<Gf16>(times));
+    file.done()
 }
 
 // What the links of the butterfly multiply by that lead from `s` to `a`, from `c` to `d`, and from `d` to `t1`.
@@ -65,12 +63,11 @@ const SECOND: u32 = 0x0203;
 
 const BEHIND: u32 = 0x7000;
 
-// The file of the butterfly up to the operands, and the operands of its links but for the last three.
-fn put_butterfly_front(file: &mut Vec<u8>) -> Result<(), AllocError> {
-    for byte in BUTTERFLY.iter().take(113) {
-        let place = file.len();
-        file.push(if place == 5 { 16 } else { *byte })?;
-    }
+// The file of the butterfly up to the operands, and the operands.
+fn write_butterfly_front(file: &mut CodeWriter) {
+    file.bytes(BUTTERFLY.get(..5).unwrap_or_default());
+    file.bytes(b"\x10");
+    file.bytes(BUTTERFLY.get(6..113).unwrap_or_default());
     for (from, times) in [
         (0, FRONT),
         (1, 1),
@@ -79,80 +76,66 @@ fn put_butterfly_front(file: &mut Vec<u8>) -> Result<(), AllocError> {
         (0, inverse::<Gf16>(FRONT)),
         (1, 1),
     ] {
-        put_number(file, 1)?;
-        put_operand::<Gf16>(file, from, times)?;
+        file.one_operand::<Gf16>(from, times);
     }
-    Ok(())
+    file.number(2);
+    file.operand::<Gf16>(4, FIRST);
+    file.operand::<Gf16>(5, SECOND);
+    file.one_operand::<Gf16>(6, BEHIND);
+    file.one_operand::<Gf16>(6, 1);
 }
 
 // The butterfly with coefficients that aren't elements of the field of 256.
 fn butterfly(alloc: Global) -> Result<Vec<u8>, AllocError> {
-    let mut file = Vec::new(alloc);
-    put_butterfly_front(&mut file)?;
-    put_number(&mut file, 2)?;
-    put_operand::<Gf16>(&mut file, 4, FIRST)?;
-    put_operand::<Gf16>(&mut file, 5, SECOND)?;
-    for times in [BEHIND, 1] {
-        put_number(&mut file, 1)?;
-        put_operand::<Gf16>(&mut file, 6, times)?;
-    }
     let left = product::<Gf16>(BEHIND, FIRST);
     let right = product::<Gf16>(BEHIND, SECOND);
-    let of_first_sink = inverse_of_rows::<Gf16>(FRONT, 0, left, right);
-    let of_second_sink = inverse_of_rows::<Gf16>(0, 1, FIRST, SECOND);
-    put_decoder::<Gf16>(&mut file, [2, 7], of_first_sink)?;
-    put_decoder::<Gf16>(&mut file, [3, 8], of_second_sink)?;
-    Ok(file)
+    let mut file = CodeWriter::new(alloc);
+    write_butterfly_front(&mut file);
+    file.decoder::<Gf16>([2, 7], inverse_of_rows::<Gf16>(FRONT, 0, left, right));
+    file.decoder::<Gf16>([3, 8], inverse_of_rows::<Gf16>(0, 1, FIRST, SECOND));
+    file.done()
 }
 
 #[test]
 fn one_link_carries_wide_elements(rt: HostRuntime) -> Result<(), test::Fail> {
-    let alloc = rt.alloc();
-    for &(count, line) in ONE_LINK_LENGTHS {
-        let source = letters(alloc, count)?;
-        send_to(
-            &rt,
-            alloc,
-            TIMES_Y,
-            source.as_slice(),
-            65536,
-            ONE_SINK,
-            line,
-        )?;
-    }
-    let source = letters(alloc, 1019)?;
+    send_each(&rt, rt.alloc(), TIMES_Y, 65536, ONE_LINK_LENGTHS, ONE_SINK)
+}
+
+// A source is sent through the one link with a coefficient.
+fn send_times<R: Abort + Threads + Sync>(
+    rt: &R,
+    alloc: Global,
+    times: u32,
+) -> Result<(), test::Fail> {
+    let code = one_link(alloc, times)?;
+    let lengths = &[(1019, "sent 1019 bytes in 1 generations to 1 sinks\n")];
+    send_each(rt, alloc, code.as_slice(), 65536, lengths, ONE_SINK)
+}
+
+#[test]
+fn wide_coefficients_are_undone(rt: HostRuntime) -> Result<(), test::Fail> {
     for &times in COEFFICIENTS {
-        let code = one_link(alloc, times)?;
-        let line = "sent 1019 bytes in 1 generations to 1 sinks\n";
-        send_to(
-            &rt,
-            alloc,
-            code.as_slice(),
-            source.as_slice(),
-            65536,
-            ONE_SINK,
-            line,
-        )?;
+        send_times(&rt, rt.alloc(), times)?;
     }
     Ok(())
 }
 
 #[test]
 fn the_butterfly_carries_wide_elements(rt: HostRuntime) -> Result<(), test::Fail> {
-    let alloc = rt.alloc();
-    let code = butterfly(alloc)?;
-    for &(count, line) in BUTTERFLY_LENGTHS {
-        let source = letters(alloc, count)?;
-        send_to(
-            &rt,
-            alloc,
-            code.as_slice(),
-            source.as_slice(),
-            65536,
-            TWO_SINKS,
-            line,
-        )?;
-    }
+    let code = butterfly(rt.alloc())?;
+    send_each(
+        &rt,
+        rt.alloc(),
+        code.as_slice(),
+        65536,
+        BUTTERFLY_LENGTHS,
+        TWO_SINKS,
+    )
+}
+
+#[test]
+fn the_wide_butterfly_is_accepted(rt: HostRuntime) -> Result<(), test::Fail> {
+    let code = butterfly(rt.alloc())?;
     let line = "accepted rate 2 field 16 demands 2\n";
-    accept(&rt, alloc, code.as_slice(), line)
+    accept(&rt, rt.alloc(), code.as_slice(), line)
 }

@@ -1,114 +1,60 @@
 //! Words: which are a form, and what comes first where more than one thing is wrong.
-use super::{CHECK, Ending, NO_OUTPUT, ONE_BYTE, Run, SEND, check};
+use super::{CHECK, Ending, NO_OUTPUT, ONE_BYTE, Run, SEND, check_each, check_words};
 use lif_top::CodeRefusal;
 use std::test;
 use worked_rows::files::{CUT_BUTTERFLY, ONE_LINK};
 
 const NO_FORM: Run<'static> = Run {
-    name: "no words",
-    words: &[],
     status: Ending::Usage,
     line: "usage: lif order NET | cuts NET | compile NET CODE REPORT | check CODE | send CODE PATTERN SEED SRC PREFIX | demo N K BYTES\n",
     ..NO_OUTPUT
 };
 
-const WORDS: &[Run<'static>] = &[
-    NO_FORM,
-    Run {
-        name: "a command that isn't built",
-        words: &["demo", "0", "0", "1"],
-        ..NO_FORM
-    },
-    Run {
-        name: "no command",
-        words: &["sent", "code", "none", "1", "src", "out"],
-        ..NO_FORM
-    },
-    Run {
-        name: "a capital letter",
-        words: &["Check", "code"],
-        ..NO_FORM
-    },
-    Run {
-        name: "a word too few to send",
-        words: &["send", "code", "none", "1", "src"],
-        ..NO_FORM
-    },
-    Run {
-        name: "a word too many to send",
-        words: &["send", "code", "none", "1", "src", "out", "out"],
-        ..NO_FORM
-    },
-    Run {
-        name: "a word too few to check",
-        words: &["check"],
-        ..NO_FORM
-    },
-    Run {
-        name: "a word too many to check",
-        words: &["check", "code", "none"],
-        ..NO_FORM
-    },
-    Run {
-        name: "a word too few to order",
-        words: &["order"],
-        ..NO_FORM
-    },
-    Run {
-        name: "a word too many to order",
-        words: &["order", "net", "net"],
-        ..NO_FORM
-    },
-    Run {
-        name: "a seed with a sign",
-        words: &["send", "code", "none", "-1", "src", "out"],
-        ..NO_FORM
-    },
-    Run {
-        name: "a seed without digits",
-        words: &["send", "code", "none", "", "src", "out"],
-        ..NO_FORM
-    },
-    Run {
-        name: "a seed with a letter",
-        words: &["send", "code", "none", "1a", "src", "out"],
-        ..NO_FORM
-    },
-    Run {
-        name: "a seed that is too great",
-        words: &["send", "code", "none", "18446744073709551616", "src", "out"],
-        ..NO_FORM
-    },
-    Run {
-        name: "the greatest seed",
-        words: &["send", "code", "none", "18446744073709551615", "src", "out"],
-        ..ONE_BYTE
-    },
-    Run {
-        name: "a seed with zeros in front",
-        words: &[
-            "send",
-            "code",
-            "none",
-            "000000000000000000000000001",
-            "src",
-            "out",
-        ],
-        ..ONE_BYTE
-    },
+// Names of words, and the words.
+const NO_FORMS: &[(&str, &str)] = &[
+    ("no words", ""),
+    ("a command that isn't built", "demo 0 0 1"),
+    ("no command", "sent code none 1 src out"),
+    ("a capital letter", "Check code"),
+    ("a word too few to send", "send code none 1 src"),
+    ("a word too many to send", "send code none 1 src out out"),
+    ("a word too few to check", "check"),
+    ("a word too many to check", "check code none"),
+    ("a word too few to order", "order"),
+    ("a word too many to order", "order net net"),
+    ("a seed with a sign", "send code none -1 src out"),
+    ("a seed without digits", "send code none  src out"),
+    ("a seed with a letter", "send code none 1a src out"),
+    (
+        "a seed that is too great",
+        "send code none 18446744073709551616 src out",
+    ),
+];
+
+const SEEDS: &[(&str, &str)] = &[
+    (
+        "the greatest seed",
+        "send code none 18446744073709551615 src out",
+    ),
+    (
+        "a seed with zeros in front",
+        "send code none 000000000000000000000000001 src out",
+    ),
 ];
 
 #[test]
 fn words_that_are_no_form_are_refused(rt: HostRuntime) -> Result<(), test::Fail> {
-    for run in WORDS {
-        check(&rt, rt.alloc(), run)?;
-    }
-    Ok(())
+    check_words(&rt, rt.alloc(), &NO_FORM, NO_FORMS)
+}
+
+#[test]
+fn seeds_may_be_long(rt: HostRuntime) -> Result<(), test::Fail> {
+    check_words(&rt, rt.alloc(), &ONE_BYTE, SEEDS)
 }
 
 const NO_CODE: Run<'static> = Run {
     name: "no file of a code to send by",
-    words: &["send", "code", "f9", "1", "out.t", "out"],
+    words: "send code f9 1 out.t out",
     code: None,
     source: None,
     status: Ending::ReadFault,
@@ -152,7 +98,7 @@ const FIRST_FAULTS: &[Run<'static>] = &[
     },
     Run {
         name: "the path of the source is an output's",
-        words: &["send", "code", "none", "1", "out.t", "out"],
+        words: "send code none 1 out.t out",
         code: Some(ONE_LINK),
         status: Ending::SamePath,
         line: "same path: out.t\n",
@@ -162,15 +108,12 @@ const FIRST_FAULTS: &[Run<'static>] = &[
         name: "no source",
         words: SEND,
         code: Some(ONE_LINK),
-        made: &[("out.t", Some(b""))],
+        made: &[("out.t", b"")],
         ..NO_CODE
     },
 ];
 
 #[test]
 fn the_first_fault_is_answered(rt: HostRuntime) -> Result<(), test::Fail> {
-    for run in FIRST_FAULTS {
-        check(&rt, rt.alloc(), run)?;
-    }
-    Ok(())
+    check_each(&rt, rt.alloc(), FIRST_FAULTS)
 }
