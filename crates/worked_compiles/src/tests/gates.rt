@@ -1,8 +1,8 @@
 //! Which jobs enter the gate that a command is given.
-use super::fields::push_line;
-use super::{compiles, run, store_of, store_with};
-use lif_outside::{Gate, MemSink, SeedLinks};
-use lif_top::{Status, lif};
+use super::fields::SPARES;
+use super::{DONE, Lines, is_done, store_with, text_of};
+use lif_outside::{Gate, MemSink, MemStore, SeedLinks};
+use lif_top::lif;
 use std::alloc::{AllocError, Global};
 use std::test;
 use std::thread::Threads;
@@ -11,33 +11,42 @@ use worked_rows::gates::{Entries, Meeting};
 use worked_rows::runs::words_of;
 use worked_rows::texts::{BUTTERFLY_TEXT, ONE_LINK_TEXT, THREE_CORES_TEXT, TWO_LINKS_TEXT};
 
-// How a command on the file at `in` ends, by a gate.
-fn ended<G: Gate + Sync, R: Threads + Sync>(
+// The number of the status with which a command on a store ends, by a gate.
+fn status_by<G: Gate + Sync, R: Threads + Sync>(
+    rt: &R,
+    alloc: Global,
+    words: &[String],
+    store: &mut MemStore,
+    gate: &G,
+) -> u8 {
+    let mut say = MemSink::new(alloc, Vec::new(alloc));
+    let mut links = SeedLinks::new(alloc);
+    lif(rt, alloc, words, store, &mut say, &mut links, gate).code()
+}
+
+// Whether a command on the file at `in` is done, by a gate.
+fn is_done_by<G: Gate + Sync, R: Threads + Sync>(
     rt: &R,
     alloc: Global,
     words: &[&str],
     file: &[u8],
     gate: &G,
-) -> Option<Status> {
-    let words = words_of(alloc, words).ok()?;
-    let mut store = store_with(alloc, 65536, &[], "in", file).ok()?;
-    let mut say = MemSink::new(alloc, Vec::new(alloc));
-    let mut links = SeedLinks::new(alloc);
-    Some(lif(rt, alloc, &words, &mut store, &mut say, &mut links, gate))
+) -> Result<bool, AllocError> {
+    let words = words_of(alloc, words)?;
+    let mut store = store_with(alloc, 65536, &[], "in", file)?;
+    Ok(status_by(rt, alloc, &words, &mut store, gate) == DONE)
 }
 
-// What enters the gate of a command on the file at `in`, where the command is done.
-fn entries_of<R: Threads + Sync>(
+// Whether a command on the file at `in` is done, and these enter its gate.
+fn enter<R: Threads + Sync>(
     rt: &R,
     alloc: Global,
     words: &[&str],
     file: &[u8],
-) -> Option<u64> {
+    entries: u64,
+) -> Result<bool, AllocError> {
     let gate = Entries::new();
-    match ended(rt, alloc, words, file, &gate) {
-        Some(Status::Done) => Some(gate.counted()),
-        _ => None,
-    }
+    Ok(is_done_by(rt, alloc, words, file, &gate)? && gate.counted() == entries)
 }
 
 const CUTS: &[&str] = &["cuts", "in"];
@@ -68,54 +77,67 @@ const ENTERED: &[(&[&str], &[u8], u64)] = &[
 #[test]
 fn jobs_enter_the_gate(rt: HostRuntime) {
     for &(words, file, entries) in ENTERED {
-        assert!(rt;
-            entries_of(&rt, rt.alloc(), words, file) == Some(entries),
-            "{entries}"
-        );
+        let entered = enter(&rt, rt.alloc(), words, file, entries);
+        assert!(rt; entered == Ok(true), "{entries}");
     }
 }
 
 // A network of 256 demands: sixteen sinks, each with a link from the source, and fifteen patterns, in each of which a
 // link fails that leads to another node.
-fn wide(alloc: Global) -> Result<Vec<u8>, AllocError> {
-    let mut text = Vec::from_slice(alloc, b"source s\n")?;
-    for sink in 1..=16u32 {
-        push_line(
-            &mut text,
-            &format!(in alloc; "sink t{sink}\nlink l{sink} s t{sink}\n")?,
-        )?;
-    }
-    for pattern in 1..=15u32 {
-        push_line(
-            &mut text,
-            &format!(in alloc; "link e{pattern} s x\npattern p{pattern} e{pattern}\n")?,
-        )?;
-    }
-    Ok(text)
-}
+const WIDE: &[Lines<'static>] = &[
+    (1, 1, "source s\n"),
+    (1, 16, "sink t#\nlink l# s t#\n"),
+    SPARES,
+];
 
 // Whether a command on the file at `in` has four jobs, of which each meets another one.
-fn four_meet<R: Threads + Sync>(rt: &R, alloc: Global, words: &[&str], file: &[u8]) -> bool {
+fn four_meet<R: Threads + Sync>(
+    rt: &R,
+    alloc: Global,
+    words: &[&str],
+    file: &[u8],
+) -> Result<bool, AllocError> {
     let gate = Meeting::new();
-    ended(rt, alloc, words, file, &gate) == Some(Status::Done) && gate.is_met(1111)
+    Ok(is_done_by(rt, alloc, words, file, &gate)? && gate.is_met(1111))
+}
+
+// Whether they do for a command on the wide network.
+fn four_meet_wide<R: Threads + Sync>(
+    rt: &R,
+    alloc: Global,
+    words: &[&str],
+) -> Result<bool, AllocError> {
+    let text = text_of(alloc, WIDE)?;
+    four_meet(rt, alloc, words, text.as_bytes())
 }
 
 #[test]
-fn certificates_are_made_side_by_side(rt: HostRuntime) -> Result<(), test::Fail> {
-    let text = wide(rt.alloc())?;
-    for words in [CUTS, COMPILE] {
-        assert!(rt; four_meet(&rt, rt.alloc(), words, &text));
-    }
-    Ok(())
+fn certificates_are_made_side_by_side(rt: HostRuntime) {
+    assert!(rt; four_meet_wide(&rt, rt.alloc(), CUTS) == Ok(true));
+    assert!(rt; four_meet_wide(&rt, rt.alloc(), COMPILE) == Ok(true));
 }
 
-#[test]
-fn codes_are_checked_side_by_side(rt: HostRuntime) -> Result<(), test::Fail> {
-    let text = wide(rt.alloc())?;
-    let mut store = store_of(rt.alloc(), &text)?;
+// Whether the text of a store is compiled, and four jobs meet where its code is checked.
+fn four_check<R: Threads + Sync>(
+    rt: &R,
+    alloc: Global,
+    store: &mut MemStore,
+) -> Result<bool, AllocError> {
     let line = "compiled rate 1 field 8 demands 256\n";
-    run(&rt, rt.alloc(), &compiles(line), &mut store, &Status::Done)?;
-    let code = store.file("code").ok_or("no code")?;
-    assert!(rt; four_meet(&rt, rt.alloc(), CHECK, code));
-    Ok(())
+    if !is_done(rt, alloc, COMPILE, line, store)? {
+        return Ok(false);
+    }
+    four_meet(rt, alloc, CHECK, store.file("code").unwrap_or_default())
+}
+
+// Whether they do for the wide network.
+fn four_check_wide<R: Threads + Sync>(rt: &R, alloc: Global) -> Result<bool, AllocError> {
+    let text = text_of(alloc, WIDE)?;
+    let mut store = store_with(alloc, 65536, &[], "in", text.as_bytes())?;
+    four_check(rt, alloc, &mut store)
+}
+
+#[test]
+fn codes_are_checked_side_by_side(rt: HostRuntime) {
+    assert!(rt; four_check_wide(&rt, rt.alloc()) == Ok(true));
 }

@@ -1,7 +1,11 @@
 //! Paths that are one, and a network that isn't there.
-use super::{Said, compiles, run, store_of, store_with};
-use lif_top::Status;
+use super::{
+    COMPILE, READ_FAULT, SAME_PATH, ends, has_neither, has_only, says, store_of, store_with,
+};
+use lif_outside::MemStore;
+use std::alloc::{AllocError, Global};
 use std::test;
+use std::thread::Threads;
 use worked_rows::texts::ONE_LINK_TEXT;
 
 // The paths of the network, the code and the report, and the first output's that is shared.
@@ -13,35 +17,54 @@ const SHARED: &[(&[&str], &str)] = &[
     (&["compile", "none", "code", "code"], "same path: code\n"),
 ];
 
-#[test]
-fn a_shared_path_is_refused(rt: HostRuntime) -> Result<(), test::Fail> {
-    let alloc = rt.alloc();
-    for &(words, line) in SHARED {
-        let mut store = store_of(alloc, ONE_LINK_TEXT)?;
-        let said = Said {
-            words,
-            ..compiles(line)
-        };
-        run(&rt, alloc, &said, &mut store, &Status::SamePath)?;
-        assert!(rt; store.file("net") == Some(ONE_LINK_TEXT), "{line}");
-        assert!(rt; store.file("code").is_none(), "{line}");
-        assert!(rt; store.file("report").is_none(), "{line}");
-    }
-    Ok(())
+// Whether a store with one link at `net` is left as it is by words that are refused with this line.
+fn leaves<R: Threads + Sync>(
+    rt: &R,
+    alloc: Global,
+    words: &[&str],
+    line: &str,
+    store: &mut MemStore,
+) -> Result<bool, AllocError> {
+    let is_ended = ends(rt, alloc, &says(words, SAME_PATH, line), store)?;
+    Ok(is_ended && has_only(store, ONE_LINK_TEXT))
+}
+
+// Whether words are refused with this line, and no file is made.
+fn is_shared<R: Threads + Sync>(
+    rt: &R,
+    alloc: Global,
+    words: &[&str],
+    line: &str,
+) -> Result<bool, AllocError> {
+    let mut store = store_of(alloc, ONE_LINK_TEXT)?;
+    leaves(rt, alloc, words, line, &mut store)
 }
 
 #[test]
-fn a_missing_network_is_a_fault(rt: HostRuntime) -> Result<(), test::Fail> {
-    let alloc = rt.alloc();
+fn a_shared_path_is_refused(rt: HostRuntime) {
+    for &(words, line) in SHARED {
+        let shared = is_shared(&rt, rt.alloc(), words, line);
+        assert!(rt; shared == Ok(true), "{words:?}");
+    }
+}
+
+// Whether the program ends with a fault where its network isn't there, and makes no file.
+fn misses<R: Threads + Sync>(
+    rt: &R,
+    alloc: Global,
+    store: &mut MemStore,
+) -> Result<bool, AllocError> {
+    let said = says(COMPILE, READ_FAULT, "read fault\n");
+    Ok(ends(rt, alloc, &said, store)? && has_neither(store))
+}
+
+// Whether it does with another file.
+fn misses_beside<R: Threads + Sync>(rt: &R, alloc: Global) -> Result<bool, AllocError> {
     let mut store = store_with(alloc, 65536, &[], "other", ONE_LINK_TEXT)?;
-    run(
-        &rt,
-        alloc,
-        &compiles("read fault\n"),
-        &mut store,
-        &Status::ReadFault,
-    )?;
-    assert!(rt; store.file("code").is_none());
-    assert!(rt; store.file("report").is_none());
-    Ok(())
+    misses(rt, alloc, &mut store)
+}
+
+#[test]
+fn a_missing_network_is_a_fault(rt: HostRuntime) {
+    assert!(rt; misses_beside(&rt, rt.alloc()) == Ok(true));
 }
