@@ -37,9 +37,9 @@ enum Outcome {
 // A source that looks random.
 fn source_of(alloc: Global, seed: u32, length: usize) -> Result<Vec<u8>, AllocError> {
     let mut draws = Draws::of(seed);
-    let mut source = Vec::with_capacity(alloc, length)?;
-    for _ in 0..length {
-        source.push(draws.below(256) as u8)?;
+    let mut source = vec![in alloc; 0; length]?;
+    for byte in source.iter_mut() {
+        *byte = draws.below(256) as u8;
     }
     Ok(source)
 }
@@ -70,17 +70,22 @@ fn have_outputs(
     Ok(true)
 }
 
-// Whether a source of three generations is sent under a pattern.
+// What is said where a source of three generations is sent.
+fn line_of(alloc: Global, bytes: usize, sinks: usize) -> Result<String, AllocError> {
+    format!(in alloc; "sent {bytes} bytes in 3 generations to {sinks} sinks\n")
+}
+
+// Whether a source of so many bytes and three generations is sent under a pattern to so many sinks.
 fn is_sent<R: Threads + Sync>(
     rt: &R,
     alloc: Global,
-    count: usize,
+    sinks: usize,
     pattern: &str,
     bytes: usize,
     store: &mut MemStore,
 ) -> Result<bool, AllocError> {
     let words = &["send", "code", pattern, "1", "src", "out"];
-    let line = format!(in alloc; "sent {bytes} bytes in 3 generations to {count} sinks\n")?;
+    let line = line_of(alloc, bytes, sinks)?;
     is_done(rt, alloc, words, line.as_str(), store)
 }
 

@@ -102,7 +102,7 @@ const SENDS: &[(&str, &str)] = &[
     ("none", "send code none 1 src out"),
     ("first", "send code first 1 src out"),
     ("inner", "send code inner 1 src out"),
-    ("last-row", "send code last-row 1 src out"),
+    ("last-row", "send code last-row 0 src out"),
     ("sum", "send code sum 1 src out"),
 ];
 
