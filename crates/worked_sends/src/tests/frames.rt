@@ -1,62 +1,48 @@
 //! The frames that are put, byte by byte.
-use super::sending::{ONE_SINK, SEND, Sending, TWO_SINKS, is_sent};
-use lif_outside::{Flight, ListLinks};
+use super::sending::{ONE_BYTE, ONE_BYTE_LINE, ONE_SINK, SEVENS, Sending, puts_over};
+use lif_outside::Flight;
 use std::alloc::Global;
 use std::test;
 use std::thread::Threads;
-use worked_rows::files::{BUTTERFLY, DOUBLED_ONE_LINK, ONE_LINK, TWO_WAYS};
+use worked_rows::files::{DOUBLED_ONE_LINK, ONE_LINK, TWO_WAYS};
 use worked_rows::orders::listed;
-use worked_rows::watched::{Watched, watch};
+use worked_rows::watched::watch;
 
-const ONE_BYTE_LINE: &str = "sent 1 bytes in 1 generations to 1 sinks\n";
-
-// The byte 41 over one link.
-const ONE_BYTE: Sending<'static> = Sending {
-    words: SEND,
-    code: ONE_LINK,
-    source: b"\x41",
-    outputs: ONE_SINK,
-    line: ONE_BYTE_LINE,
-};
-
-// The links over which a source was sent, where the newest pair that flies is always given.
-fn sent_over<R: Threads + Sync>(
+// The pairs put on links where a source is sent, and the newest pair that flies is always given.
+fn puts_by_newest<R: Threads + Sync>(
     rt: &R,
     alloc: Global,
     sending: &Sending<'_>,
-) -> Option<Watched<ListLinks>> {
-    let links = listed(alloc, 1)?;
-    let mut links = watch(alloc, links);
-    is_sent(rt, alloc, sending, &mut links).then_some(links)
-}
-
-// The numbers at the front of a frame of generation 0.
-fn numbers(piece: u8, link: u8) -> [u8; 12] {
-    [0x4c, 0x46, 1, piece, 0, 0, 0, link, 0, 0, 0, 0]
-}
-
-// Whether a frame is this piece of a link, of which the payload has these bytes and then one byte again and again.
-fn is_frame(frame: &[u8; 140], link: u8, piece: u8, front: &[u8], rest: u8) -> bool {
-    let payload = &frame[12..];
-    frame.starts_with(&numbers(piece, link))
-        && payload.starts_with(front)
-        && payload.iter().skip(front.len()).all(|byte| *byte == rest)
-}
-
-// Whether it is put on that link.
-fn is_pair(flight: &Flight, link: u8, piece: u8, front: &[u8], rest: u8) -> bool {
-    flight.link == u32::from(link) && is_frame(&flight.frame, link, piece, front, rest)
+) -> Option<Vec<Flight>> {
+    let mut links = watch(alloc, listed(alloc, 1)?);
+    puts_over(rt, alloc, sending, &mut links)
 }
 
 // A frame: its link, its piece, the bytes at the front of its payload, and the byte that fills the rest.
 type Put = (u8, u8, &'static [u8], u8);
 
+// Whether a payload has these bytes and then one byte again and again.
+fn is_payload(payload: &[u8], front: &[u8], rest: u8) -> bool {
+    for (place, &byte) in payload.iter().enumerate() {
+        if byte != front.get(place).copied().unwrap_or(rest) {
+            return false;
+        }
+    }
+    true
+}
+
+// Whether a pair is this frame of generation 0 on its link.
+fn is_pair(flight: &Flight, put: &Put) -> bool {
+    let &(link, piece, front, rest) = put;
+    let numbers = [0x4c, 0x46, 1, piece, 0, 0, 0, link, 0, 0, 0, 0];
+    flight.link == u32::from(link)
+        && flight.frame.starts_with(&numbers)
+        && is_payload(&flight.frame[12..], front, rest)
+}
+
 // How often a frame is put on its link.
 fn times(puts: &[Flight], put: &Put) -> usize {
-    let &(link, piece, front, rest) = put;
-    puts.iter()
-        .filter(|flight| is_pair(flight, link, piece, front, rest))
-        .count()
+    puts.iter().filter(|flight| is_pair(flight, put)).count()
 }
 
 // Whether each of these frames is put once.
@@ -86,45 +72,28 @@ const OTHERS: [Put; 7] = [
 ];
 
 // Whether eight frames are put, with this one as the first.
-fn are_of_one_byte(links: Option<Watched<ListLinks>>, first: &Put) -> bool {
-    let Some(links) = links else {
-        return false;
-    };
-    let puts = links.calls.puts.as_slice();
-    let &(link, piece, front, rest) = first;
-    let is_first = match puts.first() {
-        Some(flight) => is_pair(flight, link, piece, front, rest),
-        None => false,
-    };
-    is_first && are_put(puts, &OTHERS) && puts.len() == 8
+fn are_of_one_byte(puts: &[Flight], first: &Put) -> bool {
+    puts.len() == 8 && is_pair(&puts[0], first) && are_put(puts, &OTHERS)
+}
+
+// Whether they are for the byte 41 and a code.
+fn goes_as<R: Threads + Sync>(rt: &R, alloc: Global, code: &[u8], first: &Put) -> Option<bool> {
+    let sending = Sending { code, ..ONE_BYTE };
+    let puts = puts_by_newest(rt, alloc, &sending)?;
+    Some(are_of_one_byte(&puts, first))
 }
 
 #[test]
 fn one_byte_goes_over_one_link(rt: HostRuntime) {
-    let links = sent_over(&rt, rt.alloc(), &ONE_BYTE);
-    assert!(rt; are_of_one_byte(links, &FIRST));
+    assert!(rt; goes_as(&rt, rt.alloc(), ONE_LINK, &FIRST) == Some(true));
 }
 
 #[test]
 fn one_byte_goes_over_one_link_doubled(rt: HostRuntime) {
-    let doubled = Sending {
-        code: DOUBLED_ONE_LINK,
-        ..ONE_BYTE
-    };
-    let links = sent_over(&rt, rt.alloc(), &doubled);
-    assert!(rt; are_of_one_byte(links, &DOUBLED));
+    assert!(rt; goes_as(&rt, rt.alloc(), DOUBLED_ONE_LINK, &DOUBLED) == Some(true));
 }
 
-// The butterfly with 2000 bytes.
-const SEVENS: Sending<'static> = Sending {
-    words: SEND,
-    code: BUTTERFLY,
-    source: &[7; 2000],
-    outputs: TWO_SINKS,
-    line: "sent 2000 bytes in 1 generations to 2 sinks\n",
-};
-
-// Some of its frames.
+// Some of the frames of the butterfly with 2000 bytes.
 const FRAMES_OF_SEVENS: [Put; 15] = [
     // The first row.
     (0, 0, &[0, 0, 7, 0xd0], 7),
@@ -146,21 +115,32 @@ const FRAMES_OF_SEVENS: [Put; 15] = [
     (8, 0, &[7, 7, 0, 0xd7], 0),
 ];
 
-// Whether 72 frames are put, 8 on each of nine links.
-fn are_on_nine_links(puts: &[Flight]) -> bool {
-    puts.len() == 72 && (0..9).all(|link| on_link(puts, link) == 8)
+// Whether 72 frames are put, 8 on each of nine links, and those of the sevens are among them.
+fn are_of_sevens(puts: &[Flight]) -> bool {
+    puts.len() == 72
+        && (0..9).all(|link| on_link(puts, link) == 8)
+        && are_put(puts, &FRAMES_OF_SEVENS)
+}
+
+// Whether they are put for the sevens.
+fn sevens_are_put<R: Threads + Sync>(rt: &R, alloc: Global) -> Option<bool> {
+    let puts = puts_by_newest(rt, alloc, &SEVENS)?;
+    Some(are_of_sevens(&puts))
 }
 
 #[test]
 fn the_middle_of_the_butterfly_carries_the_sum_of_the_rows(rt: HostRuntime) {
-    let are = match sent_over(&rt, rt.alloc(), &SEVENS) {
-        Some(links) => {
-            let puts = links.calls.puts.as_slice();
-            are_on_nine_links(puts) && are_put(puts, &FRAMES_OF_SEVENS)
-        }
-        None => false,
-    };
-    assert!(rt; are);
+    assert!(rt; sevens_are_put(&rt, rt.alloc()) == Some(true));
+}
+
+// How many frames are put on each of four links.
+fn on_four_links(puts: &[Flight]) -> [usize; 4] {
+    [
+        on_link(puts, 0),
+        on_link(puts, 1),
+        on_link(puts, 2),
+        on_link(puts, 3),
+    ]
 }
 
 // How many frames are put in all and on each link, where one byte goes two ways under a pattern.
@@ -176,24 +156,15 @@ fn two_ways<R: Threads + Sync>(
         outputs: ONE_SINK,
         line: ONE_BYTE_LINE,
     };
-    let links = sent_over(rt, alloc, &sending)?;
-    let puts = links.calls.puts.as_slice();
-    let counts = [
-        on_link(puts, 0),
-        on_link(puts, 1),
-        on_link(puts, 2),
-        on_link(puts, 3),
-    ];
-    Some((puts.len(), counts))
+    let puts = puts_by_newest(rt, alloc, &sending)?;
+    Some((puts.len(), on_four_links(&puts)))
 }
 
 #[test]
 fn only_live_links_carry_frames(rt: HostRuntime) {
     // Where the link from `s` to `a` fails, that behind it carries nothing either.
     for (pattern, put) in [("none", (32, [8, 8, 8, 8])), ("f", (16, [0, 8, 0, 8]))] {
-        assert!(rt;
-            two_ways(&rt, rt.alloc(), pattern) == Some(put),
-            "{pattern}"
-        );
+        let counts = two_ways(&rt, rt.alloc(), pattern);
+        assert!(rt; counts == Some(put), "{pattern}");
     }
 }

@@ -69,26 +69,29 @@ pub(super) struct Model {
     firsts: Vec<Option<Payload>>,
 }
 
-// The blocks of a source.
-fn blocks_of(
-    alloc: Global,
+// Adds a block of a source: the count of its bytes, they, and zeros up to its size.
+fn push_block(blocks: &mut Vec<u8>, bytes: &[u8], end: usize) -> Result<(), AllocError> {
+    let count = u32::try_from(bytes.len()).unwrap_or(u32::MAX);
+    blocks.extend_from_slice(&count.to_be_bytes())?;
+    blocks.extend_from_slice(bytes)?;
+    blocks.resize(end, 0)
+}
+
+// Adds the blocks of a source.
+fn push_blocks(
+    blocks: &mut Vec<u8>,
     source: &[u8],
     size: usize,
     generations: usize,
-) -> Result<Vec<u8>, AllocError> {
+) -> Result<(), AllocError> {
     let room = size.saturating_sub(4).max(1);
-    let mut blocks = Vec::new(alloc);
-    for generation in 0..generations {
-        let rest = source
-            .get(generation.saturating_mul(room)..)
-            .unwrap_or_default();
-        let bytes = rest.get(..room).unwrap_or(rest);
-        let count = u32::try_from(bytes.len()).unwrap_or(u32::MAX);
-        blocks.extend_from_slice(&count.to_be_bytes())?;
-        blocks.extend_from_slice(bytes)?;
-        blocks.resize(generation.saturating_add(1).saturating_mul(size), 0)?;
+    let mut rest = source;
+    for generation in 1..=generations {
+        let (bytes, behind) = rest.split_at(room.min(rest.len()));
+        push_block(blocks, bytes, generation.saturating_mul(size))?;
+        rest = behind;
     }
-    Ok(blocks)
+    Ok(())
 }
 
 // The payload of a frame.
@@ -124,7 +127,16 @@ fn place_in(links: usize, flight: &Flight) -> usize {
     place_of(links, generation, flight.link as usize, piece)
 }
 
-// The first payload of each link, generation and piece among flights.
+// Sets the first payload of each link, generation and piece among flights.
+fn set_firsts(firsts: &mut [Option<Payload>], links: usize, flights: &[Flight]) {
+    for flight in flights {
+        if let Some(first) = firsts.get_mut(place_in(links, flight)) {
+            *first = first.or(Some(payload_of(flight)));
+        }
+    }
+}
+
+// Those.
 fn firsts_among(
     alloc: Global,
     links: usize,
@@ -132,11 +144,7 @@ fn firsts_among(
     flights: &[Flight],
 ) -> Result<Vec<Option<Payload>>, AllocError> {
     let mut firsts = vec![in alloc; None; place_of(links, generations, 0, 0)]?;
-    for flight in flights {
-        if let Some(first) = firsts.get_mut(place_in(links, flight)) {
-            *first = first.or(Some(payload_of(flight)));
-        }
-    }
+    set_firsts(&mut firsts, links, flights);
     Ok(firsts)
 }
 
@@ -150,10 +158,12 @@ impl Model {
     ) -> Result<Model, AllocError> {
         let size = plan.rate.saturating_mul(ROW);
         let generations = source.len() / size.saturating_sub(4).max(1) + 1;
+        let mut blocks = Vec::new(alloc);
+        push_blocks(&mut blocks, source, size, generations)?;
         Ok(Model {
             plan: *plan,
             generations,
-            blocks: blocks_of(alloc, source, size, generations)?,
+            blocks,
             firsts: firsts_among(alloc, plan.links.len(), generations, given)?,
         })
     }
@@ -220,33 +230,47 @@ impl Model {
         piece < 8 && flight.frame.starts_with(&address) && carried == Some(payload_of(flight))
     }
 
+    // How many places the pairs have that are put.
+    fn count_places(&self, alloc: Global, puts: &[Flight]) -> Result<usize, AllocError> {
+        let places = firsts_among(alloc, self.plan.links.len(), self.generations, puts)?;
+        Ok(places.iter().filter(|place| place.is_some()).count())
+    }
+
     /// Whether all pairs that are put are due, and none is put twice.
     pub(super) fn are_due(&self, alloc: Global, puts: &[Flight]) -> bool {
-        let links = self.plan.links.len();
-        let Ok(places) = firsts_among(alloc, links, self.generations, puts) else {
-            return false;
-        };
-        let count = places.iter().filter(|place| place.is_some()).count();
-        count == puts.len() && puts.iter().all(|flight| self.is_due(flight))
+        self.count_places(alloc, puts) == Ok(puts.len())
+            && puts.iter().all(|flight| self.is_due(flight))
     }
 
-    // The block of a generation that these rows are.
-    fn block(&self, alloc: Global, rows: &[Sum], generation: usize) -> Option<Vec<u8>> {
+    // Adds the block of a generation that these rows are.
+    fn push_rows(&self, block: &mut Vec<u8>, rows: &[Sum], generation: usize) -> Option<()> {
+        for sum in rows {
+            for piece in 0..8 {
+                let payload = self.sum_of_links(sum, generation, piece)?;
+                block.extend_from_slice(&payload).ok()?;
+            }
+        }
+        Some(())
+    }
+
+    // Adds the counted bytes of that block.
+    fn push_counted(
+        &self,
+        alloc: Global,
+        file: &mut Vec<u8>,
+        rows: &[Sum],
+        generation: usize,
+    ) -> Option<()> {
         let mut block = Vec::new(alloc);
-        for at in 0..rows.len().saturating_mul(8) {
-            let payload = self.sum_of_links(rows.get(at / 8)?, generation, at % 8)?;
-            block.extend_from_slice(&payload).ok()?;
-        }
-        Some(block)
+        self.push_rows(&mut block, rows, generation)?;
+        file.extend_from_slice(counted(&block)).ok()
     }
 
-    /// The file of a sink.
-    pub(super) fn file(&self, alloc: Global, taker: &Taker) -> Option<Vec<u8>> {
-        let mut file = Vec::new(alloc);
+    /// Adds the bytes of a sink's file.
+    pub(super) fn push_file(&self, alloc: Global, file: &mut Vec<u8>, taker: &Taker) -> Option<()> {
         for generation in 0..self.generations {
-            let block = self.block(alloc, taker.rows, generation)?;
-            file.extend_from_slice(counted(&block)).ok()?;
+            self.push_counted(alloc, file, taker.rows, generation)?;
         }
-        Some(file)
+        Some(())
     }
 }

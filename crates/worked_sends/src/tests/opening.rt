@@ -1,25 +1,49 @@
 //! With which number the links are opened, and which commands leave them alone.
-use super::sending::{SEND, ends, store_of};
-use lif_outside::{MemStore, SeedLinks};
+ghost use Rattle.std.specs.Prelude.{◌≡◌, []};
+
+use super::sending::{ONE_BYTE_LINE, SEND, ends, store_of};
+use lif_outside::{Links, MemStore, SeedLinks};
 use std::alloc::Global;
 use std::test;
 use std::thread::Threads;
 use worked_rows::files::{BUTTERFLY, ONE_LINK};
 use worked_rows::texts::BUTTERFLY_TEXT;
-use worked_rows::watched::{Calls, watch};
+use worked_rows::watched::{Calls, Watched, watch};
 
-// The calls that a run makes on links, where it ends so.
-fn calls_of<R: Threads + Sync>(
+// How often links are opened and with what last, and how often a pair is put on them and asked for.
+type Counts = (u32, Option<(u64, u32)>, usize, u32);
+
+fn counts(calls: &Calls) -> Counts {
+    (calls.opens, calls.opened, calls.puts.len(), calls.takes)
+}
+
+// The calls that a run makes on these links, where it ends so.
+fn counts_over<R: Threads + Sync, K: Links>(
+    rt: &R,
+    alloc: Global,
+    words: &[&str],
+    store: &mut MemStore,
+    links: &mut Watched<K>,
+    status: u8,
+    line: &str,
+) -> Option<Counts>
+    requires { K.flying links.old.links ≡ [] }
+{
+    let is_ended = ends(rt, alloc, words, store, links, status, line)?;
+    is_ended.then_some(counts(&links.calls))
+}
+
+// The calls that it makes on links in memory.
+fn counts_of<R: Threads + Sync>(
     rt: &R,
     alloc: Global,
     words: &[&str],
     store: &mut MemStore,
     status: u8,
     line: &str,
-) -> Option<Calls> {
+) -> Option<Counts> {
     let mut links = watch(alloc, SeedLinks::new(alloc));
-    let ended = ends(rt, alloc, words, store, &mut links, status, line);
-    ended.then_some(links.calls)
+    counts_over(rt, alloc, words, store, &mut links, status, line)
 }
 
 // How often and with what the links are opened where a byte is sent with a seed.
@@ -32,44 +56,59 @@ fn opened<R: Threads + Sync>(
 ) -> Option<(u32, Option<(u64, u32)>)> {
     let mut store = store_of(alloc, code, b"A")?;
     let words = &["send", "code", "none", seed, "src", "out"];
-    let calls = calls_of(rt, alloc, words, &mut store, 0, line)?;
-    Some((calls.opens, calls.opened))
+    let (opens, opened, _, _) = counts_of(rt, alloc, words, &mut store, 0, line)?;
+    Some((opens, opened))
 }
+
+const TWO_SINKS_LINE: &str = "sent 1 bytes in 1 generations to 2 sinks\n";
+
+// Codes, seeds, what is said, and with which number and for how many pairs the links are opened.
+const SEEDS: &[(&[u8], &str, &str, u64, u32)] = &[
+    (ONE_LINK, "0", ONE_BYTE_LINE, 0, 32),
+    (ONE_LINK, "7", ONE_BYTE_LINE, 7, 32),
+    (
+        ONE_LINK,
+        "18446744073709551615",
+        ONE_BYTE_LINE,
+        u64::MAX,
+        32,
+    ),
+    (BUTTERFLY, "0", TWO_SINKS_LINE, 0, 288),
+    (BUTTERFLY, "4294967296", TWO_SINKS_LINE, 4294967296, 288),
+];
 
 #[test]
 fn links_are_opened_with_the_seed(rt: HostRuntime) {
-    let one_sink = "sent 1 bytes in 1 generations to 1 sinks\n";
-    let two_sinks = "sent 1 bytes in 1 generations to 2 sinks\n";
-    for (code, seed, line, number, most) in [
-        (ONE_LINK, "0", one_sink, 0, 32),
-        (ONE_LINK, "7", one_sink, 7, 32),
-        (ONE_LINK, "18446744073709551615", one_sink, u64::MAX, 32),
-        (BUTTERFLY, "0", two_sinks, 0, 288),
-        (BUTTERFLY, "4294967296", two_sinks, 4294967296, 288),
-    ] {
+    for &(code, seed, line, number, most) in SEEDS {
         let opened = opened(&rt, rt.alloc(), code, seed, line);
         assert!(rt; opened == Some((1, Some((number, most)))), "{seed}");
     }
 }
 
-// Whether a run leaves the links alone and ends so, with a network at `net`, the butterfly at `code` and a source.
+// Whether a run leaves the links alone and ends so, with a network at `net` of this store.
+fn leaves_links_from<R: Threads + Sync>(
+    rt: &R,
+    alloc: Global,
+    words: &[&str],
+    status: u8,
+    line: &str,
+    store: &mut MemStore,
+) -> Option<bool> {
+    store.put_file(alloc, "net", BUTTERFLY_TEXT).ok()?;
+    let counts = counts_of(rt, alloc, words, store, status, line)?;
+    Some(counts == (0, None, 0, 0))
+}
+
+// Whether it does with the butterfly at `code` and a source.
 fn leaves_links<R: Threads + Sync>(
     rt: &R,
     alloc: Global,
     words: &[&str],
     status: u8,
     line: &str,
-) -> bool {
-    let Some(mut store) = store_of(alloc, BUTTERFLY, b"A") else {
-        return false;
-    };
-    if store.put_file(alloc, "net", BUTTERFLY_TEXT).is_err() {
-        return false;
-    }
-    match calls_of(rt, alloc, words, &mut store, status, line) {
-        Some(calls) => calls.are_none(),
-        None => false,
-    }
+) -> Option<bool> {
+    let mut store = store_of(alloc, BUTTERFLY, b"A")?;
+    leaves_links_from(rt, alloc, words, status, line, &mut store)
 }
 
 const ORDER_LINES: &str = "s-a\ns-b\na-t1\nb-t2\na-c\nb-c\nc-d\nd-t1\nd-t2\n";
@@ -111,23 +150,20 @@ const OTHERS: [(&[&str], u8, &str); 8] = [
 #[test]
 fn other_runs_make_no_call_on_links(rt: HostRuntime) {
     for (words, status, line) in OTHERS {
-        assert!(rt;
-            leaves_links(&rt, rt.alloc(), words, status, line),
-            "{line}"
-        );
+        let leaves = leaves_links(&rt, rt.alloc(), words, status, line);
+        assert!(rt; leaves == Some(true), "{line}");
     }
 }
 
-// How often the links are opened, and how many puts and takes follow, where the source can't be read.
-fn calls_unread<R: Threads + Sync>(rt: &R, alloc: Global) -> Option<(u32, usize, u32)> {
-    let mut store = MemStore::new(alloc, 65536, Vec::new(alloc));
+// The calls on links where the source can't be read.
+fn counts_unread<R: Threads + Sync>(rt: &R, alloc: Global, store: &mut MemStore) -> Option<Counts> {
     store.put_file(alloc, "code", BUTTERFLY).ok()?;
-    let calls = calls_of(rt, alloc, SEND, &mut store, 10, "read fault\n")?;
-    Some((calls.opens, calls.puts.len(), calls.takes))
+    counts_of(rt, alloc, SEND, store, 10, "read fault\n")
 }
 
 #[test]
 fn nothing_is_put_where_the_source_cannot_be_read(rt: HostRuntime) {
-    let calls = calls_unread(&rt, rt.alloc());
-    assert!(rt; calls == Some((1, 0, 0)));
+    let mut store = MemStore::new(rt.alloc(), 65536, Vec::new(rt.alloc()));
+    let counts = counts_unread(&rt, rt.alloc(), &mut store);
+    assert!(rt; counts == Some((1, Some((1, 288)), 0, 0)));
 }

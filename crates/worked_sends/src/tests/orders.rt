@@ -1,5 +1,5 @@
 //! The order in which links give what flies.
-use super::sending::{SEND, Sending, TWO_SINKS, ends, is_sent};
+use super::sending::{SEND, Sending, TWO_SINKS, ends, is_sent, puts_of};
 use lif_outside::{Flight, MemStore, SeedLinks};
 use std::alloc::Global;
 use std::test;
@@ -7,7 +7,6 @@ use std::thread::Threads;
 use worked_rows::files::BUTTERFLY;
 use worked_rows::orders::listed;
 use worked_rows::runs::source_of;
-use worked_rows::watched::watch;
 
 /// Four middle nodes, with a sink behind each two of them.
 pub(super) const COMBINATION_TEXT: &[u8] = b"source s\n\
@@ -34,7 +33,37 @@ pub(super) const COMBINATION_TEXT: &[u8] = b"source s\n\
     link b6-3 m3 t6\n\
     link b6-4 m4 t6\n";
 
+/// What `compile` says of it.
+pub(super) const COMBINATION_LINE: &str = "compiled rate 2 field 8 demands 6\n";
+
 const SIX_SINKS: &[&str] = &["out.t1", "out.t2", "out.t3", "out.t4", "out.t5", "out.t6"];
+
+// Whether the text at `net` of a store is compiled, where `compile` says this line.
+fn compiles<R: Threads + Sync>(
+    rt: &R,
+    alloc: Global,
+    line: &str,
+    store: &mut MemStore,
+) -> Option<bool> {
+    let words = &["compile", "net", "code", "report"];
+    let mut links = SeedLinks::new(alloc);
+    ends(rt, alloc, words, store, &mut links, 0, line)
+}
+
+// The code that is made in a store of a text.
+fn compiled_in<R: Threads + Sync>(
+    rt: &R,
+    alloc: Global,
+    text: &[u8],
+    line: &str,
+    store: &mut MemStore,
+) -> Option<Vec<u8>> {
+    store.put_file(alloc, "net", text).ok()?;
+    if !compiles(rt, alloc, line, store)? {
+        return None;
+    }
+    Vec::from_slice(alloc, store.file("code")?).ok()
+}
 
 /// The code that `compile` makes of a text, where it says this line.
 pub(super) fn compiled<R: Threads + Sync>(
@@ -44,13 +73,7 @@ pub(super) fn compiled<R: Threads + Sync>(
     line: &str,
 ) -> Option<Vec<u8>> {
     let mut store = MemStore::new(alloc, 65536, Vec::new(alloc));
-    store.put_file(alloc, "net", text).ok()?;
-    let words = &["compile", "net", "code", "report"];
-    let mut links = SeedLinks::new(alloc);
-    if !ends(rt, alloc, words, &mut store, &mut links, 0, line) {
-        return None;
-    }
-    Vec::from_slice(alloc, store.file("code")?).ok()
+    compiled_in(rt, alloc, text, line, &mut store)
 }
 
 // Which pair is given: by the rule of a list, or by the seed that is a word.
@@ -75,7 +98,7 @@ fn is_sent_by_seed<R: Threads + Sync>(
     alloc: Global,
     sending: &Sending<'_>,
     seed: &str,
-) -> bool {
+) -> Option<bool> {
     let seeded = Sending {
         words: &["send", "code", "none", seed, "src", "out"],
         ..*sending
@@ -90,92 +113,74 @@ fn is_sent_by_list<R: Threads + Sync>(
     alloc: Global,
     sending: &Sending<'_>,
     rule: u32,
-) -> bool {
-    match listed(alloc, rule) {
-        Some(links) => {
-            let mut links = links;
-            is_sent(rt, alloc, sending, &mut links)
-        }
-        None => false,
-    }
+) -> Option<bool> {
+    let mut links = listed(alloc, rule)?;
+    is_sent(rt, alloc, sending, &mut links)
 }
 
-// Whether so many bytes come through a code in an order.
-fn comes<R: Threads + Sync>(
+// The first order in which a source doesn't come.
+fn first_lost<R: Threads + Sync>(
     rt: &R,
     alloc: Global,
-    code: Option<&[u8]>,
+    sending: &Sending<'_>,
+) -> Option<&'static str> {
+    for (name, order) in ORDERS {
+        let sent = match order {
+            Order::Listed(rule) => is_sent_by_list(rt, alloc, sending, rule),
+            Order::Seeded(seed) => is_sent_by_seed(rt, alloc, sending, seed),
+        };
+        if sent != Some(true) {
+            return Some(name);
+        }
+    }
+    None
+}
+
+// The first order in which so many bytes don't come through a code.
+fn first_lost_of<'a, R: Threads + Sync>(
+    rt: &R,
+    alloc: Global,
+    code: &'a [u8],
+    outputs: &'a [&'a str],
     count: usize,
-    outputs: &[&str],
-    line: &str,
-    order: Order,
-) -> bool {
-    let (Some(code), Some(source)) = (code, source_of(alloc, count)) else {
-        return false;
-    };
+    line: &'a str,
+) -> Option<Option<&'static str>> {
+    let source = source_of(alloc, count)?;
     let sending = Sending {
         words: SEND,
         code,
-        source: source.as_slice(),
+        source: &source,
         outputs,
         line,
     };
-    match order {
-        Order::Listed(rule) => is_sent_by_list(rt, alloc, &sending, rule),
-        Order::Seeded(seed) => is_sent_by_seed(rt, alloc, &sending, seed),
-    }
+    Some(first_lost(rt, alloc, &sending))
 }
 
 #[test]
 fn a_source_comes_through_the_butterfly_in_any_order(rt: HostRuntime) {
     let line = "sent 3000 bytes in 2 generations to 2 sinks\n";
-    for (name, order) in ORDERS {
-        assert!(rt;
-            comes(
-                &rt,
-                rt.alloc(),
-                Some(BUTTERFLY),
-                3000,
-                TWO_SINKS,
-                line,
-                order
-            ),
-            "{name}"
-        );
-    }
+    let lost = first_lost_of(&rt, rt.alloc(), BUTTERFLY, TWO_SINKS, 3000, line);
+    assert!(rt; lost == Some(None), "{lost:?}");
 }
 
 #[test]
 fn three_windows_come_through_the_butterfly_in_any_order(rt: HostRuntime) {
     let line = "sent 17000 bytes in 9 generations to 2 sinks\n";
-    for (name, order) in ORDERS {
-        assert!(rt;
-            comes(
-                &rt,
-                rt.alloc(),
-                Some(BUTTERFLY),
-                17_000,
-                TWO_SINKS,
-                line,
-                order
-            ),
-            "{name}"
-        );
-    }
+    let lost = first_lost_of(&rt, rt.alloc(), BUTTERFLY, TWO_SINKS, 17_000, line);
+    assert!(rt; lost == Some(None), "{lost:?}");
+}
+
+// The first order in which 3000 bytes don't come through the combination network.
+fn first_lost_of_six<R: Threads + Sync>(rt: &R, alloc: Global) -> Option<Option<&'static str>> {
+    let code = compiled(rt, alloc, COMBINATION_TEXT, COMBINATION_LINE)?;
+    let line = "sent 3000 bytes in 2 generations to 6 sinks\n";
+    first_lost_of(rt, alloc, &code, SIX_SINKS, 3000, line)
 }
 
 #[test]
 fn a_source_comes_through_a_combination_network_in_any_order(rt: HostRuntime) {
-    let compiled_line = "compiled rate 2 field 8 demands 6\n";
-    let code = compiled(&rt, rt.alloc(), COMBINATION_TEXT, compiled_line);
-    let code = code.as_deref();
-    let line = "sent 3000 bytes in 2 generations to 6 sinks\n";
-    for (name, order) in ORDERS {
-        assert!(rt;
-            comes(&rt, rt.alloc(), code, 3000, SIX_SINKS, line, order),
-            "{name}"
-        );
-    }
+    let lost = first_lost_of_six(&rt, rt.alloc());
+    assert!(rt; lost == Some(None), "{lost:?}");
 }
 
 // The pairs that are put for 3000 bytes through the butterfly with a seed, in their order.
@@ -184,24 +189,28 @@ fn put_with<R: Threads + Sync>(rt: &R, alloc: Global, seed: &str) -> Option<Vec<
     let sending = Sending {
         words: &["send", "code", "none", seed, "src", "out"],
         code: BUTTERFLY,
-        source: source.as_slice(),
+        source: &source,
         outputs: TWO_SINKS,
         line: "sent 3000 bytes in 2 generations to 2 sinks\n",
     };
-    let mut links = watch(alloc, SeedLinks::new(alloc));
-    let sent = is_sent(rt, alloc, &sending, &mut links);
-    let calls = links.calls;
-    sent.then_some(calls.puts)
+    puts_of(rt, alloc, &sending)
 }
 
-// Whether a pair is put as often in both.
-fn is_in_both(one: &[Flight], other: &[Flight], pair: &Flight) -> bool {
-    let first = one.iter().filter(|flight| *flight == pair).count();
-    let second = other.iter().filter(|flight| *flight == pair).count();
-    first == second
+// How often a pair is put.
+fn times(puts: &[Flight], pair: &Flight) -> usize {
+    puts.iter().filter(|flight| *flight == pair).count()
 }
 
-// Whether the same pairs are put with two seeds, 144 of them, and whether in the same order.
+// Whether the same pairs are put, 144 of them.
+fn are_same(one: &[Flight], other: &[Flight]) -> bool {
+    one.len() == 144
+        && other.len() == 144
+        && one
+            .iter()
+            .all(|pair| times(one, pair) == times(other, pair))
+}
+
+// Whether the same pairs are put with two seeds, and whether in the same order.
 fn same_pairs_and_order<R: Threads + Sync>(
     rt: &R,
     alloc: Global,
@@ -210,10 +219,7 @@ fn same_pairs_and_order<R: Threads + Sync>(
 ) -> Option<(bool, bool)> {
     let one = put_with(rt, alloc, one)?;
     let other = put_with(rt, alloc, other)?;
-    let pairs = one.len() == 144
-        && other.len() == 144
-        && one.iter().all(|pair| is_in_both(&one, &other, pair));
-    Some((pairs, one.as_slice() == other.as_slice()))
+    Some((are_same(&one, &other), one == other))
 }
 
 #[test]

@@ -1,20 +1,14 @@
 //! Links that keep pairs that they gave, and change bytes.
-use super::sending::{SEND, Sending, TWO_SINKS, ends, has, is_sent, store_of};
-use lif_outside::{Flight, SeedLinks, Spoil};
+ghost use Rattle.std.specs.Prelude.{◌≡◌, []};
+ghost use Rattle.lif_outside.specs.Listed.{held_in};
+
+use super::sending::{ONE_BYTE, SEVENS, Sending, comes_as, is_sent, puts_of};
+use lif_outside::{Flight, ListLinks, Spoil};
 use std::alloc::Global;
 use std::test;
 use std::thread::Threads;
-use worked_rows::files::{BUTTERFLY, ONE_LINK};
 use worked_rows::orders::{PLAIN, Script, hostile};
-use worked_rows::watched::{Calls, watch};
-
-const SEVENS: Sending<'static> = Sending {
-    words: SEND,
-    code: BUTTERFLY,
-    source: &[7; 2000],
-    outputs: TWO_SINKS,
-    line: "sent 2000 bytes in 1 generations to 2 sinks\n",
-};
+use worked_rows::watched::{Watched, watch};
 
 // The first numbers, from 1.
 fn first_numbers(alloc: Global, count: u64) -> Option<Vec<u64>> {
@@ -25,37 +19,46 @@ fn first_numbers(alloc: Global, count: u64) -> Option<Vec<u64>> {
     Some(numbers)
 }
 
-// The calls made on links of which the first takes, so many, keep their pair, where the source is sent.
-fn calls_with<R: Threads + Sync>(rt: &R, alloc: Global, repeats: u64) -> Option<Calls> {
+// Whether each pair of a list is once in another.
+fn are_once(pairs: &[Flight], others: &[Flight]) -> bool {
+    pairs.iter().all(|pair| others.iter().filter(|other| *other == pair).count() == 1)
+}
+
+// How many pairs are put on links and how often one is asked for, where the source is sent and those put are these.
+fn counts_over<R: Threads + Sync>(
+    rt: &R,
+    alloc: Global,
+    plain: &[Flight],
+    links: &mut Watched<ListLinks>,
+) -> Option<(usize, u32)>
+    requires { (held_in links.old.links).flying ≡ [] }
+{
+    let is_sent = is_sent(rt, alloc, &SEVENS, links)?;
+    let calls = &links.calls;
+    let same = are_once(&calls.puts, plain) && are_once(plain, &calls.puts);
+    (is_sent && same).then_some((calls.puts.len(), calls.takes))
+}
+
+// The same for links of which the first takes, so many, keep their pair.
+fn counts_among<R: Threads + Sync>(
+    rt: &R,
+    alloc: Global,
+    repeats: u64,
+    plain: &[Flight],
+) -> Option<(usize, u32)> {
     let keeps = first_numbers(alloc, repeats)?;
     let script = Script {
         keeps: &keeps,
         ..PLAIN
     };
     let mut links = watch(alloc, hostile(alloc, &script)?);
-    let sent = is_sent(rt, alloc, &SEVENS, &mut links);
-    sent.then_some(links.calls)
+    counts_over(rt, alloc, plain, &mut links)
 }
 
-// The pairs put on links that keep none.
-fn pairs_put<R: Threads + Sync>(rt: &R, alloc: Global) -> Option<Vec<Flight>> {
-    let mut links = watch(alloc, SeedLinks::new(alloc));
-    let sent = is_sent(rt, alloc, &SEVENS, &mut links);
-    let calls = links.calls;
-    sent.then_some(calls.puts)
-}
-
-// Whether each pair of a list is once in another.
-fn are_once(pairs: &[Flight], others: &[Flight]) -> bool {
-    pairs.iter().all(|pair| others.iter().filter(|other| *other == pair).count() == 1)
-}
-
-// How many pairs are put and how often one is asked for, where those put are the same as without repeats.
+// The same, where the pairs put are those put on links that keep none.
 fn counts_with<R: Threads + Sync>(rt: &R, alloc: Global, repeats: u64) -> Option<(usize, u32)> {
-    let calls = calls_with(rt, alloc, repeats)?;
-    let plain = pairs_put(rt, alloc)?;
-    let same = are_once(&calls.puts, &plain) && are_once(&plain, &calls.puts);
-    same.then_some((calls.puts.len(), calls.takes))
+    let plain = puts_of(rt, alloc, &SEVENS)?;
+    counts_among(rt, alloc, repeats, &plain)
 }
 
 #[test]
@@ -67,24 +70,17 @@ fn a_pair_that_comes_again_changes_nothing(rt: HostRuntime) {
     }
 }
 
-// Whether the byte 41 goes over one link that follows a script with this status and line, and these bytes stand in the sink's
-// file then.
+// Whether a source goes over links that follow a script, ends with this status, and comes to the sinks as these bytes.
 fn goes<R: Threads + Sync>(
     rt: &R,
     alloc: Global,
+    sending: &Sending<'_>,
     script: &Script<'_>,
     status: u8,
-    line: &str,
-    file: &[u8],
-) -> bool {
-    let (Some(mut store), Some(links)) = (
-        store_of(alloc, ONE_LINK, b"\x41"),
-        hostile(alloc, script),
-    ) else {
-        return false;
-    };
-    let mut links = links;
-    ends(rt, alloc, SEND, &mut store, &mut links, status, line) && has(&store, "out.t", file)
+    bytes: &[u8],
+) -> Option<bool> {
+    let mut links = hostile(alloc, script)?;
+    comes_as(rt, alloc, sending, &mut links, status, bytes)
 }
 
 // The first byte of the source stands in the first piece behind the count of the block's bytes, which has four.
@@ -94,17 +90,16 @@ const SPOIL: Spoil = Spoil {
     mask: 1,
 };
 
+// A bit of the first frame is changed.
+const CHANGED: Script<'static> = Script {
+    spoils: &[SPOIL],
+    ..PLAIN
+};
+
 // A script, and what comes of the byte 41.
 const BYTES: &[(&str, Script<'static>, &[u8])] = &[
     ("nothing", PLAIN, b"\x41"),
-    (
-        "a bit is changed",
-        Script {
-            spoils: &[SPOIL],
-            ..PLAIN
-        },
-        b"\x40",
-    ),
+    ("a bit is changed", CHANGED, b"\x40"),
     (
         "all bits are changed",
         Script {
@@ -163,38 +158,25 @@ const BYTES: &[(&str, Script<'static>, &[u8])] = &[
 
 #[test]
 fn what_is_written_is_what_links_gave_first(rt: HostRuntime) {
-    let line = "sent 1 bytes in 1 generations to 1 sinks\n";
-    for &(name, script, file) in BYTES {
-        assert!(rt; goes(&rt, rt.alloc(), &script, 0, line, file), "{name}");
+    for (name, script, file) in BYTES {
+        let goes = goes(&rt, rt.alloc(), &ONE_BYTE, script, 0, file);
+        assert!(rt; goes == Some(true), "{name}");
     }
 }
 
 #[test]
 fn a_take_fails_among_repeats(rt: HostRuntime) {
+    let sending = Sending {
+        line: "link fault\n",
+        ..ONE_BYTE
+    };
     let script = Script {
         keeps: &[1, 2, 3, 4, 5],
         take_fails: &[6],
         ..PLAIN
     };
-    let ended = goes(&rt, rt.alloc(), &script, 15, "link fault\n", b"");
-    assert!(rt; ended);
-}
-
-// Whether 2000 bytes 07 come to both sinks of the butterfly as these, over links that change a bit of the first frame.
-fn come_changed<R: Threads + Sync>(rt: &R, alloc: Global, bytes: &[u8]) -> bool {
-    let script = Script {
-        spoils: &[SPOIL],
-        ..PLAIN
-    };
-    let (Some(mut store), Some(links)) = (
-        store_of(alloc, BUTTERFLY, SEVENS.source),
-        hostile(alloc, &script),
-    ) else {
-        return false;
-    };
-    let mut links = links;
-    ends(rt, alloc, SEND, &mut store, &mut links, 0, SEVENS.line)
-        && TWO_SINKS.iter().all(|path| has(&store, path, bytes))
+    let ended = goes(&rt, rt.alloc(), &sending, &script, 15, b"");
+    assert!(rt; ended == Some(true));
 }
 
 #[test]
@@ -202,5 +184,6 @@ fn a_changed_byte_comes_to_both_sinks(rt: HostRuntime) {
     // The frame is that of the first piece from `s` to `a`.
     let mut bytes = [7; 2000];
     bytes[0] = 6;
-    assert!(rt; come_changed(&rt, rt.alloc(), &bytes));
+    let comes = goes(&rt, rt.alloc(), &SEVENS, &CHANGED, 0, &bytes);
+    assert!(rt; comes == Some(true));
 }

@@ -1,11 +1,13 @@
 //! Runs of the program over links of any kind.
 ghost use Rattle.std.specs.Prelude.{◌≡◌, []};
 
-use lif_outside::{Fail, Links, MemSink, MemStore, NoGate};
+use lif_outside::{Fail, Flight, Links, MemSink, MemStore, NoGate, SeedLinks};
 use lif_top::lif;
 use std::alloc::Global;
 use std::thread::Threads;
+use worked_rows::files::{BUTTERFLY, ONE_LINK};
 use worked_rows::runs::words_of;
+use worked_rows::watched::{Watched, watch};
 
 /// A source that is sent through a code, at which paths it comes out, and what is said then.
 #[derive(Clone, Copy)]
@@ -24,27 +26,52 @@ pub(super) const ONE_SINK: &[&str] = &["out.t"];
 
 pub(super) const TWO_SINKS: &[&str] = &["out.t1", "out.t2"];
 
+/// What is said where one byte is sent to one sink.
+pub(super) const ONE_BYTE_LINE: &str = "sent 1 bytes in 1 generations to 1 sinks\n";
+
+/// The byte 41 over one link.
+pub(super) const ONE_BYTE: Sending<'static> = Sending {
+    words: SEND,
+    code: ONE_LINK,
+    source: b"\x41",
+    outputs: ONE_SINK,
+    line: ONE_BYTE_LINE,
+};
+
+/// The butterfly with 2000 bytes.
+pub(super) const SEVENS: Sending<'static> = Sending {
+    words: SEND,
+    code: BUTTERFLY,
+    source: &[7; 2000],
+    outputs: TWO_SINKS,
+    line: "sent 2000 bytes in 1 generations to 2 sinks\n",
+};
+
+/// How many bytes of the source a window of four generations of the butterfly has room for.
+pub(super) const WINDOW: usize = 8176;
+
 /// A store with a code and a source.
 pub(super) fn store_of(alloc: Global, code: &[u8], source: &[u8]) -> Option<MemStore> {
-    store_giving(alloc, code, source, 65536, None)
+    store_giving(alloc, code, source, 65536, &[])
 }
 
-/// The same, of which a read gives at most so many bytes, and a call may fail.
+/// The same, of which a read gives at most so many bytes, and calls may fail.
 pub(super) fn store_giving(
     alloc: Global,
     code: &[u8],
     source: &[u8],
     most: usize,
-    fail: Option<Fail>,
+    fails: &[Fail],
 ) -> Option<MemStore> {
-    let mut fails = Vec::new(alloc);
-    if let Some(fail) = fail {
-        fails.push(fail).ok()?;
-    }
-    let mut store = MemStore::new(alloc, most.max(1), fails);
-    store.put_file(alloc, "code", code).ok()?;
-    store.put_file(alloc, "src", source).ok()?;
+    let mut store = MemStore::new(alloc, most.max(1), Vec::from_slice(alloc, fails).ok()?);
+    put_files(alloc, code, source, &mut store)?;
     Some(store)
+}
+
+// Puts a code and a source into a store.
+fn put_files(alloc: Global, code: &[u8], source: &[u8], store: &mut MemStore) -> Option<()> {
+    store.put_file(alloc, "code", code).ok()?;
+    store.put_file(alloc, "src", source).ok()
 }
 
 /// Whether a path of a store has these bytes.
@@ -52,20 +79,29 @@ pub(super) fn has(store: &MemStore, path: &str, bytes: &[u8]) -> bool {
     store.file(path) == Some(bytes)
 }
 
-/// The number of the status with which a run ends, and what it says.
-pub(super) fn ended<R: Threads + Sync, K: Links>(
+/// Whether each of these paths has.
+pub(super) fn all_have(store: &MemStore, paths: &[&str], bytes: &[u8]) -> bool {
+    for path in paths {
+        if !has(store, path, bytes) {
+            return false;
+        }
+    }
+    true
+}
+
+/// The number of the status with which a run ends. What it says goes to `say`.
+pub(super) fn status_of<R: Threads + Sync, K: Links>(
     rt: &R,
     alloc: Global,
     words: &[&str],
     store: &mut MemStore,
     links: &mut K,
-) -> Option<(u8, MemSink)>
+    say: &mut MemSink,
+) -> Option<u8>
     requires { K.flying links.old ≡ [] }
 {
     let words = words_of(alloc, words).ok()?;
-    let mut say = MemSink::new(alloc, Vec::new(alloc));
-    let status = lif(rt, alloc, words.as_slice(), store, &mut say, links, &NoGate);
-    Some((status.code(), say))
+    Some(lif(rt, alloc, &words, store, say, links, &NoGate).code())
 }
 
 /// Whether a run ends with the status of this number and says this line.
@@ -77,13 +113,43 @@ pub(super) fn ends<R: Threads + Sync, K: Links>(
     links: &mut K,
     status: u8,
     line: &str,
-) -> bool
+) -> Option<bool>
     requires { K.flying links.old ≡ [] }
 {
-    match ended(rt, alloc, words, store, links) {
-        Some((number, say)) => number == status && say.bytes() == line.as_bytes(),
-        None => false,
-    }
+    let mut say = MemSink::new(alloc, Vec::new(alloc));
+    let number = status_of(rt, alloc, words, store, links, &mut say)?;
+    Some(number == status && say.bytes() == line.as_bytes())
+}
+
+/// Whether a source is sent from a store, and each output has these bytes then, where it ends with the status of this number.
+pub(super) fn brings<R: Threads + Sync, K: Links>(
+    rt: &R,
+    alloc: Global,
+    sending: &Sending<'_>,
+    store: &mut MemStore,
+    links: &mut K,
+    status: u8,
+    bytes: &[u8],
+) -> Option<bool>
+    requires { K.flying links.old ≡ [] }
+{
+    let is_ended = ends(rt, alloc, sending.words, store, links, status, sending.line)?;
+    Some(is_ended && all_have(store, sending.outputs, bytes))
+}
+
+/// The same, from a store of its own.
+pub(super) fn comes_as<R: Threads + Sync, K: Links>(
+    rt: &R,
+    alloc: Global,
+    sending: &Sending<'_>,
+    links: &mut K,
+    status: u8,
+    bytes: &[u8],
+) -> Option<bool>
+    requires { K.flying links.old ≡ [] }
+{
+    let mut store = store_of(alloc, sending.code, sending.source)?;
+    brings(rt, alloc, sending, &mut store, links, status, bytes)
 }
 
 /// Whether a source is sent, and stands at each output then.
@@ -92,15 +158,34 @@ pub(super) fn is_sent<R: Threads + Sync, K: Links>(
     alloc: Global,
     sending: &Sending<'_>,
     links: &mut K,
-) -> bool
+) -> Option<bool>
     requires { K.flying links.old ≡ [] }
 {
-    let Some(mut store) = store_of(alloc, sending.code, sending.source) else {
-        return false;
-    };
-    ends(rt, alloc, sending.words, &mut store, links, 0, sending.line)
-        && sending
-            .outputs
-            .iter()
-            .all(|path| has(&store, path, sending.source))
+    comes_as(rt, alloc, sending, links, 0, sending.source)
+}
+
+/// The pairs that are put on links where a source is sent, in their order.
+pub(super) fn puts_over<R: Threads + Sync, K: Links>(
+    rt: &R,
+    alloc: Global,
+    sending: &Sending<'_>,
+    links: &mut Watched<K>,
+) -> Option<Vec<Flight>>
+    requires { K.flying links.old.links ≡ [] }
+{
+    if is_sent(rt, alloc, sending, links)? {
+        Vec::from_slice(alloc, &links.calls.puts).ok()
+    } else {
+        None
+    }
+}
+
+/// The same over links that go by the seed.
+pub(super) fn puts_of<R: Threads + Sync>(
+    rt: &R,
+    alloc: Global,
+    sending: &Sending<'_>,
+) -> Option<Vec<Flight>> {
+    let mut links = watch(alloc, SeedLinks::new(alloc));
+    puts_over(rt, alloc, sending, &mut links)
 }
