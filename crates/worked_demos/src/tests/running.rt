@@ -7,14 +7,56 @@ use std::alloc::Global;
 use std::thread::Threads;
 use worked_rows::runs::words_of;
 
-// A store of which each call fails that comes first.
-fn failing_store(alloc: Global) -> Option<MemStore> {
-    let mut fails = Vec::new(alloc);
-    for call in [Call::Read, Call::Create, Call::Append] {
-        let nth = 1;
-        fails.push(Fail { call, nth, keep: 0 }).ok()?;
-    }
-    Some(MemStore::new(alloc, 1, fails))
+// The first read, of which nothing is kept.
+const FIRST_READ: Fail = Fail {
+    call: Call::Read,
+    nth: 1,
+    keep: 0,
+};
+
+// The first call of each kind.
+const FIRST_CALLS: [Fail; 3] = [
+    FIRST_READ,
+    Fail {
+        call: Call::Create,
+        ..FIRST_READ
+    },
+    Fail {
+        call: Call::Append,
+        ..FIRST_READ
+    },
+];
+
+// The number of the status with which a run ends. What it says goes to `say`.
+fn status_of<R: Threads + Sync, K: Links>(
+    rt: &R,
+    alloc: Global,
+    words: &[&str],
+    store: &mut MemStore,
+    links: &mut K,
+    say: &mut MemSink,
+) -> Option<u8>
+    requires { K.flying links.old ≡ [] }
+{
+    let words = words_of(alloc, words).ok()?;
+    Some(lif(rt, alloc, &words, store, say, links, &NoGate).code())
+}
+
+// Whether a run on a store ends with the status of this number and says these lines.
+fn ends_on<R: Threads + Sync, K: Links>(
+    rt: &R,
+    alloc: Global,
+    words: &[&str],
+    store: &mut MemStore,
+    links: &mut K,
+    status: u8,
+    lines: &str,
+) -> Option<bool>
+    requires { K.flying links.old ≡ [] }
+{
+    let mut say = MemSink::new(alloc, Vec::new(alloc));
+    let number = status_of(rt, alloc, words, store, links, &mut say)?;
+    Some(number == status && say.bytes() == lines.as_bytes())
 }
 
 /// Whether a run ends with the status of this number and says these lines. No call on a store would be answered.
@@ -25,27 +67,22 @@ pub(super) fn ends<R: Threads + Sync, K: Links>(
     links: &mut K,
     status: u8,
     lines: &str,
-) -> bool
+) -> Option<bool>
     requires { K.flying links.old ≡ [] }
 {
-    let (Ok(words), Some(mut store)) = (words_of(alloc, words), failing_store(alloc)) else {
-        return false;
-    };
-    let mut say = MemSink::new(alloc, Vec::new(alloc));
-    let ended = lif(
-        rt,
-        alloc,
-        words.as_slice(),
-        &mut store,
-        &mut say,
-        links,
-        &NoGate,
-    );
-    ended.code() == status && say.bytes() == lines.as_bytes()
+    let fails = Vec::from_slice(alloc, &FIRST_CALLS).ok()?;
+    let mut store = MemStore::new(alloc, 1, fails);
+    ends_on(rt, alloc, words, &mut store, links, status, lines)
 }
 
-/// Whether a run is done and says these lines.
-pub(super) fn shows<R: Threads + Sync>(rt: &R, alloc: Global, words: &[&str], lines: &str) -> bool {
+/// Whether a run over links in memory does.
+pub(super) fn ends_in_memory<R: Threads + Sync>(
+    rt: &R,
+    alloc: Global,
+    words: &[&str],
+    status: u8,
+    lines: &str,
+) -> Option<bool> {
     let mut links = SeedLinks::new(alloc);
-    ends(rt, alloc, words, &mut links, 0, lines)
+    ends(rt, alloc, words, &mut links, status, lines)
 }
