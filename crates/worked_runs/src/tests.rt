@@ -144,9 +144,11 @@ const ONE_BYTE: Run<'static> = Run {
 
 // The letters from `A` on, again and again.
 fn letters(alloc: Global, count: usize) -> Result<Vec<u8>, AllocError> {
-    (0..count)
-        .map(|place| b'A' + (place % 26) as u8)
-        .collect(alloc)
+    let mut bytes = Vec::with_capacity(alloc, count)?;
+    for place in 0..count {
+        bytes.push(b'A' + (place % 26) as u8)?;
+    }
+    Ok(bytes)
 }
 
 // A file's bytes with others in their place from a byte on.
@@ -171,12 +173,13 @@ fn call<R: Threads + Sync>(
 
 // The words of a line, which have a space between each two.
 fn words_in(alloc: Global, line: &str) -> Result<Vec<String>, AllocError> {
-    if line.is_empty() {
-        return Ok(Vec::new(alloc));
+    let mut words = Vec::new(alloc);
+    if !line.is_empty() {
+        for word in line.split(' ') {
+            words.push(String::from_str(alloc, word)?)?;
+        }
     }
-    line.split(' ')
-        .map(|word| String::from_str(alloc, word))
-        .try_collect(alloc)
+    Ok(words)
 }
 
 // What stands at a path among files.
@@ -189,9 +192,14 @@ fn file_at<'a>(files: &[(&'a str, &'a [u8])], path: &str) -> Option<&'a [u8]> {
     None
 }
 
-// Whether a path is one of these, which have spaces between them.
+// Whether a path is one of these, which have a space between each two.
 fn is_among(paths: &str, path: &str) -> bool {
-    paths.split_whitespace().any(|other| other == path)
+    for other in paths.split_whitespace() {
+        if other == path {
+            return true;
+        }
+    }
+    false
 }
 
 // What stands at a path, as a run tells it.
@@ -221,9 +229,12 @@ fn put_files(alloc: Global, store: &mut MemStore, run: &Run<'_>) -> Result<(), A
 
 // The first of these paths where something else stands than a run tells.
 fn first_wrong_path<'a>(run: &Run<'_>, store: &MemStore, paths: &'a str) -> Option<&'a str> {
-    paths
-        .split_whitespace()
-        .find(|&path| store.file(path) != told(run, path))
+    for path in paths.split_whitespace() {
+        if store.file(path) != told(run, path) {
+            return Some(path);
+        }
+    }
+    None
 }
 
 // The same for the paths of files.
@@ -293,7 +304,7 @@ fn check<R: Abort + Threads + Sync>(
     run: &Run<'_>,
 ) -> Result<(), test::Fail> {
     let wrong = outcome(rt, alloc, run)?;
-    assert_eq!(rt; wrong, None, "{}", run.name);
+    assert!(rt; wrong.is_none(), "{}, {}: {wrong:?}", run.name, run.words);
     Ok(())
 }
 
@@ -305,27 +316,6 @@ fn check_each<R: Abort + Threads + Sync>(
 ) -> Result<(), test::Fail> {
     for run in runs {
         check(rt, alloc, run)?;
-    }
-    Ok(())
-}
-
-// Does runs that differ from one in their names and words.
-fn check_words<R: Abort + Threads + Sync>(
-    rt: &R,
-    alloc: Global,
-    run: &Run<'_>,
-    rows: &[(&str, &str)],
-) -> Result<(), test::Fail> {
-    for &(name, words) in rows {
-        check(
-            rt,
-            alloc,
-            &Run {
-                name,
-                words,
-                ..*run
-            },
-        )?;
     }
     Ok(())
 }
@@ -369,19 +359,75 @@ fn send_each<R: Abort + Threads + Sync>(
     Ok(())
 }
 
-// A code is accepted, and nothing is made.
-fn accept<'a, R: Abort + Threads + Sync>(
+// A source is sent with these words, and comes to the one sink.
+fn send_so<'a, R: Abort + Threads + Sync>(
     rt: &R,
     alloc: Global,
+    words: &'a str,
     code: &'a [u8],
+    source: &'a [u8],
     line: &'a str,
 ) -> Result<(), test::Fail> {
     let run = Run {
         name: line,
-        words: CHECK,
+        words,
         code: Some(code),
+        source: Some(source),
+        line,
+        received: ONE_SINK,
+        ..NO_WORDS
+    };
+    check(rt, alloc, &run)
+}
+
+// A command ends so, and nothing is made.
+fn end_with<'a, R: Abort + Threads + Sync>(
+    rt: &R,
+    alloc: Global,
+    words: &'a str,
+    code: &'a [u8],
+    status: Ending,
+    line: &'a str,
+) -> Result<(), test::Fail> {
+    let run = Run {
+        name: line,
+        words,
+        code: Some(code),
+        status,
         line,
         ..NO_WORDS
     };
     check(rt, alloc, &run)
+}
+
+// A code is accepted.
+fn accept<R: Abort + Threads + Sync>(
+    rt: &R,
+    alloc: Global,
+    code: &[u8],
+    line: &str,
+) -> Result<(), test::Fail> {
+    end_with(rt, alloc, CHECK, code, Ending::Done, line)
+}
+
+// How `send` by a code ends otherwise than it should, which is so, where these files are made.
+fn outcome_of<'a, R: Threads + Sync>(
+    rt: &R,
+    alloc: Global,
+    code: &'a [u8],
+    source: &'a [u8],
+    status: Ending,
+    line: &'a str,
+    made: &'a [(&'a str, &'a [u8])],
+) -> Result<Option<&'a str>, AllocError> {
+    let run = Run {
+        words: SEND,
+        code: Some(code),
+        source: Some(source),
+        status,
+        line,
+        made,
+        ..NO_WORDS
+    };
+    outcome(rt, alloc, &run)
 }

@@ -1,5 +1,5 @@
 //! Every coefficient with every entry.
-use super::{Ending, NO_WORDS, ONE_SINK, Run, SEND, changed, outcome};
+use super::{Ending, changed, outcome_of};
 use gf_tables::{FieldKind, product};
 use lif_top::CodeRefusal;
 use std::alloc::{AllocError, Global};
@@ -43,32 +43,6 @@ fn line_of(alloc: Global, status: Ending) -> Result<String, AllocError> {
     }
 }
 
-// Whether `send` by a code ends so.
-fn is_sent<'a, R: Threads + Sync>(
-    rt: &R,
-    alloc: Global,
-    code: &'a [u8],
-    source: &'a [u8],
-    status: Ending,
-    line: &'a str,
-) -> Result<bool, AllocError> {
-    let received = match status {
-        Ending::Done => ONE_SINK,
-        _ => "",
-    };
-    let run = Run {
-        name: line,
-        words: SEND,
-        code: Some(code),
-        source: Some(source),
-        status,
-        line,
-        received,
-        ..NO_WORDS
-    };
-    Ok(outcome(rt, alloc, &run)?.is_none())
-}
-
 // Whether a coefficient with an entry ends as it should.
 fn is_right<R: Threads + Sync>(
     rt: &R,
@@ -80,22 +54,12 @@ fn is_right<R: Threads + Sync>(
     let status = ending(times, entry);
     let code = one_link(alloc, times, entry)?;
     let line = line_of(alloc, status)?;
-    is_sent(rt, alloc, code.as_slice(), source, status, line.as_str())
-}
-
-// The first entry that doesn't end as it should with a coefficient.
-fn first_wrong_entry<R: Threads + Sync>(
-    rt: &R,
-    alloc: Global,
-    source: &[u8],
-    times: u8,
-) -> Result<Option<u8>, AllocError> {
-    for entry in 0..=255u8 {
-        if !is_right(rt, alloc, source, times, entry)? {
-            return Ok(Some(entry));
-        }
-    }
-    Ok(None)
+    let output = [("out.t", source)];
+    let count = usize::from(matches!(status, Ending::Done));
+    let made = output.get(..count).unwrap_or_default();
+    let code = code.as_slice();
+    let wrong = outcome_of(rt, alloc, code, source, status, line.as_str(), made)?;
+    Ok(wrong.is_none())
 }
 
 // The first coefficient and entry that don't end as they should.
@@ -103,32 +67,46 @@ fn first_wrong<R: Threads + Sync>(
     rt: &R,
     alloc: Global,
     source: &[u8],
-) -> Result<Option<(u8, u8)>, AllocError> {
-    for times in 0..=255u8 {
-        if let Some(entry) = first_wrong_entry(rt, alloc, source, times)? {
-            return Ok(Some((times, entry)));
+) -> Result<Option<[u8; 2]>, AllocError> {
+    for pair in 0..=u16::MAX {
+        let [times, entry] = pair.to_be_bytes();
+        if !is_right(rt, alloc, source, times, entry)? {
+            return Ok(Some([times, entry]));
         }
     }
     Ok(None)
 }
 
+// Each byte.
+fn all_bytes() -> [u8; 256] {
+    let mut bytes = [0; 256];
+    for byte in 0..=255u8 {
+        bytes[usize::from(byte)] = byte;
+    }
+    bytes
+}
+
 #[test]
 fn a_source_comes_where_the_entry_is_the_inverse(rt: HostRuntime) -> Result<(), test::Fail> {
-    let source: Vec<u8> = (0..=255u8).collect(rt.alloc())?;
-    let wrong = first_wrong(&rt, rt.alloc(), source.as_slice())?;
-    assert_eq!(rt; wrong, None);
+    let wrong = first_wrong(&rt, rt.alloc(), &all_bytes())?;
+    assert!(rt; wrong.is_none(), "{wrong:?}");
     Ok(())
 }
 
 // How many entries undo a coefficient.
-fn inverses(times: u8) -> usize {
-    (0..=255u8)
-        .filter(|&entry| matches!(ending(times, entry), Ending::Done))
-        .count()
+fn inverses(times: u8) -> u32 {
+    let mut count = 0u32;
+    for entry in 0..=255u8 {
+        if let Ending::Done = ending(times, entry) {
+            count = count.saturating_add(1);
+        }
+    }
+    count
 }
 
 #[test]
 fn a_coefficient_has_one_inverse(rt: HostRuntime) {
-    let wrong = (0..=255u8).find(|&times| inverses(times) != usize::from(times != 0));
-    assert_eq!(rt; wrong, None);
+    for times in 0..=255u8 {
+        assert!(rt; inverses(times) == u32::from(times != 0), "{times}");
+    }
 }

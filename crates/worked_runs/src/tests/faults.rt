@@ -171,7 +171,7 @@ fn check_calls<R: Abort + Threads + Sync>(
 ) -> Result<(), test::Fail> {
     let source = letters(alloc, LENGTH)?;
     let wrong = first_wrong(rt, alloc, source.as_slice(), most)?;
-    assert_eq!(rt; wrong, None, "at {most}");
+    assert!(rt; wrong.is_none(), "{wrong:?} at {most}");
     Ok(())
 }
 
@@ -236,36 +236,15 @@ fn each_read_of_check_fails_in_turn(rt: HostRuntime) -> Result<(), test::Fail> {
     Ok(())
 }
 
-// The second append fails, and these parts of the source stand in the files.
-fn check_parts<'a, R: Abort + Threads + Sync>(
-    rt: &R,
-    alloc: Global,
-    source: &'a [u8],
-    made: &'a [(&'a str, &'a [u8])],
-) -> Result<(), test::Fail> {
-    let run = Run {
-        name: "the second append fails",
-        words: SEND,
-        code: Some(BUTTERFLY),
-        source: Some(source),
-        fails: &[Fail {
-            call: Call::Append,
-            nth: 2,
-            keep: 7,
-        }],
-        status: Ending::WriteFault,
-        line: "write fault\n",
-        made,
-        ..NO_WORDS
-    };
-    check(rt, alloc, &run)
-}
-
+// The second append keeps 7 bytes: the first block stands in the first file, and 7 bytes of it in the second.
 #[test]
-fn a_failed_append_may_keep_a_part(rt: HostRuntime) -> Result<(), test::Fail> {
-    let source = letters(rt.alloc(), LENGTH)?;
-    let whole = source.as_slice().get(..2044).unwrap_or_default();
-    let part = source.as_slice().get(..7).unwrap_or_default();
-    let made = [("out.t1", whole), ("out.t2", part)];
-    check_parts(&rt, rt.alloc(), source.as_slice(), &made)
+fn a_failed_append_may_keep_a_part(rt: HostRuntime) {
+    let fail = Fail {
+        call: Call::Append,
+        nth: 2,
+        keep: 7,
+    };
+    let end = end_of(&fail, 65536);
+    assert!(rt; matches!(end.status, Ending::WriteFault));
+    assert!(rt; end.made == 2 && end.kept == [2044, 7]);
 }

@@ -1,7 +1,6 @@
 //! Sources of many lengths, over one link and over the butterfly.
-use super::{Ending, NO_WORDS, ONE_SINK, Run, SEND, TWO_SINKS, check, letters, send_each, send_to};
-use std::alloc::Global;
-use std::process::Abort;
+use super::{Ending, ONE_SINK, TWO_SINKS, letters, outcome_of, send_each, send_to};
+use std::alloc::{AllocError, Global};
 use std::test;
 use std::thread::Threads;
 use worked_rows::files::{BUTTERFLY, ONE_LINK};
@@ -63,52 +62,28 @@ fn equal_bytes_come_to_both_sinks(rt: HostRuntime) -> Result<(), test::Fail> {
     )
 }
 
-// A source that is too long, of which these beginnings stand in files.
-fn check_too_long<'a, R: Abort + Threads + Sync>(
+// Whether a source ends as it should that is a byte too long for one sink, and for two. What comes is in windows of 4080
+// and of 8176 bytes; those that were full stand in the files.
+fn is_too_long<R: Threads + Sync>(
     rt: &R,
     alloc: Global,
-    code: &'a [u8],
-    source: &'a [u8],
-    made: &'a [(&'a str, &'a [u8])],
-) -> Result<(), test::Fail> {
-    let run = Run {
-        name: "a byte too many",
-        words: SEND,
-        code: Some(code),
-        source: Some(source),
-        status: Ending::TooLong,
-        line: "too long\n",
-        made,
-        ..NO_WORDS
-    };
-    check(rt, alloc, &run)
+    source: &[u8],
+) -> Result<bool, AllocError> {
+    let one = source.get(..67_107_840).unwrap_or_default();
+    let two = source.get(..67_108_608).unwrap_or_default();
+    let one = [("out.t", one)];
+    let two = [("out.t1", two), ("out.t2", two)];
+    let (status, line) = (Ending::TooLong, "too long\n");
+    let over_one = outcome_of(rt, alloc, ONE_LINK, source, status, line, &one)?.is_none();
+    let over_two = outcome_of(rt, alloc, BUTTERFLY, source, status, line, &two)?.is_none();
+    Ok(over_one && over_two)
 }
 
-// What comes is in windows of 4080 and of 8176 bytes; those that were full stand in the files.
 #[test]
 fn a_source_has_a_limit(rt: HostRuntime) -> Result<(), test::Fail> {
     let source = letters(rt.alloc(), 67_108_865)?;
-    let full = source.as_slice().get(..67_107_840).unwrap_or_default();
-    check_too_long(
-        &rt,
-        rt.alloc(),
-        ONE_LINK,
-        source.as_slice(),
-        &[("out.t", full)],
-    )
-}
-
-#[test]
-fn a_source_for_two_sinks_has_a_limit(rt: HostRuntime) -> Result<(), test::Fail> {
-    let source = letters(rt.alloc(), 67_108_865)?;
-    let full = source.as_slice().get(..67_108_608).unwrap_or_default();
-    check_too_long(
-        &rt,
-        rt.alloc(),
-        BUTTERFLY,
-        source.as_slice(),
-        &[("out.t1", full), ("out.t2", full)],
-    )
+    assert!(rt; is_too_long(&rt, rt.alloc(), source.as_slice())?);
+    Ok(())
 }
 
 #[test]

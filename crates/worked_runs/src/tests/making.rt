@@ -5,15 +5,20 @@ use std::alloc::{AllocError, Global};
 /// A code file that is written, and whether memory ran out for bytes of it.
 #[derive(Drop)]
 pub(super) struct CodeWriter {
+    alloc: Global,
     bytes: Vec<u8>,
+    // How many bytes an element takes.
+    width: usize,
     is_cut: bool,
 }
 
 impl CodeWriter {
-    /// A file without bytes.
-    pub(super) fn new(alloc: Global) -> CodeWriter {
+    /// A file without bytes, of a code over a field whose elements take so many.
+    pub(super) fn new(alloc: Global, width: usize) -> CodeWriter {
         CodeWriter {
+            alloc,
             bytes: Vec::new(alloc),
+            width,
             is_cut: false,
         }
     }
@@ -50,43 +55,48 @@ impl CodeWriter {
         self.bytes(name.as_bytes());
     }
 
-    /// A name that was made, if memory was left for it.
-    pub(super) fn made_name(&mut self, name: Result<String, AllocError>) {
+    // A name that was made, if memory was left for it.
+    fn made_name(&mut self, name: Result<String, AllocError>) {
         match name {
             Ok(name) => self.name(name.as_str()),
             Err(AllocError) => self.is_cut = true,
         }
     }
 
-    /// An element, of one or two bytes.
-    pub(super) fn element<F: Field>(&mut self, element: u32) {
-        let unused = 4usize.saturating_sub(F::BYTES);
+    /// A name of a letter and a number.
+    pub(super) fn numbered(&mut self, letter: &str, number: u16) {
+        self.made_name(format!(in self.alloc; "{letter}{number}"));
+    }
+
+    /// A name of a letter and two numbers.
+    pub(super) fn numbered_twice(&mut self, letter: &str, number: u16, other: u16) {
+        self.made_name(format!(in self.alloc; "{letter}{number}-{other}"));
+    }
+
+    /// An element.
+    pub(super) fn element(&mut self, element: u32) {
+        let unused = 4usize.saturating_sub(self.width);
         self.bytes(element.to_be_bytes().get(unused..).unwrap_or_default());
     }
 
-    /// Elements.
-    pub(super) fn elements<F: Field>(&mut self, elements: &[u32]) {
-        for element in elements {
-            self.element::<F>(*element);
-        }
-    }
-
     /// An operand: a row or a link, and its coefficient.
-    pub(super) fn operand<F: Field>(&mut self, from: u16, times: u32) {
+    pub(super) fn operand(&mut self, from: u16, times: u32) {
         self.number(from);
-        self.element::<F>(times);
+        self.element(times);
     }
 
     /// The operands of a link with one.
-    pub(super) fn one_operand<F: Field>(&mut self, from: u16, times: u32) {
+    pub(super) fn one_operand(&mut self, from: u16, times: u32) {
         self.number(1);
-        self.operand::<F>(from, times);
+        self.operand(from, times);
     }
 
     /// The decoder of two links.
-    pub(super) fn decoder<F: Field>(&mut self, links: [u16; 2], matrix: [u32; 4]) {
+    pub(super) fn decoder(&mut self, links: [u16; 2], matrix: [u32; 4]) {
         self.numbers(&links);
-        self.elements::<F>(&matrix);
+        for entry in matrix {
+            self.element(entry);
+        }
     }
 }
 

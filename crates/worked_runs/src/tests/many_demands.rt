@@ -1,8 +1,7 @@
 //! A code with 300 demands: each sink has a link of its own.
 use super::making::CodeWriter;
-use super::refusals::refuse;
-use super::{Ending, accept, changed};
-use gf_tables::Gf8;
+use super::refusals::refuse_changed;
+use super::{Ending, accept};
 use std::alloc::{AllocError, Global};
 use std::process::Abort;
 use std::test;
@@ -14,15 +13,15 @@ const SINKS: u16 = 300;
 const DECODER: usize = 3;
 
 // The nodes, which are the source and the sinks, and the links.
-fn write_nodes_and_links(alloc: Global, file: &mut CodeWriter) {
+fn write_nodes_and_links(file: &mut CodeWriter) {
     file.number(SINKS + 1);
     file.name("s");
     for sink in 1..=SINKS {
-        file.made_name(format!(in alloc; "t{sink}"));
+        file.numbered("t", sink);
     }
     file.number(SINKS);
     for sink in 1..=SINKS {
-        file.made_name(format!(in alloc; "l{sink}"));
+        file.numbered("l", sink);
         file.numbers(&[0, sink]);
     }
 }
@@ -39,25 +38,25 @@ fn write_ends(file: &mut CodeWriter) {
 // Each link carries the row of the source, and each sink takes it from its link.
 fn write_program(file: &mut CodeWriter) {
     for _ in 0..SINKS {
-        file.one_operand::<Gf8>(0, 1);
+        file.one_operand(0, 1);
     }
     for link in 0..SINKS {
-        file.operand::<Gf8>(link, 1);
+        file.operand(link, 1);
     }
 }
 
 // The file of the code.
 fn code_file(alloc: Global) -> Result<Vec<u8>, AllocError> {
-    let mut file = CodeWriter::new(alloc);
+    let mut file = CodeWriter::new(alloc, 1);
     file.bytes(b"LIFC\x01\x08\x01");
-    write_nodes_and_links(alloc, &mut file);
+    write_nodes_and_links(&mut file);
     write_ends(&mut file);
     write_program(&mut file);
     file.done()
 }
 
 // The decoder of a sink, counted from 0, has the entry 2 instead, and its check says so.
-fn refuse_changed<R: Abort + Threads + Sync>(
+fn refuse_decoder<R: Abort + Threads + Sync>(
     rt: &R,
     alloc: Global,
     file: &[u8],
@@ -65,16 +64,15 @@ fn refuse_changed<R: Abort + Threads + Sync>(
 ) -> Result<(), test::Fail> {
     let behind = usize::from(SINKS.saturating_sub(sink)) * DECODER;
     let place = file.len().saturating_sub(behind).saturating_add(2);
-    let code = changed(alloc, file, place, b"\x02")?;
     let name = sink.saturating_add(1);
-    let line = format!(in alloc; "check failed: demand t{name} none row 0 column 0 found 2\n")?;
     let status = Ending::CheckFailed {
         demand: u32::from(sink),
         row: 0,
         column: 0,
         found: 2,
     };
-    refuse(rt, alloc, code.as_slice(), status, line.as_str())
+    let line = format!(in alloc; "check failed: demand t{name} none row 0 column 0 found 2\n")?;
+    refuse_changed(rt, alloc, file, place, b"\x02", status, line.as_str())
 }
 
 // The code is accepted, and refused where a decoder is changed.
@@ -85,7 +83,7 @@ fn check_demands<R: Abort + Threads + Sync>(
 ) -> Result<(), test::Fail> {
     accept(rt, alloc, file, "accepted rate 1 field 8 demands 300\n")?;
     for sink in 0..SINKS {
-        refuse_changed(rt, alloc, file, sink)?;
+        refuse_decoder(rt, alloc, file, sink)?;
     }
     Ok(())
 }

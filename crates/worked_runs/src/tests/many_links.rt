@@ -2,10 +2,11 @@
 //! more into the last. The first link of each pair carries what the first one before it does, the second one the sum of
 //! both, so that after each second pair the rows stand on the links as they are.
 use super::making::CodeWriter;
-use super::{ONE_SINK, accept, letters, send_to};
-use gf_tables::Gf8;
+use super::{ONE_SINK, accept, send_each};
 use std::alloc::{AllocError, Global};
+use std::process::Abort;
 use std::test;
+use std::thread::Threads;
 
 // Pairs of links from a node to the next.
 const PAIRS: u16 = 4095;
@@ -17,19 +18,19 @@ fn tail(link: u16) -> u16 {
     (link / 2).min(4094)
 }
 
-fn write_nodes(alloc: Global, file: &mut CodeWriter) {
+fn write_nodes(file: &mut CodeWriter) {
     file.number(4096);
     file.name("s");
     for node in 1..PAIRS {
-        file.made_name(format!(in alloc; "n{node}"));
+        file.numbered("n", node);
     }
     file.name("t");
 }
 
-fn write_links(alloc: Global, file: &mut CodeWriter) {
+fn write_links(file: &mut CodeWriter) {
     file.number(LINKS);
     for link in 0..LINKS {
-        file.made_name(format!(in alloc; "l{link}"));
+        file.numbered("l", link);
         file.numbers(&[tail(link), tail(link).saturating_add(1)]);
     }
 }
@@ -38,44 +39,42 @@ fn write_links(alloc: Global, file: &mut CodeWriter) {
 fn write_operands(file: &mut CodeWriter, link: u16) {
     let first = tail(link).saturating_sub(1).saturating_mul(2);
     if link < 2 {
-        file.one_operand::<Gf8>(link, 1);
+        file.one_operand(link, 1);
     } else if link % 2 == 0 {
-        file.one_operand::<Gf8>(first, 1);
+        file.one_operand(first, 1);
     } else {
         file.number(2);
-        file.operand::<Gf8>(first, 1);
-        file.operand::<Gf8>(first.saturating_add(1), 1);
+        file.operand(first, 1);
+        file.operand(first.saturating_add(1), 1);
     }
 }
 
 fn code_file(alloc: Global) -> Result<Vec<u8>, AllocError> {
-    let mut file = CodeWriter::new(alloc);
+    let mut file = CodeWriter::new(alloc, 1);
     file.bytes(b"LIFC\x01\x08\x02");
-    write_nodes(alloc, &mut file);
-    write_links(alloc, &mut file);
+    write_nodes(&mut file);
+    write_links(&mut file);
     file.numbers(&[0, 1, 4095, 0]);
     for link in 0..LINKS {
         write_operands(&mut file, link);
     }
-    file.decoder::<Gf8>([8188, 8189], [1, 0, 0, 1]);
+    file.decoder([8188, 8189], [1, 0, 0, 1]);
     file.done()
+}
+
+// A source comes through the code, which is accepted.
+fn check_code<R: Abort + Threads + Sync>(
+    rt: &R,
+    alloc: Global,
+    code: &[u8],
+) -> Result<(), test::Fail> {
+    accept(rt, alloc, code, "accepted rate 2 field 8 demands 1\n")?;
+    let lengths = &[(3000, "sent 3000 bytes in 2 generations to 1 sinks\n")];
+    send_each(rt, alloc, code, 65536, lengths, ONE_SINK)
 }
 
 #[test]
 fn a_source_comes_through_8192_links(rt: HostRuntime) -> Result<(), test::Fail> {
-    let alloc = rt.alloc();
-    let code = code_file(alloc)?;
-    let source = letters(alloc, 3000)?;
-    let line = "sent 3000 bytes in 2 generations to 1 sinks\n";
-    send_to(
-        &rt,
-        alloc,
-        code.as_slice(),
-        source.as_slice(),
-        65536,
-        ONE_SINK,
-        line,
-    )?;
-    let line = "accepted rate 2 field 8 demands 1\n";
-    accept(&rt, alloc, code.as_slice(), line)
+    let code = code_file(rt.alloc())?;
+    check_code(&rt, rt.alloc(), code.as_slice())
 }

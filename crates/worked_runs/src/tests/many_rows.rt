@@ -1,7 +1,7 @@
 //! A code of the greatest rate, with listed patterns: each of 33 links but the last carries a row, and the last one
 //! the sum of all. Each listed pattern is of one link.
 use super::making::{CodeWriter, inverse};
-use super::{NO_WORDS, ONE_SINK, Run, accept, check_words, letters};
+use super::{accept, letters, send_so};
 use gf_tables::Gf8;
 use std::alloc::{AllocError, Global};
 use std::process::Abort;
@@ -19,11 +19,11 @@ fn times(row: u16) -> u32 {
 }
 
 // All up to the operands.
-fn write_front(alloc: Global, file: &mut CodeWriter) {
+fn write_front(file: &mut CodeWriter) {
     file.bytes(b"LIFC\x01\x08\x20\x00\x02\x01s\x01t");
     file.number(RATE + 1);
     for link in 0..=RATE {
-        file.made_name(format!(in alloc; "l{link}"));
+        file.numbered("l", link);
         file.numbers(&[0, 1]);
     }
     file.numbers(&[0, 1, 1, PATTERNS.len() as u16]);
@@ -35,11 +35,11 @@ fn write_front(alloc: Global, file: &mut CodeWriter) {
 
 fn write_operands(file: &mut CodeWriter) {
     for row in 0..RATE {
-        file.one_operand::<Gf8>(row, times(row));
+        file.one_operand(row, times(row));
     }
     file.number(RATE);
     for row in 0..RATE {
-        file.operand::<Gf8>(row, 1);
+        file.operand(row, 1);
     }
 }
 
@@ -58,7 +58,7 @@ fn entry(row: u16, link: u16, failed: u16) -> u32 {
 fn write_decoder_row(file: &mut CodeWriter, row: u16, failed: u16) {
     for link in 0..=RATE {
         if link != failed {
-            file.element::<Gf8>(entry(row, link, failed));
+            file.element(entry(row, link, failed));
         }
     }
 }
@@ -77,8 +77,8 @@ fn write_decoder_without(file: &mut CodeWriter, failed: u16) {
 
 // The file of the code. Where no link fails, the last one isn't used.
 fn code_file(alloc: Global) -> Result<Vec<u8>, AllocError> {
-    let mut file = CodeWriter::new(alloc);
-    write_front(alloc, &mut file);
+    let mut file = CodeWriter::new(alloc, 1);
+    write_front(&mut file);
     write_operands(&mut file);
     write_decoder_without(&mut file, RATE);
     for (_, failed) in PATTERNS {
@@ -98,38 +98,35 @@ const LENGTHS: &[(usize, &str)] = &[
 ];
 
 // The words for each pattern.
-const SENDS: &[(&str, &str)] = &[
-    ("none", "send code none 1 src out"),
-    ("first", "send code first 1 src out"),
-    ("inner", "send code inner 1 src out"),
-    ("last-row", "send code last-row 0 src out"),
-    ("sum", "send code sum 1 src out"),
+const SENDS: &[&str] = &[
+    "send code none 1 src out",
+    "send code first 1 src out",
+    "send code inner 1 src out",
+    "send code last-row 0 src out",
+    "send code sum 1 src out",
 ];
 
 // A source is sent through the code under each pattern, and comes to the sink.
-fn send_under_each<'a, R: Abort + Threads + Sync>(
+fn send_under_each<R: Abort + Threads + Sync>(
     rt: &R,
     alloc: Global,
-    code: &'a [u8],
-    source: &'a [u8],
-    line: &'a str,
+    code: &[u8],
+    source: &[u8],
+    line: &str,
 ) -> Result<(), test::Fail> {
-    let run = Run {
-        code: Some(code),
-        source: Some(source),
-        line,
-        received: ONE_SINK,
-        ..NO_WORDS
-    };
-    check_words(rt, alloc, &run, SENDS)
+    for &words in SENDS {
+        send_so(rt, alloc, words, code, source, line)?;
+    }
+    Ok(())
 }
 
-// Sources of each length are sent so.
-fn send_all<R: Abort + Threads + Sync>(
+// The code is accepted, and sources of each length are sent through it.
+fn check_code<R: Abort + Threads + Sync>(
     rt: &R,
     alloc: Global,
     code: &[u8],
 ) -> Result<(), test::Fail> {
+    accept(rt, alloc, code, "accepted rate 32 field 8 demands 5\n")?;
     for &(count, line) in LENGTHS {
         let source = letters(alloc, count)?;
         send_under_each(rt, alloc, code, source.as_slice(), line)?;
@@ -140,12 +137,5 @@ fn send_all<R: Abort + Threads + Sync>(
 #[test]
 fn many_rows_come_through_each_pattern(rt: HostRuntime) -> Result<(), test::Fail> {
     let code = code_file(rt.alloc())?;
-    send_all(&rt, rt.alloc(), code.as_slice())
-}
-
-#[test]
-fn many_rows_are_accepted(rt: HostRuntime) -> Result<(), test::Fail> {
-    let code = code_file(rt.alloc())?;
-    let line = "accepted rate 32 field 8 demands 5\n";
-    accept(&rt, rt.alloc(), code.as_slice(), line)
+    check_code(&rt, rt.alloc(), code.as_slice())
 }

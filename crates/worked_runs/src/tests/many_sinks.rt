@@ -34,33 +34,35 @@ fn times(middle: u16) -> u32 {
 }
 
 // The nodes: the source, the middle nodes and the sinks, in this order.
-fn write_nodes(alloc: Global, file: &mut CodeWriter) {
+fn write_nodes(file: &mut CodeWriter) {
     file.number(1 + MIDDLES + SINKS);
     file.name("s");
     for middle in 1..=MIDDLES {
-        file.made_name(format!(in alloc; "m{middle}"));
+        file.numbered("m", middle);
     }
     for sink in 1..=SINKS {
-        file.made_name(format!(in alloc; "t{sink}"));
+        file.numbered("t", sink);
     }
 }
 
 // The link from a middle node to a sink, counted from 1.
-fn write_last_link(alloc: Global, file: &mut CodeWriter, middle: u16, sink: u16) {
-    file.made_name(format!(in alloc; "b{sink}-{middle}"));
+fn write_last_link(file: &mut CodeWriter, middle: u16, sink: u16) {
+    file.numbered_twice("b", sink, middle);
     file.numbers(&[middle, MIDDLES.saturating_add(sink)]);
 }
 
 // The links.
-fn write_links(alloc: Global, file: &mut CodeWriter, pairs: &[(u16, u16)]) {
+fn write_links(file: &mut CodeWriter, pairs: &[(u16, u16)]) {
     file.number(MIDDLES + 2 * SINKS);
     for middle in 1..=MIDDLES {
-        file.made_name(format!(in alloc; "a{middle}"));
+        file.numbered("a", middle);
         file.numbers(&[0, middle]);
     }
-    for (&(first, second), sink) in pairs.iter().zip(1..=SINKS) {
-        write_last_link(alloc, file, first, sink);
-        write_last_link(alloc, file, second, sink);
+    let mut sink = 0u16;
+    for &(first, second) in pairs {
+        sink = sink.saturating_add(1);
+        write_last_link(file, first, sink);
+        write_last_link(file, second, sink);
     }
 }
 
@@ -77,12 +79,12 @@ fn write_ends(file: &mut CodeWriter, listed: u16) {
 fn write_operands(file: &mut CodeWriter, pairs: &[(u16, u16)]) {
     for middle in 1..=MIDDLES {
         file.number(2);
-        file.operand::<Gf8>(0, 1);
-        file.operand::<Gf8>(1, times(middle));
+        file.operand(0, 1);
+        file.operand(1, times(middle));
     }
     for &(first, second) in pairs {
-        file.one_operand::<Gf8>(first.saturating_sub(1), 1);
-        file.one_operand::<Gf8>(second.saturating_sub(1), 1);
+        file.one_operand(first.saturating_sub(1), 1);
+        file.one_operand(second.saturating_sub(1), 1);
     }
 }
 
@@ -92,16 +94,16 @@ fn write_decoders(file: &mut CodeWriter, pairs: &[(u16, u16)]) {
     for &(first, second) in pairs {
         let next = link.saturating_add(1);
         let matrix = inverse_of_rows::<Gf8>(1, times(first), 1, times(second));
-        file.decoder::<Gf8>([link, next], matrix);
+        file.decoder([link, next], matrix);
         link = next.saturating_add(1);
     }
 }
 
 // The code, with a number of listed patterns that aren't there.
-fn write_code(alloc: Global, file: &mut CodeWriter, pairs: &[(u16, u16)], listed: u16) {
+fn write_code(file: &mut CodeWriter, pairs: &[(u16, u16)], listed: u16) {
     file.bytes(b"LIFC\x01\x08\x02");
-    write_nodes(alloc, file);
-    write_links(alloc, file, pairs);
+    write_nodes(file);
+    write_links(file, pairs);
     write_ends(file, listed);
     write_operands(file, pairs);
     write_decoders(file, pairs);
@@ -110,8 +112,8 @@ fn write_code(alloc: Global, file: &mut CodeWriter, pairs: &[(u16, u16)], listed
 // The file of the code.
 fn code_file(alloc: Global, listed: u16) -> Result<Vec<u8>, AllocError> {
     let pairs = pairs_of_middles(alloc)?;
-    let mut file = CodeWriter::new(alloc);
-    write_code(alloc, &mut file, pairs.as_slice(), listed);
+    let mut file = CodeWriter::new(alloc, 1);
+    write_code(&mut file, pairs.as_slice(), listed);
     file.done()
 }
 
@@ -124,19 +126,29 @@ fn outputs(alloc: Global) -> Result<String, AllocError> {
     Ok(paths)
 }
 
-#[test]
-fn a_source_comes_to_many_sinks(rt: HostRuntime) -> Result<(), test::Fail> {
-    let code = code_file(rt.alloc(), 0)?;
-    let received = outputs(rt.alloc())?;
+// The code is accepted, and a source comes to all sinks.
+fn check_all<R: Abort + Threads + Sync>(
+    rt: &R,
+    alloc: Global,
+    code: &[u8],
+) -> Result<(), test::Fail> {
+    accept(rt, alloc, code, "accepted rate 2 field 8 demands 253\n")?;
+    let received = outputs(alloc)?;
     send_to(
-        &rt,
-        rt.alloc(),
-        code.as_slice(),
+        rt,
+        alloc,
+        code,
         &[5, 172, 83, 250, 161, 72, 239, 150, 61, 228],
         65536,
         received.as_str(),
         "sent 10 bytes in 1 generations to 253 sinks\n",
     )
+}
+
+#[test]
+fn a_source_comes_to_many_sinks(rt: HostRuntime) -> Result<(), test::Fail> {
+    let code = code_file(rt.alloc(), 0)?;
+    check_all(&rt, rt.alloc(), code.as_slice())
 }
 
 // A code with more listed patterns than it has is refused.
@@ -149,13 +161,6 @@ fn refuse_listed<R: Abort + Threads + Sync>(
 ) -> Result<(), test::Fail> {
     let code = code_file(alloc, listed)?;
     refuse(rt, alloc, code.as_slice(), Ending::CodeRefused(why), line)
-}
-
-#[test]
-fn many_sinks_are_checked(rt: HostRuntime) -> Result<(), test::Fail> {
-    let code = code_file(rt.alloc(), 0)?;
-    let line = "accepted rate 2 field 8 demands 253\n";
-    accept(&rt, rt.alloc(), code.as_slice(), line)
 }
 
 #[test]

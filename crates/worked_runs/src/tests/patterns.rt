@@ -1,5 +1,5 @@
 //! Codes with listed patterns, sent under each.
-use super::{CHECK, Ending, NO_OUTPUT, NO_WORDS, ONE_BYTE, Run, check, check_each};
+use super::{CHECK, Ending, NO_OUTPUT, ONE_BYTE, Run, check_each, end_with};
 use std::alloc::Global;
 use std::process::Abort;
 use std::test;
@@ -57,25 +57,6 @@ const UNKNOWN: &[(&[u8], &str)] = &[
     (ONE_LINK, "\u{e4}\n/"),
 ];
 
-// What is sent under a pattern with these words is refused with this line.
-fn refuse_words<'a, R: Abort + Threads + Sync>(
-    rt: &R,
-    alloc: Global,
-    code: &'a [u8],
-    words: &'a str,
-    line: &'a str,
-) -> Result<(), test::Fail> {
-    let run = Run {
-        name: words,
-        words,
-        code: Some(code),
-        status: Ending::UnknownPattern,
-        line,
-        ..NO_WORDS
-    };
-    check(rt, alloc, &run)
-}
-
 // A pattern isn't known.
 fn refuse_pattern<R: Abort + Threads + Sync>(
     rt: &R,
@@ -85,7 +66,8 @@ fn refuse_pattern<R: Abort + Threads + Sync>(
 ) -> Result<(), test::Fail> {
     let words = format!(in alloc; "send code {pattern} 1 src out")?;
     let line = format!(in alloc; "unknown pattern: {pattern}\n")?;
-    refuse_words(rt, alloc, code, words.as_str(), line.as_str())
+    let status = Ending::UnknownPattern;
+    end_with(rt, alloc, words.as_str(), code, status, line.as_str())
 }
 
 #[test]

@@ -1,5 +1,5 @@
 //! Code files that are refused or not accepted, and the lines of those that are accepted.
-use super::{CHECK, Ending, NO_WORDS, ONE_BYTE, Run, SEND, accept, changed, check, check_words};
+use super::{CHECK, Ending, SEND, accept, changed, end_with, send_so};
 use lif_top::CodeRefusal;
 use lif_top::CodeRefusal::{
     BadField, BadIndex, BadMagic, BadName, BadOperand, BadRate, BadVersion, NotRising, OutOfOrder,
@@ -142,46 +142,29 @@ fn place_of_cut(items: &[usize], count: usize) -> usize {
 }
 
 /// A code file is checked, which ends so, and sent by, which ends so too.
-pub(super) fn refuse<'a, R: Abort + Threads + Sync>(
-    rt: &R,
-    alloc: Global,
-    code: &'a [u8],
-    status: Ending,
-    line: &'a str,
-) -> Result<(), test::Fail> {
-    let run = Run {
-        code: Some(code),
-        status,
-        line,
-        ..NO_WORDS
-    };
-    check_words(rt, alloc, &run, &[(line, CHECK), (line, SEND)])
-}
-
-// A code file is refused, which is said so.
-fn refuse_file<R: Abort + Threads + Sync>(
+pub(super) fn refuse<R: Abort + Threads + Sync>(
     rt: &R,
     alloc: Global,
     code: &[u8],
-    why: CodeRefusal,
-    said: &str,
+    status: Ending,
+    line: &str,
 ) -> Result<(), test::Fail> {
-    let line = format!(in alloc; "code refused: {said}\n")?;
-    refuse(rt, alloc, code, Ending::CodeRefused(why), line.as_str())
+    end_with(rt, alloc, CHECK, code, status, line)?;
+    end_with(rt, alloc, SEND, code, status, line)
 }
 
-// The first bytes of a file are refused, which end within the item at a place.
-fn refuse_beginning<R: Abort + Threads + Sync>(
+/// The same for a file with other bytes in their place from a byte on.
+pub(super) fn refuse_changed<R: Abort + Threads + Sync>(
     rt: &R,
     alloc: Global,
     file: &[u8],
-    count: usize,
-    place: usize,
+    at: usize,
+    put: &[u8],
+    status: Ending,
+    line: &str,
 ) -> Result<(), test::Fail> {
-    let code = file.get(..count).unwrap_or_default();
-    let why = Truncated { at: place as u64 };
-    let said = format!(in alloc; "Truncated {place}")?;
-    refuse_file(rt, alloc, code, why, said.as_str())
+    let code = changed(alloc, file, at, put)?;
+    refuse(rt, alloc, code.as_slice(), status, line)
 }
 
 // The files that differ from a file in one place each are refused.
@@ -192,8 +175,9 @@ fn refuse_each<R: Abort + Threads + Sync>(
     rows: &[Refused],
 ) -> Result<(), test::Fail> {
     for &(at, put, why, said) in rows {
-        let code = changed(alloc, file, at, put)?;
-        refuse_file(rt, alloc, code.as_slice(), why, said)?;
+        let line = format!(in alloc; "code refused: {said}\n")?;
+        let status = Ending::CodeRefused(why);
+        refuse_changed(rt, alloc, file, at, put, status, line.as_str())?;
     }
     Ok(())
 }
@@ -207,17 +191,36 @@ fn files_of_no_code_are_refused(rt: HostRuntime) -> Result<(), test::Fail> {
     refuse_each(&rt, alloc, CUT_BUTTERFLY, OF_CUT_BUTTERFLY)
 }
 
+// The first bytes of a file are refused, which end within the item at a place.
+fn refuse_beginning<R: Abort + Threads + Sync>(
+    rt: &R,
+    alloc: Global,
+    file: &[u8],
+    count: usize,
+    place: usize,
+) -> Result<(), test::Fail> {
+    let code = file.get(..count).unwrap_or_default();
+    let status = Ending::CodeRefused(Truncated { at: place as u64 });
+    let line = format!(in alloc; "code refused: Truncated {place}\n")?;
+    refuse(rt, alloc, code, status, line.as_str())
+}
+
 #[test]
 fn beginnings_are_truncated(rt: HostRuntime) -> Result<(), test::Fail> {
     for &(file, count, place) in BEGINNINGS {
         refuse_beginning(&rt, rt.alloc(), file, count, place)?;
     }
+    Ok(())
+}
+
+#[test]
+fn each_beginning_of_the_butterfly_is_truncated(rt: HostRuntime) -> Result<(), test::Fail> {
+    // All items are there.
+    assert!(rt; place_of_cut(ITEMS, BUTTERFLY.len()) == BUTTERFLY.len());
     for count in 0..BUTTERFLY.len() {
         let place = place_of_cut(ITEMS, count);
         refuse_beginning(&rt, rt.alloc(), BUTTERFLY, count, place)?;
     }
-    // All items are there.
-    assert_eq!(rt; place_of_cut(ITEMS, BUTTERFLY.len()), BUTTERFLY.len());
     Ok(())
 }
 
@@ -294,26 +297,16 @@ const FAILED: &[Failed] = &[
     ),
 ];
 
-// The file that differs from a file in one place fails a check, which ends so.
-fn refuse_changed<R: Abort + Threads + Sync>(
-    rt: &R,
-    alloc: Global,
-    &(file, at, put, [demand, row, column, found], line): &Failed,
-) -> Result<(), test::Fail> {
-    let status = Ending::CheckFailed {
-        demand,
-        row,
-        column,
-        found,
-    };
-    let code = changed(alloc, file, at, put)?;
-    refuse(rt, alloc, code.as_slice(), status, line)
-}
-
 #[test]
 fn codes_that_give_no_block_back_fail(rt: HostRuntime) -> Result<(), test::Fail> {
-    for failed in FAILED {
-        refuse_changed(&rt, rt.alloc(), failed)?;
+    for &(file, at, put, [demand, row, column, found], line) in FAILED {
+        let status = Ending::CheckFailed {
+            demand,
+            row,
+            column,
+            found,
+        };
+        refuse_changed(&rt, rt.alloc(), file, at, put, status, line)?;
     }
     Ok(())
 }
@@ -341,12 +334,14 @@ fn codes_that_give_every_block_back_are_accepted(rt: HostRuntime) -> Result<(), 
     for &(code, line) in ACCEPTED {
         accept(&rt, rt.alloc(), code, line)?;
     }
+    Ok(())
+}
+
+#[test]
+fn a_byte_comes_through_each_one_link(rt: HostRuntime) -> Result<(), test::Fail> {
+    let line = "sent 1 bytes in 1 generations to 1 sinks\n";
     for &code in &[DOUBLED_ONE_LINK, BACKWARD_ONE_LINK, WIDE_ONE_LINK] {
-        let sent = Run {
-            code: Some(code),
-            ..ONE_BYTE
-        };
-        check(&rt, rt.alloc(), &sent)?;
+        send_so(&rt, rt.alloc(), SEND, code, b"A", line)?;
     }
     Ok(())
 }

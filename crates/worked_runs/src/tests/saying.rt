@@ -132,10 +132,10 @@ fn check_said<R: Abort + Threads + Sync>(
     alloc: Global,
     said: &Said,
 ) -> Result<(), test::Fail> {
-    let mut left = said.lines.len();
-    for (&line, nth) in said.lines.iter().zip(1..=4u64) {
-        left = left.saturating_sub(1);
-        let status = if left == 0 {
+    let mut nth = 0u64;
+    for &line in said.lines {
+        nth = nth.saturating_add(1);
+        let status = if nth == said.lines.len() as u64 {
             said.run.status
         } else {
             said.run.status.unsaid()

@@ -46,11 +46,11 @@ const BUTTERFLY_LENGTHS: &[(usize, &str)] = &[
 
 // The file of the one link with a coefficient, and the entry that undoes it.
 fn one_link(alloc: Global, times: u32) -> Result<Vec<u8>, AllocError> {
-    let mut file = CodeWriter::new(alloc);
+    let mut file = CodeWriter::new(alloc, 2);
     file.bytes(TIMES_Y.get(..33).unwrap_or_default());
-    file.element::<Gf16>(times);
+    file.element(times);
     file.number(0);
-    file.element::<Gf16>(inverse::<Gf16>(times));
+    file.element(inverse::<Gf16>(times));
     file.done()
 }
 
@@ -63,36 +63,32 @@ const SECOND: u32 = 0x0203;
 
 const BEHIND: u32 = 0x7000;
 
-// The file of the butterfly up to the operands, and the operands.
-fn write_butterfly_front(file: &mut CodeWriter) {
-    file.bytes(BUTTERFLY.get(..5).unwrap_or_default());
-    file.bytes(b"\x10");
-    file.bytes(BUTTERFLY.get(6..113).unwrap_or_default());
-    for (from, times) in [
-        (0, FRONT),
-        (1, 1),
-        (0, 1),
-        (1, 1),
-        (0, inverse::<Gf16>(FRONT)),
-        (1, 1),
-    ] {
-        file.one_operand::<Gf16>(from, times);
-    }
+// The operands of the butterfly's links.
+fn write_operands(file: &mut CodeWriter) {
+    file.one_operand(0, FRONT);
+    file.one_operand(1, 1);
+    file.one_operand(0, 1);
+    file.one_operand(1, 1);
+    file.one_operand(0, inverse::<Gf16>(FRONT));
+    file.one_operand(1, 1);
     file.number(2);
-    file.operand::<Gf16>(4, FIRST);
-    file.operand::<Gf16>(5, SECOND);
-    file.one_operand::<Gf16>(6, BEHIND);
-    file.one_operand::<Gf16>(6, 1);
+    file.operand(4, FIRST);
+    file.operand(5, SECOND);
+    file.one_operand(6, BEHIND);
+    file.one_operand(6, 1);
 }
 
 // The butterfly with coefficients that aren't elements of the field of 256.
 fn butterfly(alloc: Global) -> Result<Vec<u8>, AllocError> {
     let left = product::<Gf16>(BEHIND, FIRST);
     let right = product::<Gf16>(BEHIND, SECOND);
-    let mut file = CodeWriter::new(alloc);
-    write_butterfly_front(&mut file);
-    file.decoder::<Gf16>([2, 7], inverse_of_rows::<Gf16>(FRONT, 0, left, right));
-    file.decoder::<Gf16>([3, 8], inverse_of_rows::<Gf16>(0, 1, FIRST, SECOND));
+    let mut file = CodeWriter::new(alloc, 2);
+    file.bytes(BUTTERFLY.get(..5).unwrap_or_default());
+    file.bytes(b"\x10");
+    file.bytes(BUTTERFLY.get(6..113).unwrap_or_default());
+    write_operands(&mut file);
+    file.decoder([2, 7], inverse_of_rows::<Gf16>(FRONT, 0, left, right));
+    file.decoder([3, 8], inverse_of_rows::<Gf16>(0, 1, FIRST, SECOND));
     file.done()
 }
 
@@ -120,22 +116,18 @@ fn wide_coefficients_are_undone(rt: HostRuntime) -> Result<(), test::Fail> {
     Ok(())
 }
 
-#[test]
-fn the_butterfly_carries_wide_elements(rt: HostRuntime) -> Result<(), test::Fail> {
-    let code = butterfly(rt.alloc())?;
-    send_each(
-        &rt,
-        rt.alloc(),
-        code.as_slice(),
-        65536,
-        BUTTERFLY_LENGTHS,
-        TWO_SINKS,
-    )
+// The wide butterfly is accepted, and sources of each length come through it.
+fn check_butterfly<R: Abort + Threads + Sync>(
+    rt: &R,
+    alloc: Global,
+    code: &[u8],
+) -> Result<(), test::Fail> {
+    accept(rt, alloc, code, "accepted rate 2 field 16 demands 2\n")?;
+    send_each(rt, alloc, code, 65536, BUTTERFLY_LENGTHS, TWO_SINKS)
 }
 
 #[test]
-fn the_wide_butterfly_is_accepted(rt: HostRuntime) -> Result<(), test::Fail> {
+fn the_butterfly_carries_wide_elements(rt: HostRuntime) -> Result<(), test::Fail> {
     let code = butterfly(rt.alloc())?;
-    let line = "accepted rate 2 field 16 demands 2\n";
-    accept(&rt, rt.alloc(), code.as_slice(), line)
+    check_butterfly(&rt, rt.alloc(), code.as_slice())
 }

@@ -1,55 +1,49 @@
 //! Words: which are a form, and what comes first where more than one thing is wrong.
-use super::{CHECK, Ending, NO_OUTPUT, ONE_BYTE, Run, SEND, check_each, check_words};
+use super::{CHECK, Ending, NO_OUTPUT, Run, SEND, check_each, end_with, send_so};
 use lif_top::CodeRefusal;
 use std::test;
 use worked_rows::files::{CUT_BUTTERFLY, ONE_LINK};
 
-const NO_FORM: Run<'static> = Run {
-    status: Ending::Usage,
-    line: "usage: lif order NET | cuts NET | compile NET CODE REPORT | check CODE | send CODE PATTERN SEED SRC PREFIX | demo N K BYTES\n",
-    ..NO_OUTPUT
-};
+const USAGE: &str =
+    "usage: lif order NET | cuts NET | compile NET CODE REPORT | check CODE | send CODE PATTERN SEED SRC PREFIX | demo N K BYTES\n";
 
-// Names of words, and the words.
-const NO_FORMS: &[(&str, &str)] = &[
-    ("no words", ""),
-    ("a command that isn't built", "demo 0 0 1"),
-    ("no command", "sent code none 1 src out"),
-    ("a capital letter", "Check code"),
-    ("a word too few to send", "send code none 1 src"),
-    ("a word too many to send", "send code none 1 src out out"),
-    ("a word too few to check", "check"),
-    ("a word too many to check", "check code none"),
-    ("a word too few to order", "order"),
-    ("a word too many to order", "order net net"),
-    ("a seed with a sign", "send code none -1 src out"),
-    ("a seed without digits", "send code none  src out"),
-    ("a seed with a letter", "send code none 1a src out"),
-    (
-        "a seed that is too great",
-        "send code none 18446744073709551616 src out",
-    ),
+const NO_FORMS: &[&str] = &[
+    "", // no words
+    "demo 0 0 1", // a command that isn't built
+    "sent code none 1 src out", // no command
+    "Check code", // a capital letter
+    "send code none 1 src", // a word too few to send
+    "send code none 1 src out out", // a word too many to send
+    "check", // a word too few to check
+    "check code none", // a word too many to check
+    "order", // a word too few to order
+    "order net net", // a word too many to order
+    "send code none -1 src out", // a seed with a sign
+    "send code none  src out", // a seed without digits
+    "send code none 1a src out", // a seed with a letter
+    "send code none 18446744073709551616 src out", // a seed that is too great
 ];
 
-const SEEDS: &[(&str, &str)] = &[
-    (
-        "the greatest seed",
-        "send code none 18446744073709551615 src out",
-    ),
-    (
-        "a seed with zeros in front",
-        "send code none 000000000000000000000000001 src out",
-    ),
+const SEEDS: &[&str] = &[
+    "send code none 18446744073709551615 src out", // the greatest seed
+    "send code none 000000000000000000000000001 src out", // a seed with zeros in front
 ];
 
 #[test]
 fn words_that_are_no_form_are_refused(rt: HostRuntime) -> Result<(), test::Fail> {
-    check_words(&rt, rt.alloc(), &NO_FORM, NO_FORMS)
+    for &words in NO_FORMS {
+        end_with(&rt, rt.alloc(), words, ONE_LINK, Ending::Usage, USAGE)?;
+    }
+    Ok(())
 }
 
 #[test]
 fn seeds_may_be_long(rt: HostRuntime) -> Result<(), test::Fail> {
-    check_words(&rt, rt.alloc(), &ONE_BYTE, SEEDS)
+    let line = "sent 1 bytes in 1 generations to 1 sinks\n";
+    for &words in SEEDS {
+        send_so(&rt, rt.alloc(), words, ONE_LINK, b"A", line)?;
+    }
+    Ok(())
 }
 
 const NO_CODE: Run<'static> = Run {
