@@ -8,13 +8,10 @@ use crate::patterns::first_between;
 use crate::products::Failure;
 use failure_patterns::{batch_start, demands};
 use field_rows::RowTables;
-use lif_outside::Gate;
+use lif_outside::{Gate, WORKERS};
 use node_program::Code;
 use std::alloc::{AllocError, Global};
 use std::thread::{Threads, map_indices};
-
-// How many batches there are at most.
-const MOST_BATCHES: u64 = 4;
 
 /// The first demand that fails, and where. Its batches are done side by side.
 pub(crate) fn first_failure<G: Gate + Sync, R: Threads + Sync>(
@@ -26,7 +23,7 @@ pub(crate) fn first_failure<G: Gate + Sync, R: Threads + Sync>(
     ensures { IfOk result (IsFirstIn code.now 0 (demand_count code.now.net)) }
 {
     let tables = RowTables::new();
-    let batches = demands(&code.net).min(MOST_BATCHES) as u32;
+    let batches = demands(&code.net).min(WORKERS as u64) as u32;
     let made = map_indices(
         rt,
         alloc,
@@ -63,7 +60,7 @@ fn first_of_batches(
     batches: u32,
     made: Vec<Result<Option<Failure>, AllocError>>,
 ) -> Result<Option<Failure>, AllocError>
-    requires some { 0 < batches }
+    requires some_batches { 0 < batches }
     requires count { vec_len made ≡ batches }
     requires each { AreBatches code.now batches made.items }
     ensures { IfOk result (IsFirstIn code.now 0 (demand_count code.now.net)) }

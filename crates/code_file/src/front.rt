@@ -49,7 +49,7 @@ fn field<'a>(rest: Rest<'a>) -> Result<(FieldKind, Rest<'a>), CodeRefusal>
 #[tactic(auto, using(crate::proofs::Checks::byte_checked))]
 fn rate<'a>(rest: Rest<'a>) -> Result<(u32, Rest<'a>), CodeRefusal>
     ensures gives { Reads result rate_at rest.entry }
-    ensures low { IfOk result (λ x. x.0 ≤ highest_rate) }
+    ensures low_rate { IfOk result (λ x. x.0 ≤ highest_rate) }
 {
     let (number, after) = byte(rest)?;
     let rate = u32::from(number);

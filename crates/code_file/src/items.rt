@@ -66,7 +66,7 @@ pub(crate) fn element<'a>(field: FieldKind, rest: Rest<'a>) -> Result<(u32, Rest
 #[tactic(auto, using(crate::proofs::Checks::number_checked))]
 pub(crate) fn count<'a>(rest: Rest<'a>, limit: usize) -> Result<(u16, Rest<'a>), CodeRefusal>
     ensures gives { Reads result (count_at limit) rest.entry }
-    ensures few { IfOk result (λ x. x.0 ≤ limit) }
+    ensures within { IfOk result (λ x. x.0 ≤ limit) }
 {
     let (count, after) = number(rest)?;
     if usize::from(count) > limit {
@@ -82,7 +82,7 @@ pub(crate) fn positive_count<'a>(
     limit: usize,
 ) -> Result<(u16, Rest<'a>), CodeRefusal>
     ensures gives { Reads result (positive_count_at limit) rest.entry }
-    ensures few { IfOk result (λ x. x.0 ≤ limit) }
+    ensures within { IfOk result (λ x. x.0 ≤ limit) }
 {
     let (count, after) = number(rest)?;
     if count == 0 {

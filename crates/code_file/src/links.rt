@@ -23,7 +23,7 @@ fn head<'a>(
     tails: &[bool],
     rest: Rest<'a>,
 ) -> Result<(u32, Rest<'a>), CodeRefusal>
-    requires few { length earlier.now ≤ most_links }
+    requires few_links { length earlier.now ≤ most_links }
     requires tails { AreTailMarks nodes earlier.now tails.now }
     ensures { Reads result (head_at nodes tail earlier.now) rest.entry }
 {
@@ -50,7 +50,7 @@ fn link<'a>(
     tails: &mut [bool],
     rest: Rest<'a>,
 ) -> Result<(Link, Rest<'a>), CodeRefusal>
-    requires few { length earlier.now ≤ most_links }
+    requires few_links { length earlier.now ≤ most_links }
     requires names { names.old ≡ names_of earlier.now }
     requires tails { AreTailMarks nodes earlier.now tails.old }
     ensures gives { Reads result (link_at nodes earlier.now) rest.entry }

@@ -97,7 +97,7 @@ pub(crate) fn sinks<'a>(
     rest: Rest<'a>,
 ) -> Result<(NodeList, Rest<'a>), CodeRefusal>
     ensures gives { Reads result (sinks_at nodes source) rest.entry }
-    ensures few { IfOk result (λ x. length x.0 ≤ most_nodes) }
+    ensures few_sinks { IfOk result (λ x. length x.0 ≤ most_nodes) }
 {
     let (count, rest) = positive_count(rest, MOST_NODES)?;
     let (sinks, rest) = counted_sinks(alloc, nodes, source, count, rest)?;

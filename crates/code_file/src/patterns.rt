@@ -113,7 +113,7 @@ fn counted_patterns<'a>(
 fn pattern_count<'a>(sinks: usize, rest: Rest<'a>) -> Result<(u16, Rest<'a>), CodeRefusal>
     requires { sinks ≤ most_nodes }
     ensures gives { Reads result (pattern_count_at sinks) rest.entry }
-    ensures few { IfOk result (λ x. sinks * (x.0 + 1) ≤ pair_demands) }
+    ensures few_demands { IfOk result (λ x. sinks * (x.0 + 1) ≤ pair_demands) }
 {
     let (count, after) = number(rest)?;
     let listed = usize::from(count);
@@ -133,7 +133,7 @@ pub(crate) fn patterns<'a>(
 ) -> Result<(PatternList, Rest<'a>), CodeRefusal>
     requires { sinks ≤ most_nodes }
     ensures gives { Reads result (patterns_at links sinks) rest.entry }
-    ensures few { IfOk result (λ x. sinks * length x.0 ≤ pair_demands) }
+    ensures few_demands { IfOk result (λ x. sinks * length x.0 ≤ pair_demands) }
 {
     let (count, rest) = pattern_count(sinks, rest)?;
     let (patterns, rest) = counted_patterns(alloc, links, count, rest)?;

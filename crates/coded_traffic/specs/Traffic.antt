@@ -1,12 +1,12 @@
 -- The traffic of a code under a pattern: what its live links carry of numbered blocks, piece after piece.
-use Rattle.std.specs.Prelude.{Bool, List, [], filter, flat_map, if◌then◌else◌, length, map, slice_index_or, true, ℕ, ◌&&◌, ◌+◌, ◌-◌, ◌<◌, ◌==◌, ◌≡◌, ◌≤◌}
+use Rattle.std.specs.Prelude.{Bool, List, [], filter, flat_map, if◌then◌else◌, length, map, slice_index_or, true, ℕ, ◌&&◌, ◌*◌, ◌+◌, ◌-◌, ◌<◌, ◌==◌, ◌≡◌, ◌≤◌}
 use Rattle.std.specs.List.{range_with_len}
 use Rattle.gf_tables.specs.declared.kind.FieldKind.{FieldKind}
 use Rattle.gf_tables.specs.declared.kind.FieldKind.TheVariants.{Eight, Sixteen}
 use Rattle.linear_algebra.specs.Elements.{elements_of, bytes_of_row}
 use Rattle.linear_algebra.specs.Rows.{combination}
 use Rattle.lif_outside.specs.declared.links.Flight.{Flight}
-use Rattle.generation_frame.specs.Blocks.{piece_of_row, pieces}
+use Rattle.generation_frame.specs.Blocks.{most_blocks, piece_of_row, pieces}
 use Rattle.generation_frame.specs.Frames.{frame_of}
 use Rattle.generation_frame.specs.declared.frame.Packet.{Packet}
 use Rattle.net_model.specs.Walks.{leaves_source}
@@ -59,6 +59,10 @@ key_of packet = record { link = packet.link; generation = packet.generation; pie
 pub record Window : Type 0 where
   pub first : ℕ
   pub blocks : List (List ℕ)
+
+-- how many frames may fly on the links of a code: those of all pieces of a window
+abbrev pub room_for : Code → ℕ
+room_for code = most_blocks * pieces * length code.net.links
 
 -- the block of a generation
 abbrev pub block_at : Window → ℕ → List ℕ

@@ -60,7 +60,7 @@ marked-more nought mul inv number table place products count n marks h is = reco
   marked =
       below_more _ _ (λ row below. mark_stays marks n (number (forbidden_at nought mul inv table place products row)) (h.marked row below))
       (ap (λ k. get_or (set marks n true) k true) (sym is) ∙ mark_set marks n);
-  few = omega (arith, h.few, count_by-mark marks n);
+  few_marks = omega (arith, h.few_marks, count_by-mark marks n);
 }
 
 -- the number for one row more is past the marks
@@ -69,7 +69,7 @@ pub marked-past : {A : Type 0} (nought : A) (mul : A → A → A) (inv : A → A
     → IsMarked nought mul inv number table place products (count + 1) marks
 marked-past nought mul inv number table place products count n marks h is past = record {
   marked = below_more _ _ h.marked (ap (λ k. get_or marks k true) (sym is) ∙ get_or_past marks n true past);
-  few = omega (arith, h.few);
+  few_marks = omega (arith, h.few_marks);
 }
 
 module _ {A : Type 0} {P : A → Type 0} {nought one : A} {add mul : A → A → A} {inv : A → A} (F : IsField P nought one add mul inv) where

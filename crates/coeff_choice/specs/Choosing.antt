@@ -25,4 +25,4 @@ forbidden_at zero mul inv table place products row = mul (entry_of zero table ro
 -- most as many marked ones as such rows.
 pub record IsMarked {A : Type 0} (zero : A) (mul : A → A → A) (inv : A → A) (number : A → ℕ) (table : Grid A) (place : ℕ) (products : List A) (count : ℕ) (marks : List Bool) : Type 0 where
   pub marked : (row : ℕ) → row < count → slice_index_or marks (number (forbidden_at zero mul inv table place products row)) true ≡ true
-  pub few : count_by (λ mark. mark) marks ≤ count
+  pub few_marks : count_by (λ mark. mark) marks ≤ count

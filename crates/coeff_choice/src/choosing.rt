@@ -81,7 +81,7 @@ fn mark_forbidden<F: Field, L: Ledger>(
 )
     requires rows { length products.now ≤ length table.now.rows }
     requires column { place < table.now.columns }
-    requires few { length products.now < 2 ^ 32 }
+    requires few_products { length products.now < 2 ^ 32 }
     requires nonzero { (row : ℕ) → row < length products.now
         → slice_index_or products.now row F.zero ≢ F.zero }
     ensures marked { IsMarked F.zero F.mul F.inv F.number table.now place products.now
@@ -126,7 +126,7 @@ fn allowed_number<F: Field, L: Ledger>(
     requires rows { length products.now < length table.now.rows }
     requires column { place < table.now.columns }
     requires marks { length products.now < length marks.old }
-    requires few { length products.now < 2 ^ 32 }
+    requires few_products { length products.now < 2 ^ 32 }
     requires nonzero { (row : ℕ) → row < length products.now
         → slice_index_or products.now row F.zero ≢ F.zero }
     ensures below { result ≤ length products.now }
@@ -158,7 +158,7 @@ impl<F: Field> Choosing<F> {
     fn change<L: Ledger>(&mut self, table: &Matrix<F>, row: u32, place: u32, steps: &mut Steps<L>)
         requires row { row < length table.now.rows }
         requires column { place < table.now.columns }
-        requires few { length table.now.rows ≤ F.SIZE }
+        requires few_rows { length table.now.rows ≤ F.SIZE }
         requires nonzero { entry_of F.zero table.now row place ≢ F.zero }
         requires before { IsChoosing F.is_element F.zero F.add F.mul table.now row
             self.old.coefficients.items self.old.products.items self.old.marks.items }
@@ -193,7 +193,7 @@ impl<F: Field> Choosing<F> {
     )
         requires row { row < length table.now.rows }
         requires column { place < table.now.columns }
-        requires few { length table.now.rows ≤ F.SIZE }
+        requires few_rows { length table.now.rows ≤ F.SIZE }
         requires nonzero { entry_of F.zero table.now row place ≢ F.zero }
         requires before { IsChoosing F.is_element F.zero F.add F.mul table.now row
             self.old.coefficients.items self.old.products.items self.old.marks.items }
@@ -220,7 +220,7 @@ pub fn choose<F: Field, L: Ledger>(
     steps: &mut Steps<L>,
 ) -> Result<Vec<F>, AllocError>
     requires nonzero { HasNonzeroAt F.zero table.now preds.now }
-    requires few { length table.now.rows ≤ F.SIZE }
+    requires few_rows { length table.now.rows ≤ F.SIZE }
     ensures kept { IsMatrix F.is_element table.now }
     ensures choice { IfOk result
         (λ choice. IsChoice F.is_element F.zero F.add F.mul table.now choice.items) }

@@ -55,8 +55,8 @@ pub fn certify_batches<G: Gate + Sync, R: Threads + Sync>(
     gate: &G,
 ) -> Result<Vec<Cert>, AllocError>
     requires wiring { IsWiring net.now.links (length net.now.nodes) wiring.now }
-    requires some { 0 < batches }
-    requires few { demand_count net.now ≤ pair_demands }
+    requires some_batches { 0 < batches }
+    requires few_demands { demand_count net.now ≤ pair_demands }
     ensures { IfOk result (λ certs. AreCertificates net.now certs.items) }
 {
     let made = map_indices(
@@ -79,7 +79,7 @@ fn enter_batch<G: Gate>(
 ) -> Result<Vec<Cert>, AllocError>
     requires wiring { IsWiring net.now.links (length net.now.nodes) wiring.now }
     requires batch { batch < batches }
-    requires few { demand_count net.now ≤ pair_demands }
+    requires few_demands { demand_count net.now ≤ pair_demands }
     ensures { IfOk result (λ certs. IsBatch net.now batches batch certs.items) }
 {
     gate.enter(batch);
@@ -96,7 +96,7 @@ fn join_batches(
     batches: u32,
     made: Vec<Result<Vec<Cert>, AllocError>>,
 ) -> Result<Vec<Cert>, AllocError>
-    requires some { 0 < batches }
+    requires some_batches { 0 < batches }
     requires count { vec_len made ≡ batches }
     requires each { AreBatches net.now batches made.items }
     ensures { IfOk result (λ certs. AreCertificates net.now certs.items) }

@@ -45,7 +45,7 @@ pub fn certify_all<G: Gate + Sync, R: Threads + Sync>(
     gate: &G,
 ) -> Result<Vec<Cert>, AllocError>
     requires workers { 1 ≤ workers }
-    requires few { demand_count net.now ≤ pair_demands }
+    requires few_demands { demand_count net.now ≤ pair_demands }
     ensures { IfOk result (λ certs. AreCertificates net.now certs.items) }
 {
     let wiring = wiring_of(alloc, net)?;
@@ -63,7 +63,7 @@ pub fn certify_all_along<G: Gate + Sync, R: Threads + Sync>(
 ) -> Result<Vec<Cert>, AllocError>
     requires wiring { IsWiring net.now.links (length net.now.nodes) wiring.now }
     requires workers { 1 ≤ workers }
-    requires few { demand_count net.now ≤ pair_demands }
+    requires few_demands { demand_count net.now ≤ pair_demands }
     ensures { IfOk result (λ certs. AreCertificates net.now certs.items) }
 {
     let batches = demands(net).min(workers as u64) as u32;

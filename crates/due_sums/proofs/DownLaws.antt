@@ -50,7 +50,7 @@ has_sums base readers starts piece i old now old_due now_due within enough so_fa
     let number = due_number (get_or readers i 0) piece in
     let inside = within_counts now number (some_missing base readers starts piece i old now old_due now_due within enough so_far) in
     let has = groups (get_or readers i 0) (omega (arith, inside, long)) in
-    record { stands = has.stands; some = has.some; few = has.few; room = omega (arith, has.room, so_far.room) }
+    record { stands = has.stands; some_sums = has.some_sums; few_places = has.few_places; room = omega (arith, has.room, so_far.room) }
 
 -- the numbers that become due with a group are those of its sums
 pub group_numbers : (base : ℕ) (starts : List ℕ) (group piece number : ℕ) → piece < pieces → slice_index starts group < slice_index starts (group + 1)

@@ -4,7 +4,8 @@ use Rattle.std.proofs.Common.{refl, sym, ap, ◌∙◌, arith, inl, inr, subst}
 use Rattle.std.proofs.lemmas.Bool.{cases_eq, cases_lt}
 use Rattle.std.proofs.lemmas.List.{get_or_append_left, get_or_past, get_or_push, length_push}
 use Rattle.std.proofs.lemmas.List.Elements.{All-from_get_or}
-use Rattle.generation_frame.specs.Blocks.{pieces}
+use Rattle.net_model.specs.Limits.{most_links}
+use Rattle.generation_frame.specs.Blocks.{most_blocks, pieces}
 use Rattle.least_set.specs.Members.{Members, bound}
 use Rattle.net_model.specs.Lists.{is_rising}
 use Rattle.due_sums.specs.Groups.{AreFirstGroups, AreGroups, HasSums}
@@ -59,22 +60,22 @@ module _ (sums groups : List (List ℕ)) (starts : List ℕ) (are : AreGroups su
 
   pub groups_sum : (inputs : ℕ) → AreSums inputs sums → AreSums inputs groups
   groups_sum inputs work = record {
-    few = omega (arith, are.few, work.few);
-    some = all_groups (λ sum. 0 < length sum) work.some;
+    few_sums = omega (arith, are.few_groups, work.few_sums);
+    some_inputs = all_groups (λ sum. 0 < length sum) work.some_inputs;
     rising = all_groups (λ sum. IsTrue (is_rising sum)) work.rising;
     below = all_groups (All (λ input. input < inputs)) work.below;
   }
 
   -- there is room for the numbers of a group's sums
   pub groups_fit : (counts : List ℕ) (base : ℕ) (due : Members) (piece : ℕ) → length counts ≡ length groups * pieces
-      → base + length sums ≤ 4 * 8192 → (base + length sums) * pieces ≤ bound due
+      → base + length sums ≤ most_blocks * most_links → (base + length sums) * pieces ≤ bound due
       → (group : ℕ) → group * pieces + piece < length counts → HasSums base starts group due
   groups_fit counts base due piece whole few room group inside =
       let below : group < length groups = omega (arith, inside, whole) in
       record {
         stands = omega (arith, are.count, below);
-        some = are.rising group below;
-        few = omega (arith, few, are.within (group + 1));
+        some_sums = are.rising group below;
+        few_places = omega (arith, few, are.within (group + 1));
         room = omega (arith, room, are.within (group + 1));
       }
 
@@ -92,7 +93,7 @@ module _ (first : ℕ) (sums groups : List (List ℕ)) (starts : List ℕ) (are 
   pub groups-begun : AreFirstGroups (first + 1) sums (groups ++ slice_index_or sums first [] ∷ []) (starts ++ (first + 1) ∷ [])
   groups-begun = record {
     count = length_push starts (first + 1) ∙ ap (λ n. n + 1) (are.count ∙ sym long);
-    few = omega (arith, long, are.few);
+    few_groups = omega (arith, long, are.few_groups);
     from = kept 0 (omega (arith, are.count)) ∙ are.from;
     to = ap (slice_index more) (long ∙ sym are.count) ∙ last;
     within = λ group. elim (cases_lt group (length starts)) [
@@ -155,7 +156,7 @@ module _ (first : ℕ) (sums groups : List (List ℕ)) (starts : List ℕ) (are 
   pub groups-grown : AreFirstGroups (first + 1) sums groups (starts ++ (first + 1) ∷ [])
   groups-grown = record {
     count = length_push starts (first + 1) ∙ ap (λ n. n + 1) whole;
-    few = omega (arith, are.few);
+    few_groups = omega (arith, are.few_groups);
     from = stays 0 any_group ∙ are.from;
     to = ap (slice_index new) (sym whole) ∙ new_last;
     within = λ group. elim (cases_lt group (length starts)) [

@@ -8,7 +8,8 @@ use Rattle.std.proofs.lemmas.Bool.{and_from, and_left, and_parts, and_right, cas
 use Rattle.std.proofs.lemmas.List.{get_or-map, get_or-set_other, get_or-set_same, get_or_past, length-map, length-set, map-set, with_items_is}
 use Rattle.std.proofs.lemmas.List.Elements.{All-get_or, All-map, All-weaker}
 use Rattle.std.proofs.lemmas.Nat.{div_below, mod-mul-add, mod_below, mul-le, pow_below, pow_pos, row_fits, same_from_place, shl_whole, shr_split}
-use Rattle.generation_frame.specs.Blocks.{pieces}
+use Rattle.net_model.specs.Limits.{most_links}
+use Rattle.generation_frame.specs.Blocks.{most_blocks, pieces}
 use Rattle.generation_frame.specs.Frames.{accepted}
 use Rattle.generation_frame.specs.declared.frame.Accepted.{Accepted}
 use Rattle.generation_frame.specs.declared.frame.Accepted.TheVariants.{Known}
@@ -30,18 +31,18 @@ abbrev pub nothing : Held
 nothing = record { payloads = []; marks = [] }
 
 -- a room of at most two to the power of thirteen
-pub low_shift : (shift : ℕ) → 2 ^ shift ≤ 8192 → shift ≤ 13
+pub low_shift : (shift : ℕ) → 2 ^ shift ≤ most_links → shift ≤ 13
 low_shift shift low = elim (cases_lt 13 shift) [
   | inl above ↦ absurd (omega (arith, low, pow_below 13 shift above))
   | inr below ↦ below
 ]
 
 -- so many rooms fit
-pub rooms : (count room : ℕ) → count ≤ 4 → room ≤ 8192 → count * room ≤ 4 * 8192
-rooms count room few low = mul-le count room 4 8192 few low
+pub rooms : (count room : ℕ) → count ≤ most_blocks → room ≤ most_links → count * room ≤ most_blocks * most_links
+rooms count room few low = mul-le count room most_blocks most_links few low
 
 -- and the shift loses nothing
-pub shifted : (count shift width : ℕ) → count ≤ 4 → shift ≤ 13 → 16 ≤ width → (count * 2 ^ shift) % 2 ^ width ≡ count * 2 ^ shift
+pub shifted : (count shift width : ℕ) → count ≤ most_blocks → shift ≤ 13 → 16 ≤ width → (count * 2 ^ shift) % 2 ^ width ≡ count * 2 ^ shift
 shifted count shift width few low wide = shl_whole count 3 shift width (omega (arith, few)) (omega (arith, low, wide))
 
 -- a generation that is there has its room
@@ -64,7 +65,7 @@ not_due sum count bit none = elim (cases_lt sum count) [
 ]
 
 -- the generation and the sum of a number below a limit
-pub number_place : (generations shift number : ℕ) → generations ≤ 4 → shift ≤ 13 → number < generations * 2 ^ shift * pieces
+pub number_place : (generations shift number : ℕ) → generations ≤ most_blocks → shift ≤ 13 → number < generations * 2 ^ shift * pieces
     → let place = number / pieces in
     let generation = place / 2 ^ shift in
     let sum = place - generation * 2 ^ shift % 2 ^ 32 in
@@ -104,16 +105,16 @@ HasNothing-fresh inputs sums groups tables room due fresh none = record {
 
 -- and all counts are those of what is missing
 pub IsWaiting-fresh : (inputs : ℕ) (sums groups : List (List ℕ)) (starts : List ℕ) (readers : List (List ℕ)) (tables : List Table) (room : ℕ) (due : Members)
-    → AreSums inputs sums → inputs < 2 ^ 32 → AreGroups sums groups starts → AreReaders inputs groups readers → length sums ≤ room → room ≤ 8192 → length tables ≤ 4
+    → AreSums inputs sums → inputs < 2 ^ 32 → AreGroups sums groups starts → AreReaders inputs groups readers → length sums ≤ room → room ≤ most_links → length tables ≤ most_blocks
     → length tables * room * pieces ≤ bound due → All (IsFresh inputs groups) tables → HasNone due → IsWaiting inputs sums groups starts readers tables room due
 IsWaiting-fresh inputs sums groups starts readers tables room due work few grouped read enough low generations bounded fresh none = record {
   work = work;
-  few = few;
+  few_inputs = few;
   grouped = grouped;
   read = read;
   enough = enough;
-  low = low;
-  generations = generations;
+  low_room = low;
+  few_generations = generations;
   bounded = bounded;
   counted = λ generation other inside. IsTable-fresh inputs sums groups (slice_index_or tables generation other) (generation * room) due (fresh generation other inside) none;
   of_sums = λ place piece below is. absurd (omega (arith, is, none (due_number place piece)));
@@ -137,12 +138,12 @@ module _ (inputs : ℕ) (sums groups : List (List ℕ)) (starts : List ℕ) (rea
   pub IsWaiting-lost : (number : ℕ) (due' : Members) → Loses number due due' → IsWaiting inputs sums groups starts readers tables room due'
   IsWaiting-lost number due' lost = record {
     work = waiting.work;
-    few = waiting.few;
+    few_inputs = waiting.few_inputs;
     grouped = waiting.grouped;
     read = waiting.read;
     enough = waiting.enough;
-    low = waiting.low;
-    generations = waiting.generations;
+    low_room = waiting.low_room;
+    few_generations = waiting.few_generations;
     bounded = omega (arith, waiting.bounded, lost.long);
     counted = λ generation other inside.
         let table = slice_index_or tables generation other in
@@ -219,12 +220,12 @@ module _ (inputs : ℕ) (sums groups : List (List ℕ)) (starts : List ℕ) (rea
     pub IsWaiting-set : (table : Table) → IsTable inputs sums groups table (generation * room) due' → IsWaiting inputs sums groups starts readers (slice_set tables generation table) room due'
     IsWaiting-set table counted = record {
       work = waiting.work;
-      few = waiting.few;
+      few_inputs = waiting.few_inputs;
       grouped = waiting.grouped;
       read = waiting.read;
       enough = waiting.enough;
-      low = waiting.low;
-      generations = omega (arith, waiting.generations, long);
+      low_room = waiting.low_room;
+      few_generations = omega (arith, waiting.few_generations, long);
       bounded = subst (λ count. count * room * pieces ≤ bound due') (sym long) (omega (arith, waiting.bounded, down.room));
       counted = λ g other within. elim (cases_eq g generation) [
         | inl same ↦ subst (Counted other) (sym same) (subst (At generation) (sym (get_or-set_same tables generation table other inside)) counted)

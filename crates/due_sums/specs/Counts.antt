@@ -2,7 +2,8 @@
 -- many of its inputs are missing.
 use Rattle.std.specs.Prelude.{◌≡◌, ◌≢◌, ◌<◌, ◌≤◌, ◌+◌, ◌*◌, ◌%◌, ◌^◌, ◌==◌, ℕ, not, List, [], Vec, length, map, count_by, slice_index, slice_index_or}
 use Rattle.std.specs.Global.{Global}
-use Rattle.generation_frame.specs.Blocks.{pieces}
+use Rattle.net_model.specs.Limits.{most_links}
+use Rattle.generation_frame.specs.Blocks.{most_blocks, pieces}
 use Rattle.held_rows.specs.Held.{Held, HoldsNone, is_held, row_count}
 use Rattle.least_set.specs.Members.{Members, bit_of, bound}
 use Rattle.due_sums.specs.Groups.{AreGroups}
@@ -91,12 +92,12 @@ pub record IsFresh (inputs : ℕ) (groups : List (List ℕ)) (table : Table) : T
 -- sums, and what is due are pieces of sums.
 pub record IsWaiting (inputs : ℕ) (sums groups : List (List ℕ)) (starts : List ℕ) (readers : List (List ℕ)) (tables : List Table) (room : ℕ) (due : Members) : Type 0 where
   pub work : AreSums inputs sums
-  pub few : inputs < 2 ^ 32
+  pub few_inputs : inputs < 2 ^ 32
   pub grouped : AreGroups sums groups starts
   pub read : AreReaders inputs groups readers
   pub enough : length sums ≤ room
-  pub low : room ≤ 8192
-  pub generations : length tables ≤ 4
+  pub low_room : room ≤ most_links
+  pub few_generations : length tables ≤ most_blocks
   pub bounded : length tables * room * pieces ≤ bound due
   pub counted : (generation : ℕ) (other : Table) → generation < length tables
       → IsTable inputs sums groups (slice_index_or tables generation other) (generation * room) due

@@ -1,6 +1,7 @@
 -- Sums of inputs that come in pieces, generation by generation: what has come, and which pieces of which sums are due.
 use Rattle.std.specs.Prelude.{◌≡◌, ◌<◌, ◌≤◌, ◌⊎◌, ◌+◌, ◌*◌, ◌&&◌, ◌==◌, ℕ, Bool, true, false, nat_lt, not, List, [], length, slice_index_or, All, IsTrue}
 use Rattle.std.specs.List.{list_all}
+use Rattle.net_model.specs.Limits.{most_links}
 use Rattle.generation_frame.specs.Blocks.{pieces}
 use Rattle.held_rows.specs.Held.{Held, is_held, payload_of}
 use Rattle.least_set.specs.Members.{Members, bit_of}
@@ -51,8 +52,8 @@ is_given waiting generation sum piece =
 
 -- sums of inputs below a number: each is of some, and names none twice
 pub record AreSums (inputs : ℕ) (sums : List (List ℕ)) : Type 0 where
-  pub few : length sums ≤ 8192
-  pub some : All (λ sum. 0 < length sum) sums
+  pub few_sums : length sums ≤ most_links
+  pub some_inputs : All (λ sum. 0 < length sum) sums
   pub rising : All (λ sum. IsTrue (is_rising sum)) sums
   pub below : All (All (λ input. input < inputs)) sums
 

@@ -13,7 +13,7 @@ use least_set::LeastSet;
 // Counts all inputs of each group as missing, for each piece.
 pub fn count_all(missing: &mut [u32], groups: &SumTable)
     requires whole { length missing.old ≡ length groups.now * pieces }
-    requires few { All (λ inputs. length inputs < 2 ^ 32) groups.now }
+    requires few_inputs { All (λ inputs. length inputs < 2 ^ 32) groups.now }
     ensures { (number : ℕ) → number < length missing.new
         → slice_index missing.new number ≡ length (list_at groups.now (number / pieces)) }
 {

@@ -101,7 +101,7 @@ impl Model for DueSums {
 
 impl DueSums {
     ghost use Rattle.generation_frame.specs.Frames.{accepted};
-    ghost use Rattle.generation_frame.specs.Blocks.{pieces};
+    ghost use Rattle.generation_frame.specs.Blocks.{most_blocks, pieces};
     ghost use Rattle.due_sums.specs.Waiting.{AreSums, Gains, HasNothing, IsSameWork, Takes, has_input, input_at, is_due};
 
     /// Sums of these inputs, in so many generations, before any input has come. It takes all memory that the work
@@ -113,7 +113,7 @@ impl DueSums {
         generations: usize,
     ) -> Result<DueSums, AllocError>
         requires sums { AreSums inputs sums }
-        requires few { generations ≤ 4 }
+        requires few_generations { generations ≤ most_blocks }
         ensures inputs { IfOk result (λ waiting. waiting.inputs ≡ inputs) }
         ensures sums { IfOk result (λ waiting. waiting.sums ≡ sums) }
         ensures generations { IfOk result (λ waiting. length waiting.held ≡ generations) }
@@ -218,9 +218,9 @@ impl DueSums {
 
 // How often one is doubled to have room for so many sums.
 fn shift_for(sums: usize) -> u32
-    requires { sums ≤ 8192 }
+    requires { sums ≤ most_links }
     ensures room { sums ≤ 2 ^ result }
-    ensures low { result ≤ 13 }
+    ensures low_shift { result ≤ 13 }
 {
     for shift in 0..13 {
         if sums <= 1 << shift {
@@ -231,6 +231,7 @@ fn shift_for(sums: usize) -> u32
 }
 
 ghost use Rattle.std.specs.Prelude.{All};
+ghost use Rattle.net_model.specs.Limits.{most_links};
 ghost use Rattle.due_sums.specs.Waiting.{AreSums};
 ghost use Rattle.due_sums.specs.Counts.{IsFresh, IsOfSize};
 

@@ -1,5 +1,6 @@
 //! Groups of sums that follow one another and have the same inputs.
 ghost use Rattle.std.specs.Prelude.{◌≡◌, ◌≤◌, IfOk, length};
+ghost use Rattle.net_model.specs.Limits.{most_links};
 ghost use Rattle.due_sums.specs.Groups.{AreGroups};
 
 use crate::SumTable;
@@ -18,7 +19,7 @@ pub struct Groups {
 
 // The groups of sums.
 pub fn groups_of(alloc: Global, sums: &SumTable) -> Result<Groups, AllocError>
-    requires { length sums.now ≤ 8192 }
+    requires { length sums.now ≤ most_links }
     ensures { IfOk result (λ groups. AreGroups sums.now groups.inputs groups.starts.items) }
 {
     let mut inputs = Vec::new(alloc);

@@ -1,5 +1,6 @@
 //! For each input the groups of sums that read it.
 ghost use Rattle.std.specs.Prelude.{◌≡◌, ◌<◌, ◌≤◌, ℕ, [], All, IfOk, OnOk, length};
+ghost use Rattle.net_model.specs.Limits.{most_links};
 ghost use Rattle.due_sums.specs.Counts.{AreReaders, GainReader, list_at, lists_of};
 
 use crate::SumTable;
@@ -11,7 +12,7 @@ pub fn readers_of(
     inputs: u32,
     groups: &SumTable,
 ) -> Result<Vec<Vec<u32>>, AllocError>
-    requires few { length groups.now ≤ 8192 }
+    requires few_groups { length groups.now ≤ most_links }
     requires below { All (All (λ input. input < inputs)) groups.now }
     ensures { IfOk result (λ readers. AreReaders inputs groups.now (lists_of readers.items)) }
 {

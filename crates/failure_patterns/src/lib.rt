@@ -52,8 +52,8 @@ pub fn number_of(net: &Net, demand: Demand) -> u64
 
 // The demand of a number among so many patterns.
 fn demand_among(patterns: u64, i: u64) -> Demand
-    requires some { 0 < patterns }
-    requires few { patterns < 2 ^ 32 }
+    requires some_patterns { 0 < patterns }
+    requires few_patterns { patterns < 2 ^ 32 }
     requires near { i / patterns < 2 ^ 32 }
     ensures sink { result.sink ≡ i / patterns }
     ensures pattern { result.pattern ≡ i % patterns }

@@ -124,7 +124,7 @@ fn fill_row<F: Field>(work: &mut Matrix<F>, a: &Matrix<F>, i: u32)
     requires square { a.now.columns ≡ length a.now.rows }
     requires height { length work.old.rows ≡ length a.now.rows }
     requires width { work.old.columns ≡ length a.now.rows + length a.now.rows }
-    requires few { length a.now.rows + length a.now.rows < 2 ^ 32 }
+    requires few_columns { length a.now.rows + length a.now.rows < 2 ^ 32 }
     requires zeros { row_of work.old i ≡ replicate (length a.now.rows + length a.now.rows) F.zero }
     ensures value { work.new ≡ with_row work.old i
         (row_of a.now i ++ unit_of F.zero F.one (length a.now.rows) i) }

@@ -22,6 +22,10 @@ piece_of_row row piece = take piece_bytes (drop (piece * piece_bytes) row)
 abbrev pub most_rows : ℕ
 most_rows = 32
 
+-- the most blocks of a window, those that go through a code at a time
+abbrev pub most_blocks : ℕ
+most_blocks = 4
+
 -- how many bytes of a file a block has room for
 abbrev pub capacity : ℕ → ℕ
 capacity rate = rate * row_bytes - 4

@@ -2,6 +2,7 @@
 -- the piece.
 use Rattle.std.specs.Prelude.{ℕ, ◌<◌, ◌^◌, ◌==◌, ◌&&◌, if◌then◌else◌, nat_lt, Bool, true, false, List, [], ◌∷◌, ◌++◌, take, drop, slice_index, Result, Ok, Err}
 use Rattle.std.specs.Int.{to_be_bytes, from_be_bytes, w32}
+use Rattle.generation_frame.specs.Blocks.{pieces}
 use Rattle.generation_frame.specs.declared.frame.Accepted.{Accepted}
 use Rattle.generation_frame.specs.declared.frame.Accepted.TheVariants.{Known, New}
 use Rattle.generation_frame.specs.declared.frame.Packet.{Packet}
@@ -12,7 +13,7 @@ use Rattle.generation_frame.specs.declared.frame.FrameRefusal.TheVariants.{BadMa
 pub record Fits (packet : Packet) : Type 0 where
   pub link : packet.link < 2 ^ 32
   pub generation : packet.generation < 2 ^ 32
-  pub piece : packet.piece < 8
+  pub piece : packet.piece < pieces
 
 -- the letters LF and the version
 abbrev pub mark : List ℕ

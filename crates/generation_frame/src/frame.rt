@@ -1,6 +1,7 @@
 //! Frames: a piece of a row on its way over a link.
 ghost use Rattle.std.specs.Prelude.{◌≡◌, ◌<◌, ◌≤◌, length, take, drop, Ok, IfOk};
 ghost use Rattle.std.specs.Int.{from_be_bytes, w32};
+ghost use Rattle.generation_frame.specs.Blocks.{pieces};
 ghost use Rattle.generation_frame.specs.Frames.{frame_of, frame_read, is_marked, packet_in};
 
 use byteorder::{BigEndian, ByteOrder};
@@ -53,7 +54,7 @@ pub enum Accepted {
 
 /// The frame of a packet.
 pub fn frame_of(packet: &Packet) -> [u8; 140]
-    requires { packet.now.piece < 8 }
+    requires { packet.now.piece < pieces }
     ensures value { result ≡ frame_of packet.now }
     ensures back { frame_read result ≡ Ok packet.now }
 {
@@ -71,7 +72,7 @@ pub fn frame_of(packet: &Packet) -> [u8; 140]
 /// The packet of a frame.
 pub fn read_frame(frame: &[u8; 140]) -> Result<Packet, FrameRefusal>
     ensures value { result ≡ frame_read frame.now }
-    ensures piece { IfOk result (λ packet. packet.piece < 8) }
+    ensures piece { IfOk result (λ packet. packet.piece < pieces) }
     ensures back { IfOk result (λ packet. frame_of packet ≡ frame.now) }
 {
     if !is_marked(frame) {

@@ -1,5 +1,6 @@
 //! Blocks put together again.
 ghost use Rattle.std.specs.Prelude.{◌≡◌, ◌≤◌, ◌*◌, length};
+ghost use Rattle.generation_frame.specs.Blocks.{most_rows, row_bytes};
 ghost use Rattle.generation_frame.specs.Joins.{Joining, joined, ends};
 
 use crate::frame::number_in;
@@ -12,7 +13,7 @@ pub struct Joiner {
     rate: u32,
     ended: bool,
     ghost some_rate: { 1 ≤ rate },
-    ghost low_rate: { rate ≤ 32 },
+    ghost low_rate: { rate ≤ most_rows },
 }
 
 /// What a block has of a file. The bytes are the block's from place 4 on.
@@ -42,7 +43,7 @@ impl Joiner {
     /// A joiner of blocks of `rate` rows, before the first.
     pub fn new(rate: u32) -> Joiner
         requires some_rate { 1 ≤ rate }
-        requires low_rate { rate ≤ 32 }
+        requires low_rate { rate ≤ most_rows }
         ensures { result ≡ record { rate = rate; ended = false } }
     {
         Joiner { rate, ended: false }
@@ -50,7 +51,7 @@ impl Joiner {
 
     /// Takes the next block. Where its count is bad and where the file has ended nothing changes.
     pub fn join(&mut self, block: &[u8]) -> Joined
-        requires { length block.now ≡ self.old.rate * 1024 }
+        requires { length block.now ≡ self.old.rate * row_bytes }
         ensures value { result ≡ joined self.old block.now }
         ensures after { self.new
             ≡ record { rate = self.old.rate; ended = ends self.old block.now } }

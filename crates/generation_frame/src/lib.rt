@@ -15,6 +15,9 @@ pub use joiner::{Joined, Joiner};
 /// The bytes of a row.
 pub const ROW: usize = 1024;
 
+/// The most blocks of a window, those that go through a code at a time.
+pub const MOST_BLOCKS: usize = 4;
+
 /// The bytes of the count at the front of a block.
 const COUNT: usize = 4;
 

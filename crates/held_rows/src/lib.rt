@@ -25,7 +25,7 @@ impl Model for HeldRows {
 }
 
 impl HeldRows {
-    ghost use Rattle.generation_frame.specs.Blocks.{row_bytes};
+    ghost use Rattle.generation_frame.specs.Blocks.{pieces, row_bytes};
     ghost use Rattle.generation_frame.specs.Frames.{accepted};
     ghost use Rattle.held_rows.specs.Held.{row_count, is_held, is_whole, payload_of, row_of, HoldsNone, Holds};
 
@@ -52,7 +52,7 @@ impl HeldRows {
     /// Whether a piece of a row has come.
     pub fn is_held(&self, row: u32, piece: u8) -> bool
         requires row { row < row_count self.now }
-        requires piece { piece < 8 }
+        requires piece { piece < pieces }
         ensures { result ≡ is_held self.now row piece }
     {
         self.marks[row as usize * PIECES + piece as usize]
@@ -61,7 +61,7 @@ impl HeldRows {
     /// Keeps a piece of a row, if it hasn't come before.
     pub fn hold(&mut self, row: u32, piece: u8, payload: &[u8; 128]) -> Accepted
         requires row { row < row_count self.old }
-        requires piece { piece < 8 }
+        requires piece { piece < pieces }
         ensures value { result ≡ accepted (is_held self.old row piece) }
         ensures new { result ≡ Accepted.New → Holds row piece payload.now self.old self.new }
         ensures known { result ≡ Accepted.Known → self.new ≡ self.old }
@@ -79,7 +79,7 @@ impl HeldRows {
     /// The bytes of a piece of a row that has come.
     pub fn payload(&self, row: u32, piece: u8) -> &[u8; 128]
         requires row { row < row_count self.now }
-        requires piece { piece < 8 }
+        requires piece { piece < pieces }
         ensures { result.now ≡ payload_of self.now row piece }
     {
         &self.payloads[row as usize * PIECES + piece as usize]

@@ -30,7 +30,7 @@ over_zeros words over_words count count_over is is_over room few few_over = reco
   first = λ word. no_bits over_words count_over is_over word ∙ sym (ap (min 1) (ap (λ ws. slice_index_or ws word 0) is ∙ zeros count word));
   second = λ word. no_bit 0 word refl ∙ sym (ap (min 1) (ap (λ ws. slice_index_or ws word 0) is_over ∙ zeros count_over word));
   room = room;
-  few = few;
+  few_words = few;
   few_over = few_over;
 }
 
@@ -143,14 +143,14 @@ pub over_word : (words words' over_words over_words' : List ℕ) (over_all word 
     → length words' ≡ length words → SameElsewhere word words words' → slice_index_or words' word 0 ≢ 0 → SetsBit word over_words over_words' → SameElsewhere (word / 64) over_words over_words'
     → IsOver words' over_words' (bit_or over_all (1 * 2 ^ (word / 64) % 2 ^ 64))
 over_word words words' over_words over_words' over_all word over below long rest some sets_over rest_over =
-    let few = over.few in
+    let few = over.few_words in
     let low : word / 64 < 64 = omega (arith, below, few) in
     record {
       first = tells_some words words' (bit_of over_words) (bit_of over_words') word over.first rest sets_over.others some sets_over.here;
       second = tells_some over_words over_words' (bit_at over_all) (bit_at (bit_or over_all (1 * 2 ^ (word / 64) % 2 ^ 64))) (word / 64) over.second rest_over
           (λ other apart. bit_at_set_other w64 over_all (word / 64) low other apart) (some_from_bit _ (word % 64) sets_over.here) (bit_at_set_same w64 over_all (word / 64) low);
       room = omega (arith, over.room, long, sets_over.long);
-      few = omega (arith, over.few, long);
+      few_words = omega (arith, over.few_words, long);
       few_over = omega (arith, over.few_over, sets_over.long);
     }
 
@@ -162,7 +162,7 @@ over_kept words words' over_words over_all word over long rest set some = record
   first = tells_some words words' (bit_of over_words) (bit_of over_words) word over.first rest (λ other apart. refl) some set;
   second = over.second;
   room = omega (arith, over.room, long);
-  few = omega (arith, over.few, long);
+  few_words = omega (arith, over.few_words, long);
   few_over = over.few_over;
 }
 

@@ -99,5 +99,5 @@ pub record IsOver (words over_words : List ℕ) (over_all : ℕ) : Type 0 where
   pub first : Tells words (bit_of over_words)
   pub second : Tells over_words (bit_at over_all)
   pub room : length words ≤ 64 * length over_words
-  pub few : length words ≤ 4096
+  pub few_words : length words ≤ 4096
   pub few_over : length over_words ≤ 64

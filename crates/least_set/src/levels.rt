@@ -55,7 +55,7 @@ pub fn add_eighths(
 fn add_bits(words: &mut [u64], over_words: &mut [u64], over_all: u64, word: usize, bits: u64) -> u64
     requires over { IsOver words.old over_words.old over_all }
     requires within { word < length words.old }
-    requires some { bits ≢ 0 }
+    requires some_bits { bits ≢ 0 }
     ensures bits { SetsBits word bits words.old words.new }
     ensures over { IsOver words.new over_words.new result }
     ensures long { length over_words.new ≡ length over_words.old }

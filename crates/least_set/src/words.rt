@@ -34,7 +34,7 @@ pub fn set_bits(words: &mut [u64], word: usize, bits: u64) -> bool
 // The bits from a place to another.
 fn bits_between(from: usize, to: usize) -> u64
     requires order { from ≤ to }
-    requires low { to < 64 }
+    requires within_word { to < 64 }
     ensures inside { (i : ℕ) → from ≤ i → i ≤ to → bit_at result i ≡ 1 }
     ensures outside { (i : ℕ) → (i < from) ⊎ (to < i) → bit_at result i ≡ 0 }
 {
@@ -72,7 +72,7 @@ pub fn first_of(bits: u64) -> usize
     requires { bits ≢ 0 }
     ensures set { bit_at bits result ≡ 1 }
     ensures before { (place : ℕ) → place < result → bit_at bits place ≡ 0 }
-    ensures low { result < 64 }
+    ensures within_word { result < 64 }
 {
     bits.trailing_zeros() as usize
 }
@@ -80,8 +80,8 @@ pub fn first_of(bits: u64) -> usize
 // The number of the first bit of a word that has one, among words.
 pub fn first_bit(words: &[u64], word: usize) -> usize
     requires within { word < length words.now }
-    requires few { length words.now ≤ 4096 }
-    requires some { slice_index_or words.now word 0 ≢ 0 }
+    requires few_words { length words.now ≤ 4096 }
+    requires some_bit { slice_index_or words.now word 0 ≢ 0 }
     ensures { IsFirstBit word result words.now }
 {
     word * 64 + first_of(words[word])
@@ -90,7 +90,7 @@ pub fn first_bit(words: &[u64], word: usize) -> usize
 // Clears the bit of a word that has none left, in the level above and where need be in the word over all.
 pub fn leave_word(over_words: &mut [u64], over_all: u64, word: usize) -> u64
     requires within { word < 64 * length over_words.old }
-    requires few { length over_words.old ≤ 64 }
+    requires few_words { length over_words.old ≤ 64 }
     requires tells { Tells over_words.old (bit_at over_all) }
     requires set { bit_of over_words.old word ≡ 1 }
     ensures bits { ClearsBit word over_words.old over_words.new }

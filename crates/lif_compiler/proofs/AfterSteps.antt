@@ -117,7 +117,7 @@ module _ {X : Type 0} {F : FieldWords X} {E : EqualityWords X} (L : LawsOf F) {n
       let there = slice_get-get_or net.links link (record { name = []; tail = 0; head = 0 }) next in
       record {
         draft = IsDraft-more code.operands.items operands (get_or net.links link (record { name = []; tail = 0; head = 0 })) can.before.chosen.draft there (fits (get_or net.links link (record { name = []; tail = 0; head = 0 })) there);
-        few = omega (arith, length-append code.operands.items (operands ∷ []));
+        few_visits = omega (arith, length-append code.operands.items (operands ∷ []));
         of_hops = λ e below. elim (cases_eq e link) [
           | inl same ↦
               (let Good : ℕ → List Operand → Type 0 = λ e os. All (IsOfHop routes e) os in

@@ -80,5 +80,5 @@ module _ {X : Type 0} {F : FieldWords X} {E : EqualityWords X} (L : LawsOf F) (n
       → (code : PartialCode X F E) → code.rate ≡ rate → code.operands.items ≡ [] → code.vectors.items ≡ vectors → code.bases.items ≡ bases → IsBegun net code
   visited_none some low few order named code same_rate operands_are vectors_are bases_are routes are =
       IsVisited-of rate [] vectors bases code same_rate operands_are vectors_are bases_are
-      (record { draft = IsDraft-none net rate (marked_kind F.MARK) some low few order named; few = omega arith; of_hops = λ link below. absurd (omega arith) })
+      (record { draft = IsDraft-none net rate (marked_kind F.MARK) some low few order named; few_visits = omega arith; of_hops = λ link below. absurd (omega arith) })
       vectors_none count (stands_first routes (subst (λ rate. AreRoutes net rate routes) same_rate are))

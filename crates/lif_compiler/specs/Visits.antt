@@ -63,7 +63,7 @@ IsOfHop routes link operand = (hop : Hop) × IsHop routes link hop × (hop.befor
 pub record AreChosen (net : Net) (field : FieldKind) (rate : ℕ) (routes : Routes)
     (visited : List (List Operand)) : Type 0 where
   pub draft : IsDraft net rate field (draft_of (length net.links) visited)
-  pub few : length visited ≤ length net.links
+  pub few_visits : length visited ≤ length net.links
   pub of_hops : (link : ℕ) → link < length visited
       → All (IsOfHop routes link) (slice_index_or visited link [])
 

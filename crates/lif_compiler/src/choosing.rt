@@ -40,7 +40,7 @@ impl<F: Field> PartialCode<F> {
         requires bases { All (HasWidth self.now.rate) self.now.bases.items }
         requires low_rate { self.now.rate ≤ highest_rate }
         requires hops { AreAmong (length self.now.bases.items) self.now.rate hops.now }
-        requires few { length hops.now ≤ F.SIZE }
+        requires few_hops { length hops.now ≤ F.SIZE }
         requires named { CanFeed net.now self.now.rate link (befores hops.now) }
         requires own { HaveProducts net.now link hops.now self.now }
         ensures chosen { IfOk result (AreChosenBy net.now link hops.now self.now) }

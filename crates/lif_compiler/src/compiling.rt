@@ -27,7 +27,7 @@ use counted_steps::Steps;
 use cut_witness::{Cert, certify_all_along};
 use failure_patterns::demands;
 use gf_tables::Field;
-use lif_outside::Gate;
+use lif_outside::{Gate, WORKERS};
 use link_chains::{Wiring, wiring_of};
 use net_model::Net;
 use node_program::{Code, DecoderTable, OperandTable, choice_of};
@@ -35,9 +35,6 @@ use std::alloc::{AllocError, Global};
 use std::sync::ledger::Ledger;
 use std::thread::Threads;
 use topo_order::order_along;
-
-/// The most jobs that certificates are cut into.
-const WORKERS: u32 = 4;
 
 // The operands of all links and the decoders of all demands of a code, by the hops over each link. The links are in
 // order.
@@ -49,9 +46,9 @@ fn fill<F: Field, L: Ledger>(
     steps: &mut Steps<L>,
 ) -> Result<(OperandTable, DecoderTable), AllocError>
     requires field { IsOfKind (marked_kind F.MARK) F.SIZE F.BYTES F.MARK F.product }
-    requires some { 1 ≤ rate }
-    requires low { rate ≤ highest_rate }
-    requires few { demand_count net.now ≤ F.SIZE }
+    requires some_rate { 1 ≤ rate }
+    requires low_rate { rate ≤ highest_rate }
+    requires few_demands { demand_count net.now ≤ F.SIZE }
     requires order { IsTrue (are_in_order [] net.now.links) }
     requires named { net.now.field ≡ choice_of (marked_kind F.MARK) }
     requires ready { (routes : Routes) × AreVisitable net.now rate routes hops.now }
@@ -87,11 +84,11 @@ fn build<F: Field, L: Ledger>(
     requires field { IsOfKind (marked_kind F.MARK) F.SIZE F.BYTES F.MARK F.product }
     requires order { order.now ≡ order_of net.now.links }
     requires acyclic { IsAcyclic net.now.links }
-    requires few { demand_count net.now ≤ F.SIZE }
+    requires few_demands { demand_count net.now ≤ F.SIZE }
     requires certified { AreCertificates net.now certs.now }
     requires least { IsLeastValue certs.now rate }
-    requires some { 1 ≤ rate }
-    requires low { rate ≤ highest_rate }
+    requires some_rate { 1 ≤ rate }
+    requires low_rate { rate ≤ highest_rate }
     ensures compiled { IfOk result (λ code.
         IsCompiled net.now (marked_kind F.MARK) code certs.now) }
     ensures ticks { RoseByAtMost

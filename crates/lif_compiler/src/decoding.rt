@@ -52,7 +52,7 @@ pub(crate) fn decoder_of<F: Field>(alloc: Global, basis: &Basis<F>) -> Result<De
 fn sorted_links(alloc: Global, frontier: &[Option<u32>]) -> Result<Vec<PlacedLink>, AllocError>
     requires reached { AreReached frontier.now }
     requires apart { AreApart frontier.now }
-    requires few { length frontier.now ≤ highest_rate }
+    requires few_links { length frontier.now ≤ highest_rate }
     ensures { IfOk result (λ sorted. AreSorted frontier.now sorted.items) }
 {
     let mut placed = placed_links(alloc, frontier)?;
@@ -63,7 +63,7 @@ fn sorted_links(alloc: Global, frontier: &[Option<u32>]) -> Result<Vec<PlacedLin
 // The links of a frontier with their paths, path by path.
 fn placed_links(alloc: Global, frontier: &[Option<u32>]) -> Result<Vec<PlacedLink>, AllocError>
     requires reached { AreReached frontier.now }
-    requires few { length frontier.now ≤ highest_rate }
+    requires few_links { length frontier.now ≤ highest_rate }
     ensures { IfOk result (λ placed. placed.items ≡ placed_links frontier.now) }
 {
     let mut placed = Vec::with_capacity(alloc, frontier.len())?;
@@ -94,7 +94,7 @@ fn entries_of<F: Field>(
     sorted: &[PlacedLink],
 ) -> Result<Entries, AllocError>
     requires paths { All (λ one. one.path < length inverses.now.rows) sorted.now }
-    requires few { length sorted.now ≤ highest_rate }
+    requires few_links { length sorted.now ≤ highest_rate }
     ensures value { IfOk result (λ entries. entries ≡ entries_by F.number inverses.now sorted.now) }
     ensures below { IfOk result (All (λ entry. entry < F.SIZE)) }
 {

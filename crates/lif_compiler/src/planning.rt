@@ -76,7 +76,7 @@ fn add_demand(
 ) -> Result<(), AllocError>
     requires old { ArePathsBelow (length new_numbers.now) paths.now }
     requires new { All (λ link. link < length hops.old) new_numbers.now }
-    requires few { length paths.now ≤ highest_rate }
+    requires few_paths { length paths.now ≤ highest_rate }
     ensures { OnOk result (Gains
         (hops_of_demand demand (map (map (slice_index new_numbers.now)) paths.now))
         hops.old hops.new) }

@@ -15,8 +15,8 @@ use std::alloc::Global;
 pub fn bounded_rate(alloc: Global, net: &Net, certs: &[Cert]) -> Result<u32, CompileRefusal>
     requires { AreCertificates net.now certs.now }
     ensures least { IfOk result (IsLeastValue certs.now) }
-    ensures some { IfOk result (λ rate. 1 ≤ rate) }
-    ensures few { IfOk result (λ rate. rate ≤ highest_rate) }
+    ensures some_rate { IfOk result (λ rate. 1 ≤ rate) }
+    ensures low_rate { IfOk result (λ rate. rate ≤ highest_rate) }
     ensures refused { IfErr result (IsBadRate net.now) }
 {
     let least = rate(certs);

@@ -36,8 +36,8 @@ fn zero_vectors<F: Field>(
 
 // The basis of the unit vectors.
 fn unit_basis<F: Field>(alloc: Global, rate: u32) -> Result<Basis<F>, AllocError>
-    requires some { 1 ≤ rate }
-    requires few { rate ≤ highest_rate }
+    requires some_rate { 1 ≤ rate }
+    requires low_rate { rate ≤ highest_rate }
     ensures frontier { IfOk result (HasNoLinks rate) }
     ensures vectors { IfOk result (HasUnitVectors rate) }
     ensures matrices { IfOk result HasMatrices }
@@ -48,8 +48,8 @@ fn unit_basis<F: Field>(alloc: Global, rate: u32) -> Result<Basis<F>, AllocError
 
 // So many bases of the unit vectors.
 fn unit_bases<F: Field>(alloc: Global, count: usize, rate: u32) -> Result<Vec<Basis<F>>, AllocError>
-    requires some { 1 ≤ rate }
-    requires few { rate ≤ highest_rate }
+    requires some_rate { 1 ≤ rate }
+    requires low_rate { rate ≤ highest_rate }
     ensures count { IfOk result (λ bases. length bases.items ≡ count) }
     ensures frontiers { IfOk result (λ bases. All (HasNoLinks rate) bases.items) }
     ensures vectors { IfOk result (λ bases. All (HasUnitVectors rate) bases.items) }
@@ -66,9 +66,9 @@ impl<F: Field> PartialCode<F> {
     /// A code of this rate, before any link is visited. The links are in order.
     pub fn start(alloc: Global, net: &Net, rate: u32) -> Result<PartialCode<F>, AllocError>
         requires field { IsOfKind (marked_kind F.MARK) F.SIZE F.BYTES F.MARK F.product }
-        requires some { 1 ≤ rate }
-        requires low { rate ≤ highest_rate }
-        requires few { demand_count net.now ≤ pair_demands }
+        requires some_rate { 1 ≤ rate }
+        requires low_rate { rate ≤ highest_rate }
+        requires few_demands { demand_count net.now ≤ pair_demands }
         requires order { IsTrue (are_in_order [] net.now.links) }
         requires named { net.now.field ≡ choice_of (marked_kind F.MARK) }
         ensures rate { IfOk result (λ code. code.rate ≡ rate) }

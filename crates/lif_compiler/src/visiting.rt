@@ -35,7 +35,7 @@ impl<F: Field> PartialCode<F> {
         requires field { IsOfKind (marked_kind F.MARK) F.SIZE F.BYTES F.MARK F.product }
         requires failed { AreFailedTables net.now failed.now }
         requires next { length self.old.operands.items < length net.now.links }
-        requires few { demand_count net.now ≤ F.SIZE }
+        requires few_demands { demand_count net.now ≤ F.SIZE }
         requires matrices { All HasMatrices self.old.bases.items }
         requires ready { (routes : Routes) × CanVisit net.now routes hops.now self.old }
         ensures rate { self.new.rate ≡ self.old.rate }
@@ -80,7 +80,7 @@ impl<F: Field> PartialCode<F> {
         steps: &mut Steps<L>,
     ) -> Result<(), AllocError>
         requires field { IsOfKind (marked_kind F.MARK) F.SIZE F.BYTES F.MARK F.product }
-        requires few { demand_count net.now ≤ F.SIZE }
+        requires few_demands { demand_count net.now ≤ F.SIZE }
         requires none { self.old.operands.items ≡ [] }
         requires matrices { All HasMatrices self.old.bases.items }
         requires ready { (routes : Routes)

@@ -9,7 +9,7 @@ mod seeded;
 mod sink;
 mod store;
 
-pub use gate::{Gate, NoGate};
+pub use gate::{Gate, NoGate, WORKERS};
 pub use links::{Flight, Links};
 pub use listed::{ListLinks, Spoil};
 pub use memory::{Call, Fail, MemSink, MemStore};

@@ -5,9 +5,10 @@ use Rattle.std.proofs.Common.{refl, sym, ap, ◌∙◌, subst, arith}
 use Rattle.std.proofs.Math.Nat.{add-mul, mul-div_left, mul-le-mul_left}
 use Rattle.std.proofs.Math.Seq.{drop-append_seam, take-append_seam}
 use Rattle.std.proofs.lemmas.List.{append-nil, append_assoc, length-append}
+use Rattle.coded_traffic.specs.Traffic.{room_for}
 use Rattle.generation_frame.proofs.BlockLaws.{length-block}
 use Rattle.generation_frame.proofs.PieceLaws.{length-piece_of}
-use Rattle.generation_frame.specs.Blocks.{block_count, capacity, piece_of, row_bytes}
+use Rattle.generation_frame.specs.Blocks.{block_count, capacity, most_blocks, piece_of, row_bytes}
 use Rattle.lif_outside.proofs.SequenceLaws.{stops_behind}
 use Rattle.lif_outside.specs.Calls.{Calls}
 use Rattle.lif_outside.specs.Events.{Event}
@@ -22,7 +23,6 @@ use Rattle.lif_top.proofs.CarriedLaws.{blocks_from-append, carried-then, decoded
 use Rattle.lif_top.proofs.TurnLaws.{turns-alike, turns-append}
 use Rattle.lif_top.specs.Send.Carried.{blocks_from}
 use Rattle.lif_top.specs.Send.Delivering.{BreaksBlocks, CanCarry, DeliversBlocks, DeliversSome, Interrupts, InterruptsBlocks, InterruptsBytes, IsStill, calls_join}
-use Rattle.lif_top.specs.Send.Runs.{room_for}
 use Rattle.lif_top.specs.Send.Turns.{turns_before, turns_from}
 use Rattle.lif_top.specs.declared.delivery.Delivery.{Delivery}
 use Rattle.lif_top.specs.declared.delivery.DeliveryFault.{DeliveryFault}
@@ -253,10 +253,10 @@ module _ (code : Code) (bytes : List ℕ) where
         ∙ ap (λ hand. window_of first (length those) size hand) is
         ∙ ap (λ (blocks : List (List ℕ)). record { first = first; blocks = blocks }) (cut-concat size those [] 0 none (size-blocks 0 count))
 
-    pub are-blocks : (first : ℕ) → 1 ≤ count → count ≤ 4 → first + count ≤ 2 ^ 32 → AreBlocks code first hand
+    pub are-blocks : (first : ℕ) → 1 ≤ count → count ≤ most_blocks → first + count ≤ 2 ^ 32 → AreBlocks code first hand
     are-blocks first some few last = record {
-      some = omega (arith, blocks-count);
-      few = omega (arith, blocks-count);
+      some_blocks = omega (arith, blocks-count);
+      few_blocks = omega (arith, blocks-count);
       whole = blocks-long ∙ ap (λ n. n * (code.rate * row_bytes)) (sym blocks-count);
       last = omega (arith, blocks-count);
     }

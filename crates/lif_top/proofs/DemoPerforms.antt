@@ -5,7 +5,7 @@ use Rattle.std.proofs.Common.{refl, sym, ap, subst, ◌∙◌, ⊎_elim, arith}
 use Rattle.std.proofs.lemmas.Bool.{false≢true, or_left, or_right}
 use Rattle.std.proofs.lemmas.List.{append-nil}
 use Rattle.std.proofs.lemmas.List.Folds.{list_any-append}
-use Rattle.coded_traffic.specs.Traffic.{traffic_of}
+use Rattle.coded_traffic.specs.Traffic.{room_for, traffic_of}
 use Rattle.generation_frame.specs.Blocks.{counted_bytes, piece_of}
 use Rattle.generation_frame.proofs.BlockLaws.{counted-block}
 use Rattle.generation_frame.proofs.PieceLaws.{concat-pieces_of, length-piece_of}
@@ -35,7 +35,6 @@ use Rattle.lif_top.specs.Demo.Due.{ChangesTo, DueOf, IsShown, LinksWork}
 use Rattle.lif_top.specs.Demo.Given.{blocks_in, demo_seed, source_of}
 use Rattle.lif_top.specs.Demo.Runs.{CarriesSource, RunsDemo, Shows, sum_received}
 use Rattle.lif_top.specs.Send.Carried.{AreCarried, Breaks, CarriesFirst, IsOver, blocks_from}
-use Rattle.lif_top.specs.Send.Runs.{room_for}
 use Rattle.lif_top.specs.Send.Turns.{received_at}
 
 module _ (faithful : Bool) (demo : Demo) where

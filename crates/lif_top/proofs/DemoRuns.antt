@@ -2,7 +2,7 @@
 use Rattle.std.specs.Prelude.{◌≡◌, ◌⊎◌, ◌<◌, ◌*◌, ◌^◌, ℕ, Bool, false, List, [], ◌∷◌, length, sum, sum_by}
 use Rattle.std.proofs.Common.{refl, sym, ap, subst, ◌∙◌, inl, inr, ⊎_elim, arith}
 use Rattle.std.proofs.lemmas.List.{length-map}
-use Rattle.coded_traffic.specs.Traffic.{live_links_of}
+use Rattle.coded_traffic.specs.Traffic.{live_links_of, room_for}
 use Rattle.generation_frame.specs.Blocks.{pieces}
 use Rattle.lif_outside.specs.Calls.{Calls}
 use Rattle.lif_outside.specs.Moves.{FollowMoves, InFlight, Move, open_refused, opened, pairs_put}
@@ -25,7 +25,7 @@ use Rattle.lif_top.specs.Demo.Runs.{CarriesSource, RunsDemo, Shows, received_bef
 use Rattle.lif_top.specs.Demo.Tally.{Tallies, sum_of}
 use Rattle.lif_top.specs.Send.Carried.{AreCarried, Breaks, IsOver, blocks_from}
 use Rattle.lif_top.specs.Send.Delivering.{CanCarry, DeliversSome, Interrupts}
-use Rattle.lif_top.specs.Send.Runs.{link_calls, room_for}
+use Rattle.lif_top.specs.Send.Runs.{link_calls}
 use Rattle.lif_top.specs.Send.Turns.{turns_before}
 use Rattle.lif_top.specs.declared.delivery.DeliveryFault.TheVariants as fault
 use Rattle.lif_top.specs.declared.tally.Tally.{Tally}

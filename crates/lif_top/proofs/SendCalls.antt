@@ -1,5 +1,6 @@
 -- The calls of `send`, once the links were opened.
 use Rattle.std.proofs.Common.{◌≡◌, ◌∷◌, ◌++◌, ℕ, Bool, List, [], length, inl, inr, refl, ap, ◌∙◌}
+use Rattle.coded_traffic.specs.Traffic.{room_for}
 use Rattle.generation_frame.specs.Blocks.{block_count}
 use Rattle.lif_outside.specs.Calls.{Calls}
 use Rattle.lif_outside.specs.Events.{Event}
@@ -12,7 +13,7 @@ use Rattle.top_base.specs.Lines.{sent_line, write_fault_line}
 use Rattle.top_base.specs.Words.{Send, source_limit}
 use Rattle.top_base.specs.declared.status.Status.TheVariants.{Done, WriteFault}
 use Rattle.lif_top.specs.Send.Given.{IsClear, outputs_of, pattern_in}
-use Rattle.lif_top.specs.Send.Runs.{AtRest, Broken, Carries, RunsCode, behind_open, room_for}
+use Rattle.lif_top.specs.Send.Runs.{AtRest, Broken, Carries, RunsCode, behind_open}
 use Rattle.lif_top.specs.Send.Streaming.{StopsStreaming, StreamsAll, StreamsSource, outcome_of}
 use Rattle.lif_top.specs.declared.delivery.DeliveryFault.TheVariants as fault
 use Rattle.lif_top.specs.declared.delivery.SentCounts.{SentCounts}

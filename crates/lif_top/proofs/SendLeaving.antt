@@ -8,6 +8,7 @@ use Rattle.std.proofs.lemmas.Bool.{cases_lt, false≢true, ltb-true, or_left, or
 use Rattle.std.proofs.lemmas.List.{append-nil, length-map, length-take, take_all, take-take}
 use Rattle.std.proofs.lemmas.List.Folds.{list_any-append}
 use Rattle.std.proofs.lemmas.Slice.Eq.{bytes_eq-Decides}
+use Rattle.coded_traffic.specs.Traffic.{room_for}
 use Rattle.generation_frame.specs.Blocks.{block_count, capacity, counted_bytes, piece_of, pieces_before}
 use Rattle.generation_frame.proofs.BlockLaws.{counted-block}
 use Rattle.generation_frame.proofs.PieceLaws.{concat-pieces_before, concat-pieces_of, length-piece_of}
@@ -46,7 +47,7 @@ use Rattle.lif_top.specs.Send.Carried.{blocks_from}
 use Rattle.lif_top.specs.Paths.{output_path}
 use Rattle.lif_top.specs.Send.Changes.{ChangesTo, HasCode, LeavesPart, LeavesSource, LeavesUnwritten}
 use Rattle.lif_top.specs.Send.Given.{IsClear, outputs_of, pattern_in}
-use Rattle.lif_top.specs.Send.Runs.{AfterCreates, AtRest, Broken, Carries, RunsCode, Sent, StopsAtCreate, blocks_brought, deliveries, room_for}
+use Rattle.lif_top.specs.Send.Runs.{AfterCreates, AtRest, Broken, Carries, RunsCode, Sent, StopsAtCreate, blocks_brought, deliveries}
 
 -- the front of a front is a front
 take_twice : (k n : ℕ) (xs : List ℕ) → (m : ℕ) × (take k (take n xs) ≡ take m xs)

@@ -4,6 +4,7 @@ use Rattle.std.specs.List.{list_any}
 use Rattle.std.proofs.lemmas.List.{append-nil}
 use Rattle.std.proofs.Common.{refl, sym, ap, subst, ◌∙◌, inl, inr, ⊎_elim}
 use Rattle.std.proofs.lemmas.Bool.{false≢true}
+use Rattle.coded_traffic.specs.Traffic.{room_for}
 use Rattle.lif_outside.specs.Calls.{Calls, Outside}
 use Rattle.lif_outside.specs.Events.{Event, HappenAt}
 use Rattle.lif_outside.proofs.FaultLaws.{HaveFailed, appends_unfailed, failed-append, fault_failed, none_failed, reads_unfailed, whole_unfailed}
@@ -36,7 +37,7 @@ use Rattle.lif_top.specs.Send.Command.{send_command}
 use Rattle.lif_top.specs.Send.Due.{DueOf, DueWith, NoFault}
 use Rattle.lif_top.specs.Send.Carried.{AreCarried}
 use Rattle.lif_top.specs.Send.Given.{outputs_of, pattern_in}
-use Rattle.lif_top.specs.Send.Runs.{AfterCreates, AtRest, Broken, Carries, RunsCode, Sends, deliveries, room_for}
+use Rattle.lif_top.specs.Send.Runs.{AfterCreates, AtRest, Broken, Carries, RunsCode, Sends, deliveries}
 use Rattle.relay_runner.specs.Carried.{packets_given}
 use Rattle.lif_top.proofs.SendLeaving.{at_source, changes_with, deliveries_are, links_fault, part_keeps, source_held}
 

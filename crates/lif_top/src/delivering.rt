@@ -1,7 +1,7 @@
 //! A source that is carried over links to the sinks' files, window by window.
 ghost use Rattle.std.specs.Prelude.{◌≡◌, ◌≤◌, ◌<◌, ◌+◌, ◌-◌, ◌*◌, ◌/◌, ◌^◌, ◌∷◌, ◌++◌, [], List, ℕ, Contains, length, map, slice_range, string_bytes, take, IfErr, IfOk, OnOk, OnErr, vec_len};
 ghost use Rattle.std.specs.List.{concat};
-ghost use Rattle.generation_frame.specs.Blocks.{block_count, capacity, most_rows, row_bytes};
+ghost use Rattle.generation_frame.specs.Blocks.{block_count, capacity, most_blocks, most_rows, row_bytes};
 ghost use Rattle.lif_outside.specs.Calls.{KeepsStore, MakesBoth, MakesCalls};
 ghost use Rattle.lif_outside.specs.Moves.{Move};
 ghost use Rattle.lif_outside.specs.Runs.{StopsWithin, appends_of, creates_of};
@@ -21,9 +21,9 @@ use std::thread::Threads;
 
 // Cuts bytes into so many blocks of a rate, which stand one after another from the beginning of the room on.
 fn cut_blocks(bytes: &[u8], rate: u32, count: usize, blocks: &mut [u8])
-    requires some { 1 ≤ rate }
-    requires low { rate ≤ most_rows }
-    requires few { count ≤ 4 }
+    requires some_rate { 1 ≤ rate }
+    requires low_rate { rate ≤ most_rows }
+    requires few_blocks { count ≤ most_blocks }
     requires room { count * (rate * row_bytes) ≤ length blocks.old }
     ensures { take (count * (rate * row_bytes)) blocks.new
         ≡ concat (blocks_from bytes.now rate 0 count) }
@@ -64,7 +64,7 @@ impl<'c, F: Field> Delivery<'c, F> {
     ) -> Result<(), Failed>
         requires sink { sink < vec_len self.old.outputs }
         requires place { place < self.old.runner.count }
-        requires few { self.old.runner.count ≤ 4 }
+        requires few_blocks { self.old.runner.count ≤ most_blocks }
         requires decoded { HasDecoded self.old.runner }
         requires made { (path : List ℕ) → Contains (paths_of self.old) path
             → S.made store.old path }
@@ -91,7 +91,7 @@ impl<'c, F: Field> Delivery<'c, F> {
     // Adds to each sink's file what it decodes of a block that was carried.
     fn append_block<S: Store>(&mut self, store: &mut S, place: usize) -> Result<(), Failed>
         requires place { place < self.old.runner.count }
-        requires few { self.old.runner.count ≤ 4 }
+        requires few_blocks { self.old.runner.count ≤ most_blocks }
         requires decoded { HasDecoded self.old.runner }
         requires made { (path : List ℕ) → Contains (paths_of self.old) path
             → S.made store.old path }
@@ -116,7 +116,7 @@ impl<'c, F: Field> Delivery<'c, F> {
     // Adds to each sink's file what it decodes of the blocks that were carried, block by block.
     fn append_window<S: Store>(&mut self, store: &mut S, count: usize) -> Result<(), Failed>
         requires all { count ≡ self.old.runner.count }
-        requires few { count ≤ 4 }
+        requires few_blocks { count ≤ most_blocks }
         requires decoded { HasDecoded self.old.runner }
         requires made { (path : List ℕ) → Contains (paths_of self.old) path
             → S.made store.old path }
@@ -188,8 +188,8 @@ impl<'c, F: Field + Send + Sync> Delivery<'c, F> {
         count: usize,
         gate: &G,
     ) -> Result<(), DeliveryFault>
-        requires some { 1 ≤ count }
-        requires few { count ≤ self.old.window }
+        requires some_blocks { 1 ≤ count }
+        requires few_blocks { count ≤ self.old.window }
         requires can { CanCarry self.old.runner (K.flying links.old) (K.room links.old) }
         requires numbered { self.old.runner.next + count ≤ 2 ^ 32 }
         requires made { (path : List ℕ) → Contains (paths_of self.old) path

@@ -1,20 +1,17 @@
 //! A code at work over links, and the files of its sinks.
 ghost use Rattle.std.specs.Prelude.{◌≡◌, ◌*◌, ◌<◌, ◌≤◌, ◌∷◌, [], IfOk, OnErr, OnOk, false, length, vec_capacity, vec_len};
-ghost use Rattle.generation_frame.specs.Blocks.{capacity, row_bytes};
+ghost use Rattle.coded_traffic.specs.Traffic.{room_for};
+ghost use Rattle.generation_frame.specs.Blocks.{capacity, most_blocks, row_bytes};
 ghost use Rattle.gf_tables.specs.Kind.{IsOfKind};
 ghost use Rattle.lif_outside.specs.Moves.{opened};
 ghost use Rattle.relay_runner.specs.Runner.{IsRefused};
-ghost use Rattle.lif_top.specs.Send.Runs.{room_for};
 
 use code_checker::Checked;
-use generation_frame::{ROW, cap};
+use generation_frame::{MOST_BLOCKS, ROW, cap};
 use gf_tables::Field;
 use lif_outside::Links;
 use relay_runner::{LEAST_SINKS, Runner};
 use std::alloc::{AllocError, Global};
-
-/// How many blocks are carried at a time, at most: nodes and sinks have room for as many.
-const MOST_BLOCKS: usize = 4;
 
 /// Through how many links a window may go of which the frames that fly and the rows that are held stay in the nearest
 /// caches: through more links fewer blocks are carried at a time.
@@ -63,9 +60,9 @@ pub struct Delivery<'c, F> {
     pub decoded: Vec<u8>,
     ghost rate_of: { rate ≡ runner.code.rate },
     ghost sinks: { vec_len outputs ≡ length runner.code.net.sinks },
-    ghost some: { 1 ≤ window },
-    ghost most: { window ≤ 4 },
-    ghost few: { vec_len gathered ≤ window * capacity runner.code.rate },
+    ghost some_blocks: { 1 ≤ window },
+    ghost few_blocks: { window ≤ most_blocks },
+    ghost few_bytes: { vec_len gathered ≤ window * capacity runner.code.rate },
     ghost room: { window * capacity runner.code.rate ≤ vec_capacity gathered },
     ghost blocks_length: { vec_len blocks ≡ window * (runner.code.rate * row_bytes) },
     ghost decoded_length: { vec_len decoded ≡ runner.code.rate * row_bytes },
@@ -81,8 +78,8 @@ fn worth_threads(sinks: usize, rate: usize) -> usize {
 
 // How many blocks are carried at a time through so many links to so many sinks at a rate.
 fn window_of(links: usize, sinks: usize, rate: usize) -> usize
-    ensures some { 1 ≤ result }
-    ensures few { result ≤ 4 }
+    ensures some_blocks { 1 ≤ result }
+    ensures few_blocks { result ≤ most_blocks }
 {
     (WINDOW_LINKS / links.max(1))
         .max(worth_threads(sinks, rate))

@@ -1,6 +1,7 @@
 //! The command `demo`.
 ghost use Rattle.std.specs.Prelude.{◌≡◌, ◌*◌, ◌<◌, ◌≤◌, ◌^◌, ◌∷◌, [], List, ℕ, IfOk, OnErr, OnOk, count_by, length, map, replicate, string_bytes, vec_len};
 ghost use Rattle.std.specs.List.{range_with_len};
+ghost use Rattle.coded_traffic.specs.Traffic.{room_for};
 ghost use Rattle.generation_frame.specs.Blocks.{pieces};
 ghost use Rattle.gf_tables.specs.Kind.{IsOfKind};
 ghost use Rattle.lif_outside.specs.Calls.{MakesMoves};
@@ -12,7 +13,7 @@ ghost use Rattle.lif_top.specs.Demo.Given.{IsDemoCode, demo_seed};
 ghost use Rattle.lif_top.specs.Demo.Ready.{IsBegun};
 ghost use Rattle.lif_top.specs.Demo.Runs.{RunsDemo};
 ghost use Rattle.lif_top.specs.Send.Delivering.{CanCarry};
-ghost use Rattle.lif_top.specs.Send.Runs.{link_calls, room_for};
+ghost use Rattle.lif_top.specs.Send.Runs.{link_calls};
 
 use crate::delivery::{Delivery, DeliveryFault};
 use crate::tally::Tally;

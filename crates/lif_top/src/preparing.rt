@@ -4,9 +4,10 @@ ghost use Rattle.gf_tables.specs.Kind.{IsOfKind};
 ghost use Rattle.lif_outside.specs.Calls.{MakesMoves};
 ghost use Rattle.lif_outside.specs.Moves.{opened};
 ghost use Rattle.std.specs.Str.{bytes_eq};
+ghost use Rattle.coded_traffic.specs.Traffic.{room_for};
 ghost use Rattle.top_base.specs.Given.{given_in};
 ghost use Rattle.lif_top.specs.Send.Ready.{IsReady};
-ghost use Rattle.lif_top.specs.Send.Runs.{RunsCode, link_calls, room_for};
+ghost use Rattle.lif_top.specs.Send.Runs.{RunsCode, link_calls};
 
 use crate::delivery::Delivery;
 use crate::paths::{output_paths, shared_path};

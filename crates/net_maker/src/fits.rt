@@ -4,13 +4,10 @@ ghost use Rattle.net_model.specs.Limits.{highest_rate};
 ghost use Rattle.net_maker.specs.Fits.{Fits, fits, most_middle};
 ghost use Rattle.net_maker.specs.Subsets.{binomial};
 
-use net_model::{MOST_LINKS, MOST_NODES};
+use net_model::{HIGHEST_RATE, MOST_LINKS, MOST_NODES};
 
 // The most nodes between the source and the sinks.
 const MOST_MIDDLE: u32 = 64;
-
-// The most links into a sink.
-const HIGHEST_RATE: u32 = 32;
 
 /// Whether the network with a sink behind each `k` of `n` nodes is made. It takes no memory.
 pub fn demo_fits(n: u32, k: u32) -> bool

@@ -3,7 +3,7 @@ ghost use Rattle.std.specs.Prelude.{◌≡◌, ◌+◌, ◌^◌, ◌++◌, ◌�
 ghost use Rattle.std.specs.List.{range_with_len};
 ghost use Rattle.net_model.specs.Limits.{most_nodes};
 ghost use Rattle.net_maker.specs.Combination.{IsCombination, entry_link, links, node_names, patterns, sink_link, sink_links, sinks};
-ghost use Rattle.net_maker.specs.Fits.{Fits};
+ghost use Rattle.net_maker.specs.Fits.{Fits, most_middle};
 ghost use Rattle.net_maker.specs.Subsets.{binomial, subsets_of};
 
 use crate::fits::binomial;
@@ -68,7 +68,7 @@ fn links(alloc: Global, n: u32, k: u32, count: u32) -> Result<LinkTable, AllocEr
 
 // Adds the links from the source.
 fn push_entry_links(alloc: Global, links: &mut Vec<Link>, n: u32) -> Result<(), AllocError>
-    requires { n ≤ 64 }
+    requires { n ≤ most_middle }
     ensures { OnOk result (links.new.items
         ≡ links.old.items ++ map entry_link (range_with_len 1 n)) }
 {

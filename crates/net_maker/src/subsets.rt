@@ -1,11 +1,12 @@
 //! Sets of numbers as rising lists, stepped in lexicographic order.
 ghost use Rattle.std.specs.Prelude.{◌≡◌, ◌+◌, ◌-◌, ◌<◌, ◌≤◌, ◌∷◌, [], ℕ, if◌then◌else◌, slice_index, length};
+ghost use Rattle.net_maker.specs.Fits.{most_middle};
 ghost use Rattle.net_maker.specs.Subsets.{HasRoom, subsets_from};
 
 /// Steps to the next set of as many numbers up to `most`, if there is one.
 pub(crate) fn advance(subset: &mut [u32], most: u32) -> bool
-    requires few { length subset.old ≤ 64 }
-    requires most { most ≤ 64 }
+    requires few_members { length subset.old ≤ most_middle }
+    requires most { most ≤ most_middle }
     requires room { HasRoom most subset.old }
     ensures room { HasRoom most subset.new }
     ensures next { subsets_from (most + 1) subset.old
@@ -22,8 +23,8 @@ pub(crate) fn advance(subset: &mut [u32], most: u32) -> bool
 
 // The place from which on each member is as great as it can be.
 fn first_full(subset: &[u32], most: u32) -> usize
-    requires few { length subset.now ≤ 64 }
-    requires most { most ≤ 64 }
+    requires few_members { length subset.now ≤ most_middle }
+    requires most { most ≤ most_middle }
     requires room { HasRoom most subset.now }
     ensures within { result ≤ length subset.now }
     ensures full { (i : ℕ) → result ≤ i → i < length subset.now
@@ -40,9 +41,9 @@ fn first_full(subset: &[u32], most: u32) -> usize
 
 // Makes the members from a place on follow one another, from `first` on.
 fn restart(subset: &mut [u32], place: usize, first: u32)
-    requires few { length subset.old ≤ 64 }
+    requires few_members { length subset.old ≤ most_middle }
     requires place { place < length subset.old }
-    requires first { first ≤ 64 }
+    requires first { first ≤ most_middle }
     ensures before { (i : ℕ) → i < place → slice_index subset.new i ≡ slice_index subset.old i }
     ensures after { (i : ℕ) → place ≤ i → i < length subset.old
         → slice_index subset.new i + place ≡ first + i }

@@ -105,7 +105,8 @@ impl Net {
         requires { pattern < length self.now.patterns }
         ensures count { IfOk result (λ failed. vec_len failed ≡ length self.now.links) }
         ensures entries { IfOk result (λ failed. (link : ℕ)
-            → slice_index_or failed.items link false ≡ is_failed_in self.now.patterns pattern link) }
+            → slice_index_or failed.items link false
+            ≡ is_failed_in self.now.patterns pattern link) }
     {
         let mut failed = vec![in alloc; false; self.links.len()]?;
         let pattern = self.patterns.at(pattern as usize);

@@ -81,7 +81,7 @@ fn marked_places(
     count: usize,
 ) -> Result<LinkList, AllocError>
     requires order { HasEachOnce (length marks.now) order.now }
-    requires few { length marks.now ≤ most_links }
+    requires few_links { length marks.now ≤ most_links }
     ensures { IfOk result (λ places. places
         ≡ filter (λ new. slice_index_or marks.now (slice_index order.now new) false)
         (range_with_len 0 (length order.now))) }
@@ -103,7 +103,7 @@ fn renumbered_pattern(
     marks: &mut [bool],
 ) -> Result<Pattern, AllocError>
     requires order { HasEachOnce (length marks.old) order.now }
-    requires few { length marks.old ≤ most_links }
+    requires few_links { length marks.old ≤ most_links }
     requires links { IsTrue (list_all (λ link. nat_lt link (length marks.old)) pattern.now.links) }
     requires unmarked { AreUnmarked marks.old }
     ensures pattern { IfOk result (λ new. new ≡ renumbered_pattern order.now pattern.now) }
@@ -127,7 +127,7 @@ fn renumbered_patterns(
     order: &[u32],
 ) -> Result<PatternList, AllocError>
     requires order { HasEachOnce (length order.now) order.now }
-    requires few { length order.now ≤ most_links }
+    requires few_links { length order.now ≤ most_links }
     requires patterns { IsTrue (are_patterns (length order.now) patterns.now) }
     ensures { IfOk result (λ new. new ≡ map (renumbered_pattern order.now) patterns.now) }
 {

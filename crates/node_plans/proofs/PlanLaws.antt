@@ -141,7 +141,7 @@ module _ (code : Code) (pattern node : ℕ) where
       let of_operands : (P : List ℕ → Type 0) → All (λ operands. P (map place operands)) plan.operands → All P (sums_of plan) =
       λ P all. All-map P (map place) plan.operands all in
       record {
-        few = omega (
+        few_sums = omega (
           arith,
           length-map plan.operands (map place),
           length-map plan.outs (live_operands code pattern),
@@ -149,7 +149,7 @@ module _ (code : Code) (pattern node : ℕ) where
           length-range_with_len 0 (length code.net.links),
           code.net.network.few_links,
         );
-        some = of_operands (λ sum. 0 < length sum) (each_out (λ operands. 0 < length (map place operands)) (λ link live at.
+        some_inputs = of_operands (λ sum. 0 < length sum) (each_out (λ operands. 0 < length (map place operands)) (λ link live at.
             omega (
               arith,
               length-map (live_operands code pattern link) place,

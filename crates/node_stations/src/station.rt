@@ -1,6 +1,6 @@
 //! A node with the sink at it.
 ghost use Rattle.std.specs.Prelude.{◌≡◌, ◌<◌, ◌≤◌, ◌+◌, ◌^◌, Contains, IfOk, IfSome, OnErr, OnOk, length};
-ghost use Rattle.generation_frame.specs.Blocks.{pieces};
+ghost use Rattle.generation_frame.specs.Blocks.{most_blocks, pieces};
 ghost use Rattle.gf_tables.specs.Kind.{IsOfKind};
 ghost use Rattle.node_plans.specs.Wired.{IsWiringOf};
 ghost use Rattle.relay_node.specs.Relay.{IsBegun};
@@ -61,8 +61,8 @@ impl<F: Field> Station<F> {
 
     /// Forgets what came and what was given, and begins these generations.
     pub fn begin(&mut self, first: u32, count: u32)
-        requires some { 1 ≤ count }
-        requires few { count ≤ 4 }
+        requires some_generations { 1 ≤ count }
+        requires few_generations { count ≤ most_blocks }
         requires last { first + count ≤ 2 ^ 32 }
         ensures plan { self.new.node.plan ≡ self.old.node.plan }
         ensures first { self.new.node.first ≡ first }

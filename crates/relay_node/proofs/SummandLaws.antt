@@ -97,21 +97,6 @@ pub record HasSums (plan : Plan) (count : ℕ) (all : List Summand) (starts : Li
   pub last : slice_index starts count ≡ length all
   pub each : (sum : ℕ) → sum < count → part_at all starts sum ≡ summands_at plan sum
 
-pub sums-none : (plan : Plan) → HasSums plan 0 [] (0 ∷ [])
-sums-none plan =
-    record {
-      are_starts = record { within = λ part. within part; rising = λ part below. absurd (omega (arith, below)) };
-      starts_count = refl;
-      last = refl;
-      each = λ sum below. absurd (omega (arith, below));
-    }
-  where
-    within : (part : ℕ) → slice_index (0 ∷ []) part ≤ 0
-    within part = elim (cases_lt part 1) [
-      | inl first ↦ let here : part ≡ 0 = omega (arith, first) in subst (λ (n : ℕ). slice_index (0 ∷ []) n ≤ 0) (sym here) (omega arith)
-      | inr past ↦ let out : slice_index (0 ∷ []) part ≡ 0 = get_or_past {X = ℕ} (0 ∷ []) part 0 past in omega (arith, out)
-    ]
-
 -- one more sum
 module _ (plan : Plan) (count : ℕ) (all more : List Summand) (starts : List ℕ) (has : HasSums plan count all starts) where
   whole : length (all ++ more) ≡ length all + length more
@@ -206,7 +191,7 @@ module _ (plan : Plan) (places : List ℕ) (first count : ℕ) (sums new : Waiti
           elements = All-map (λ (summand : Summand). summand.times < size_of plan.field) (summand_of plan) (operands_at plan sum) (is.is_plan.coefficients sum [] due-within);
           inputs = All-map (λ (summand : Summand). summand.input < new.inputs) (summand_of plan) (operands_at plan sum)
               (subst (λ (n : ℕ). All (λ (operand : Operand). input_place plan operand.from < n) (operands_at plan sum)) (sym (takes.work.inputs ∙ is.inputs)) (is.is_plan.inputs sum [] due-within));
-          in_generations = omega (arith, takes.in_generations, is.few, is.generations, takes.work.generations);
+          in_generations = omega (arith, takes.in_generations, is.few_generations, is.generations, takes.work.generations);
           in_pieces = takes.in_pieces;
         })
 

@@ -101,7 +101,7 @@ module _ (plan : Plan) (places : List ℕ) (first count : ℕ) (sums : Waiting) 
         each_sum = work.sums ∙ is.each_sum;
         are_sums = is.are_sums;
         generations = work.generations ∙ is.generations;
-        few = is.few;
+        few_generations = is.few_generations;
         last = is.last;
       }
 
@@ -110,7 +110,7 @@ module _ (plan : Plan) (places : List ℕ) (first count : ℕ) (sums : Waiting) 
   some_inputs s work sum within =
       let same : s.sums ≡ sums_of plan = work ∙ is.each_sum in
       subst (λ (ss : List (List ℕ)). 0 < length (slice_index_or ss sum [])) (sym same)
-      (is.are_sums.some sum [] (subst (λ (ss : List (List ℕ)). sum < length ss) is.each_sum within))
+      (is.are_sums.some_inputs sum [] (subst (λ (ss : List (List ℕ)). sum < length ss) is.each_sum within))
 
   -- Where nothing has come no sum is complete, so nothing was given, in whatever generations are begun.
   pub nothing : (new : Waiting) (begin number : ℕ) → waiting.IsSameWork sums new → waiting.HasNothing new

@@ -5,7 +5,7 @@ use Rattle.coded_traffic.specs.CodeBlocks.{IsBlockOf, row_of}
 use Rattle.coded_traffic.specs.Traffic.{Key, Window, block_at, key_of, payload_in, sum_of}
 use Rattle.due_sums.specs.Waiting.{AreSums, Waiting}
 use Rattle.due_sums.specs.Waiting as waiting
-use Rattle.generation_frame.specs.Blocks.{piece_of_row, pieces}
+use Rattle.generation_frame.specs.Blocks.{most_blocks, piece_of_row, pieces}
 use Rattle.generation_frame.specs.declared.frame.Packet.{Packet}
 use Rattle.node_plans.specs.Plans.{IsPlan, input_count, input_place, operands_of, out_place, plan_of, sums_of}
 use Rattle.node_plans.specs.Wired.{HasPlaces}
@@ -135,6 +135,6 @@ pub record IsNode (plan : Plan) (places : List ℕ) (first count : ℕ) (sums : 
   pub inputs : sums.inputs ≡ input_count plan
   pub each_sum : sums.sums ≡ sums_of plan
   pub are_sums : AreSums (input_count plan) (sums_of plan)
-  pub generations : length sums.held ≡ 4
-  pub few : count ≤ 4
+  pub generations : length sums.held ≡ most_blocks
+  pub few_generations : count ≤ most_blocks
   pub last : first + count ≤ 2 ^ 32

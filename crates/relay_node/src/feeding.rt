@@ -2,7 +2,7 @@
 ghost use Rattle.std.specs.Prelude.{◌≡◌, ◌<◌, ◌+◌, ◌*◌, ◌≤◌, ℕ, false, length};
 ghost use Rattle.coded_traffic.specs.CodeBlocks.{row_of};
 ghost use Rattle.due_sums.specs.Waiting.{has_input};
-ghost use Rattle.generation_frame.specs.Blocks.{piece_of_row, pieces, row_bytes};
+ghost use Rattle.generation_frame.specs.Blocks.{most_rows, piece_of_row, pieces, row_bytes};
 ghost use Rattle.relay_node.specs.Feeding.{ArePiecesTaken, AreRowsTaken};
 
 use due_sums::DueSums;
@@ -38,7 +38,7 @@ fn take_row(sums: &mut DueSums, generation: usize, input: u32, row: &[u8])
 pub fn take_rows(sums: &mut DueSums, generation: usize, rows: u32, block: &[u8])
     requires generation { generation < length sums.old.held }
     requires inputs { sums.old.inputs ≡ rows }
-    requires few { rows ≤ 32 }
+    requires few_rows { rows ≤ most_rows }
     requires block { length block.now ≡ rows * row_bytes }
     requires none { (row p : ℕ) → row < rows → p < pieces
         → has_input sums.old generation row p ≡ false }

@@ -1,6 +1,6 @@
 //! A node at work.
 ghost use Rattle.std.specs.Prelude.{◌≡◌, ◌<◌, ◌≤◌, ◌+◌, ◌*◌, ◌^◌, ℕ, Contains, true, false, length, IfOk, IfSome, IsNone};
-ghost use Rattle.generation_frame.specs.Blocks.{pieces, row_bytes};
+ghost use Rattle.generation_frame.specs.Blocks.{most_blocks, pieces, row_bytes};
 ghost use Rattle.generation_frame.specs.Frames.{accepted};
 ghost use Rattle.gf_tables.specs.Kind.{IsOfKind};
 ghost use Rattle.std.specs.Arc.{arc_value};
@@ -11,15 +11,12 @@ use crate::summing::payload_of;
 use code_checker::Checked;
 use due_sums::DueSums;
 use field_rows::RowTables;
-use generation_frame::{Accepted, Packet};
+use generation_frame::{Accepted, MOST_BLOCKS, Packet};
 use gf_tables::Field;
 use node_plans::{PlaceTable, Plan, Wiring, sum_table};
 use std::alloc::{AllocError, Global};
 use std::marker::{Model, PhantomData};
 use std::sync::Arc;
-
-/// The most generations of a window.
-const GENERATIONS: usize = 4;
 
 /// A node at work, over the code's field: it takes in the packets of the live links into it, and gives those of the live
 /// links out of it. Contracts see its plan, which is all that it has of the code, the generations begun, what came, and
@@ -96,7 +93,7 @@ impl<F: Field> Node<F> {
     {
         let plan = wiring.plan(alloc, code.code(), pattern, node)?;
         let sums = sum_table(alloc, &plan, wiring.places().as_slice())?;
-        let sums = DueSums::new(alloc, plan.input_count(), sums, GENERATIONS)?;
+        let sums = DueSums::new(alloc, plan.input_count(), sums, MOST_BLOCKS)?;
         let summands = Summands::of(alloc, &plan, sums.sums())?;
         Ok(Node {
             plan,
@@ -112,8 +109,8 @@ impl<F: Field> Node<F> {
 
     /// Forgets what came and what was given, and begins these generations.
     pub fn begin(&mut self, first: u32, count: u32)
-        requires some { 1 ≤ count }
-        requires few { count ≤ 4 }
+        requires some_generations { 1 ≤ count }
+        requires few_generations { count ≤ most_blocks }
         requires last { first + count ≤ 2 ^ 32 }
         ensures plan { self.new.plan ≡ self.old.plan }
         ensures first { self.new.first ≡ first }

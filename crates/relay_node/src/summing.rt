@@ -37,7 +37,8 @@ fn sum_up(
 )
     requires sum { CanSum field summands.now sums.now due.generation due.piece }
     requires zeros { payload.old ≡ zero_row piece_bytes }
-    ensures { payload.new ≡ total_of field summands.now (came_of sums.now due.generation due.piece) }
+    ensures { payload.new
+        ≡ total_of field summands.now (came_of sums.now due.generation due.piece) }
 {
     add_summands(tables, field, summands, sums, due, payload);
 }

@@ -165,7 +165,7 @@ module _ (runner : Running) (carried : HasCarried runner) where
   -- so the sinks can decode
   pub can-decode : CanDecode runner.code runner.sinks runner.first runner.count
   can-decode = record {
-    few = omega (arith, carried.same_count, carried.running.is_window.few);
+    few_blocks = omega (arith, carried.same_count, carried.running.is_window.few_blocks);
     last = omega (arith, carried.same_first, carried.same_count, carried.running.is_window.last);
     stands = receiver-at;
     all = has-all;

@@ -2,7 +2,7 @@
 use Rattle.std.specs.Prelude.{◌≡◌, ◌<◌, ◌≤◌, ◌*◌, ◌∷◌, ◌++◌, ℕ, Bool, false, List, [], Option, Some, get_or, length, slice_get}
 use Rattle.std.proofs.Common.{arith, ap, refl, subst, sym, ◌∙◌}
 use Rattle.std.proofs.lemmas.List.{length-map}
-use Rattle.coded_traffic.specs.Traffic.{Window}
+use Rattle.coded_traffic.specs.Traffic.{Window, room_for}
 use Rattle.lif_outside.specs.Calls.{MakesMoves}
 use Rattle.lif_outside.specs.LinksAccounts.{holding}
 use Rattle.lif_outside.specs.Moves.{InFlight, Move, took_none}
@@ -30,7 +30,7 @@ use Rattle.station_table.specs.Table.{ArePlanned, relays_of, sinks_of}
 
 -- A runner that is carrying a window over links that have room for it: whatever window it has begun, the calls are a run of it.
 pub record IsOnWay {L : Type 0} (g : LinksGhosts L) (start now : Running) (before after : L) : Type 0 where
-  pub room : 32 * length now.code.net.links ≤ g.room after
+  pub room : room_for now.code ≤ g.room after
   pub works : now.has_failed ≡ false
   pub work : IsSameWork start now
   pub can : CanStart start
@@ -60,10 +60,10 @@ module _ {L : Type 0} (g : LinksGhosts L) {F : Type 0} (code : Code) (pattern : 
         subst (λ (n : ℕ). IsReplaced n new (relays_of stations) (relays_of (after_puts new))) place_is (node-replaced stations place station is below new)
 
     -- there is room for what it gives
-    pub first-room : 32 * length code.net.links ≤ g.room before → HasRoom g before station.node
+    pub first-room : room_for code ≤ g.room before → HasRoom g before station.node
     first-room room packets new gives =
         let fed : IsFedAll code pattern window station.node = starts.ready.source station.node at_source in
-        omega (arith, room, ap length quiet, room-first code pattern window station.node new packets starts.is_window.few fed gives)
+        omega (arith, room, ap length quiet, room-first code pattern window station.node new packets starts.is_window.few_blocks fed gives)
 
     -- where a put fails
     pub first-stops : (new : Relay) (after : L) → StopsPutting g before after station.node new
@@ -106,7 +106,7 @@ module _ {L : Type 0} (g : LinksGhosts L) {F : Type 0} (code : Code) (pattern : 
   -- it is on its way
   pub first-way : Account g → (first count next : ℕ) (decoded : List (List ℕ)) (failed : Bool) (start : Running)
       → at_work first count next decoded failed stations ≡ start
-      → start.has_failed ≡ false → CanStart start → 32 * length start.code.net.links ≤ g.room before
+      → start.has_failed ≡ false → CanStart start → room_for start.code ≤ g.room before
       → (new : Relay) (after : L) → PutsDue g before after station.node new
       → IsOnWay g start (at_work first count next decoded failed (after_puts new)) before after
   first-way accounts first count next decoded failed start view works can room new after due =
@@ -117,7 +117,7 @@ module _ {L : Type 0} (g : LinksGhosts L) {F : Type 0} (code : Code) (pattern : 
         room =
             omega (
               arith,
-              subst (λ (runner : Running). 32 * length runner.code.net.links ≤ g.room before) (sym view) room,
+              subst (λ (runner : Running). room_for runner.code ≤ g.room before) (sym view) room,
               (puts-fly (g.faithful before) due.puts.packets (held before) (held after) follows).room,
             );
         works = ap (λ (runner : Running). runner.has_failed) view ∙ works;

@@ -44,7 +44,7 @@ pub is-window : (code : Code) (first : ℕ) (blocks : List ℕ) → AreBlocks co
 is-window code first blocks are bytes =
     record {
       blocks = are_blocks code first (count_in code blocks) blocks are.whole bytes;
-      few = omega (arith, window-count code first blocks, are.few);
+      few_blocks = omega (arith, window-count code first blocks, are.few_blocks);
       last = omega (arith, window-count code first blocks, are.last);
     }
 

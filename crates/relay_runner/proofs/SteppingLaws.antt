@@ -3,7 +3,7 @@ use Rattle.std.specs.Prelude.{◌≡◌, ◌<◌, ◌≤◌, ◌*◌, ◌∷◌,
 use Rattle.std.specs.Option.{option_map_or}
 use Rattle.std.proofs.Common.{ap, subst, sym, ◌∙◌, arith}
 use Rattle.std.proofs.lemmas.List.{length-map}
-use Rattle.coded_traffic.specs.Traffic.{Window}
+use Rattle.coded_traffic.specs.Traffic.{Window, room_for}
 use Rattle.generation_frame.specs.declared.frame.Packet.{Packet}
 use Rattle.lif_outside.specs.LinksAccounts.{LinksAccounts, holding}
 use Rattle.lif_outside.specs.Moves.{Move, took}
@@ -89,7 +89,7 @@ module _ {L : Type 0} (g : LinksGhosts L)
             subst (λ (p : Packet). IfSome station.sink (λ sink. receiving.IsBegun sink p.generation)) (sym is)
             (turning.sink_begun g accounts more_moves code pattern window run (relays_of stations) (sinks_of stations) state before running flight mid made station.sink at_sink)
 
-        pub room : 32 * length code.net.links ≤ g.room before → HasRoomAfter g mid packet station.node
+        pub room : room_for code ≤ g.room before → HasRoomAfter g mid packet station.node
         room fits =
             subst (λ (p : Packet). HasRoomAfter g mid p station.node) (sym is)
             (turning.room g accounts more_moves code pattern window run (relays_of stations) (sinks_of stations) state before running flight mid made station.node at_relay fits)

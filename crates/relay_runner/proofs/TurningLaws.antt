@@ -3,7 +3,7 @@ use Rattle.std.specs.Prelude.{◌≡◌, ◌≤◌, ◌*◌, ◌∷◌, ◌++◌
 use Rattle.std.proofs.Common.{arith, ap, refl, subst, sym, ◌∙◌}
 use Rattle.std.proofs.lemmas.List.{length-map}
 use Rattle.std.proofs.lemmas.List.Sorted.{Contains-permutation, IsPermutation-sym, length_permutation}
-use Rattle.coded_traffic.specs.Traffic.{IsKey, Window, key_of}
+use Rattle.coded_traffic.specs.Traffic.{IsKey, Window, key_of, room_for}
 use Rattle.generation_frame.specs.Frames.{packet_in}
 use Rattle.generation_frame.specs.declared.frame.Packet.{Packet}
 use Rattle.lif_outside.specs.LinksAccounts.{LinksAccounts, holding}
@@ -128,13 +128,13 @@ module _ {L : Type 0} (g : LinksGhosts L)
           by false e = omega (arith, e)
 
       -- and there is room for what the node gives
-      pub room : 32 * length code.net.links ≤ g.room before → HasRoomAfter g mid (packet_given delivery) relay
+      pub room : room_for code ≤ g.room before → HasRoomAfter g mid (packet_given delivery) relay
       room fits after takes packets new gives = omega (
         arith,
         fits,
         few-fly,
         (taken flight before mid made).as_opened.same_room,
-        room-after code pattern node window run state running.is_run running.is_window.few delivery (packet_given delivery) relay after new packets comes takes gives,
+        room-after code pattern node window run state running.is_run running.is_window.few_blocks delivery (packet_given delivery) relay after new packets comes takes gives,
       )
 
       module _ (after : L) (new : Relay) where

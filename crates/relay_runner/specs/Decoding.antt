@@ -1,8 +1,8 @@
 -- What the sinks of a code decode of a window that was carried.
 use Rattle.std.specs.Prelude.{◌≡◌, ◌<◌, ◌≤◌, ◌+◌, ◌*◌, ◌^◌, ℕ, true, All, List, [], Option, Some, drop, length, slice_get, slice_index_or, take}
-use Rattle.generation_frame.specs.Blocks.{row_bytes}
+use Rattle.generation_frame.specs.Blocks.{most_blocks, row_bytes}
 use Rattle.node_program.specs.declared.code.Code.{Code}
-use Rattle.relay_runner.specs.Running.{HasCarried, Running, most_blocks}
+use Rattle.relay_runner.specs.Running.{HasCarried, Running}
 use Rattle.sink_decoder.specs.Receiving.{IsBegun, Receiver, decoded, is_whole}
 
 -- room for the most blocks of a window, for each of some sinks
@@ -27,7 +27,7 @@ pub record HasAll (rate first count : ℕ) (receiver : Receiver) : Type 0 where
 
 -- a receiver stands at each sink, and has all of these generations
 pub record CanDecode (code : Code) (sinks : List (Option Receiver)) (first count : ℕ) : Type 0 where
-  pub few : count ≤ most_blocks
+  pub few_blocks : count ≤ most_blocks
   pub last : first + count ≤ 2 ^ 32
   pub stands : (sink : ℕ) → sink < length code.net.sinks → (receiver : Receiver) × StandsAt code sinks sink receiver
   pub all : (sink : ℕ) (receiver : Receiver) → StandsAt code sinks sink receiver → HasAll code.rate first count receiver

@@ -2,7 +2,7 @@
 use Rattle.std.specs.Prelude.{◌≡◌, ◌<◌, ◌≤◌, ◌+◌, ◌*◌, ◌/◌, ◌^◌, ℕ, All, Bool, List, [], Option, length}
 use Rattle.coded_traffic.specs.CodeBlocks.{IsBlockOf}
 use Rattle.coded_traffic.specs.Traffic.{Window}
-use Rattle.generation_frame.specs.Blocks.{row_bytes}
+use Rattle.generation_frame.specs.Blocks.{most_blocks, row_bytes}
 use Rattle.lif_outside.specs.declared.links.Flight.{Flight}
 use Rattle.node_program.specs.declared.code.Code.{Code}
 use Rattle.relay_core.specs.Core.{Delivery, IsRun, RelayState, opening}
@@ -25,14 +25,10 @@ pub record Running : Type 0 where
   pub decoded : List (List ℕ)
   pub has_failed : Bool
 
--- the most blocks of a window
-abbrev pub most_blocks : ℕ
-most_blocks = 4
-
 -- numbered blocks of a code that are a window
 pub record IsWindow (code : Code) (window : Window) : Type 0 where
   pub blocks : All (IsBlockOf code) window.blocks
-  pub few : length window.blocks ≤ most_blocks
+  pub few_blocks : length window.blocks ≤ most_blocks
   pub last : window.first + length window.blocks ≤ 2 ^ 32
 
 -- how many blocks of a code these bytes are, and the window that they are from a number on
@@ -42,10 +38,10 @@ count_in code blocks = length blocks / (code.rate * row_bytes)
 abbrev pub window_from : Code → ℕ → List ℕ → Window
 window_from code first blocks = window_of first (count_in code blocks) (code.rate * row_bytes) blocks
 
--- bytes that are 1 to 4 whole blocks, of which the last has a number of 32 bits
+-- bytes that are whole blocks of a window, of which the last has a number of 32 bits
 pub record AreBlocks (code : Code) (first : ℕ) (blocks : List ℕ) : Type 0 where
-  pub some : 1 ≤ count_in code blocks
-  pub few : count_in code blocks ≤ most_blocks
+  pub some_blocks : 1 ≤ count_in code blocks
+  pub few_blocks : count_in code blocks ≤ most_blocks
   pub whole : length blocks ≡ count_in code blocks * (code.rate * row_bytes)
   pub last : first + count_in code blocks ≤ 2 ^ 32
 

@@ -1,22 +1,19 @@
 //! What the sinks of a code decode of a window.
 ghost use Rattle.std.specs.Prelude.{◌≡◌, ◌<◌, ◌≤◌, ◌+◌, ◌*◌, ◌^◌, [], ℕ, List, IfOk, length, slice_index_or};
-ghost use Rattle.generation_frame.specs.Blocks.{row_bytes};
+ghost use Rattle.generation_frame.specs.Blocks.{most_blocks, row_bytes};
 ghost use Rattle.relay_runner.specs.Decoding.{AreDecoded, AreRooms, CanDecode, HasAll, block_in};
 ghost use Rattle.sink_decoder.specs.Receiving.{decoded};
 ghost use Rattle.station_table.specs.Table.{sinks_of};
 
-use generation_frame::ROW;
+use generation_frame::{MOST_BLOCKS, ROW};
 use gf_tables::Field;
-use lif_outside::Gate;
+use lif_outside::{Gate, WORKERS};
 use node_program::Code;
 use node_stations::Station;
-use sink_decoder::{Decoder, MOST_GENERATIONS};
+use sink_decoder::Decoder;
 use std::alloc::{AllocError, Global};
 use std::marker::Model;
 use std::thread::{Threads, for_each_chunk_mut};
-
-/// How many runs of sinks are decoded side by side, at most.
-const MOST_RUNS: usize = 4;
 
 /// How many sinks there are for each run, at least: to start a thread takes longer than to decode at a few sinks. Where
 /// there are twice as many, each window is decoded by threads.
@@ -41,11 +38,11 @@ impl Model for DecodedBlocks {
 impl DecodedBlocks {
     // Room for the blocks of a rate.
     fn open(alloc: Global, rate: u32) -> Result<DecodedBlocks, AllocError>
-        ensures { IfOk result (λ blocks. length blocks ≡ 4 * (rate * row_bytes)) }
+        ensures { IfOk result (λ blocks. length blocks ≡ most_blocks * (rate * row_bytes)) }
     {
         let size = rate as usize * ROW;
         Ok(DecodedBlocks {
-            bytes: vec![in alloc; 0u8; MOST_GENERATIONS * size]?,
+            bytes: vec![in alloc; 0u8; MOST_BLOCKS * size]?,
         })
     }
 
@@ -60,10 +57,10 @@ impl DecodedBlocks {
     // Decodes so many generations from one on.
     fn decode<F: Field>(&mut self, sink: &Decoder<F>, rate: u32, first: u32, count: u32)
         requires all { HasAll rate first count sink.now }
-        requires few { count ≤ 4 }
+        requires few_blocks { count ≤ most_blocks }
         requires last { first + count ≤ 2 ^ 32 }
-        requires room { length self.old ≡ 4 * (rate * row_bytes) }
-        ensures room { length self.new ≡ 4 * (rate * row_bytes) }
+        requires room { length self.old ≡ most_blocks * (rate * row_bytes) }
+        ensures room { length self.new ≡ most_blocks * (rate * row_bytes) }
         ensures blocks { (place : ℕ) → place < count
             → block_in (rate * row_bytes) self.new place ≡ decoded sink.now (first + place) }
     {
@@ -111,8 +108,8 @@ fn decode_sink<F: Field>(
 )
     requires can { CanDecode code.now (sinks_of stations.now) first count }
     requires sink { sink < length code.now.net.sinks }
-    requires room { length blocks.old ≡ 4 * (code.now.rate * row_bytes) }
-    ensures room { length blocks.new ≡ 4 * (code.now.rate * row_bytes) }
+    requires room { length blocks.old ≡ most_blocks * (code.now.rate * row_bytes) }
+    ensures room { length blocks.new ≡ most_blocks * (code.now.rate * row_bytes) }
     ensures blocks { AreDecoded code.now (sinks_of stations.now) first count sink blocks.new }
 {
     let node = *code.net.sinks.at(sink);
@@ -162,7 +159,7 @@ fn run_size(sinks: usize, count: u32, rate: u32) -> usize
 {
     let rows = (count as usize).saturating_mul(rate as usize);
     let products = sinks.saturating_mul(rows).saturating_mul(rate as usize);
-    let wanted = (products / LEAST_PRODUCTS).max(2).min(MOST_RUNS);
+    let wanted = (products / LEAST_PRODUCTS).max(2).min(WORKERS as usize);
     let runs = wanted.min(sinks / LEAST_SINKS).max(1);
     sinks.div_ceil(runs).max(1)
 }

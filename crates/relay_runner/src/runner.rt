@@ -1,6 +1,6 @@
 //! A code at work over links.
 ghost use Rattle.std.specs.Prelude.{◌≡◌, ◌<◌, ◌≤◌, ◌+◌, ◌*◌, ◌∷◌, ℕ, [], List, IfErr, IfOk, OnErr, OnOk, Ok, Some, length, slice_get, slice_index_or, true, false, is_err};
-ghost use Rattle.coded_traffic.specs.Traffic.{Window};
+ghost use Rattle.coded_traffic.specs.Traffic.{Window, room_for};
 ghost use Rattle.generation_frame.specs.Blocks.{row_bytes};
 ghost use Rattle.gf_tables.specs.Kind.{IsOfKind};
 ghost use Rattle.lif_outside.specs.Calls.{MakesMoves};
@@ -14,7 +14,7 @@ use crate::running::step;
 use crate::starting::start_window;
 use crate::{LinkFault, Turn};
 use code_checker::Checked;
-use generation_frame::ROW;
+use generation_frame::{MOST_BLOCKS, PIECES, ROW};
 use gf_tables::Field;
 use lif_outside::{Gate, Links};
 use node_stations::{Station, put_due};
@@ -23,8 +23,8 @@ use std::alloc::{AllocError, Global};
 use std::marker::Model;
 use std::thread::Threads;
 
-/// How many frames may fly for each link: those of 4 generations, of 8 pieces each.
-const FRAMES: u32 = 32;
+/// How many frames may fly for each link: those of all pieces of a window.
+const FRAMES: u32 = (MOST_BLOCKS * PIECES) as u32;
 
 /// A code at work under one pattern, over links: one station for each node. Contracts see the code, the pattern, what the
 /// nodes and sinks show, the window carried last, the number of the next generation, what the sinks decoded, and whether a
@@ -89,10 +89,10 @@ impl<'c, F: Field> Runner<'c, F> {
         ensures pattern { IfOk result (λ runner. runner.pattern ≡ pattern) }
         ensures next { IfOk result (λ runner. runner.next ≡ 0) }
         ensures works { IfOk result (λ runner. runner.has_failed ≡ false) }
-        ensures opened { OnOk result (K.moves (opened seed (32 * length code.now.net.links) ∷ [])
+        ensures opened { OnOk result (K.moves (opened seed (room_for code.now) ∷ [])
             links.old links.new) }
         ensures refused { OnErr result (IsRefused K.moves seed
-            (32 * length code.now.net.links) links.old links.new) }
+            (room_for code.now) links.old links.new) }
     {
         let stations = open_stations(alloc, code, pattern)?;
         let decoded = open_blocks(alloc, code.code())?;
@@ -122,7 +122,7 @@ impl<'c, F: Field> Runner<'c, F> {
         requires works { self.old.has_failed ≡ false }
         requires stand { StandAt self.old.code self.old.pattern self.old.relays self.old.sinks
             (K.flying links.old) }
-        requires room { 32 * length self.old.code.net.links ≤ K.room links.old }
+        requires room { room_for self.old.code ≤ K.room links.old }
         ensures work { IsSameWork self.old self.new }
         ensures failed { self.new.has_failed ≡ is_err result }
         ensures moved { result ≡ Ok Turn.Moved
@@ -156,7 +156,7 @@ impl<'c, F: Field> Runner<'c, F> {
         requires works { self.old.has_failed ≡ false }
         requires start { CanStart self.old }
         requires nothing_flies { K.flying links.old ≡ [] }
-        requires room { 32 * length self.old.code.net.links ≤ K.room links.old }
+        requires room { room_for self.old.code ≤ K.room links.old }
         ensures work { IsSameWork self.old self.new }
         ensures failed { self.new.has_failed ≡ is_err result }
         ensures carried { OnOk result ((window : Window)
@@ -183,7 +183,7 @@ impl<'c, F: Field> Runner<'c, F> {
         requires works { self.old.has_failed ≡ false }
         requires blocks { AreBlocks self.old.code self.old.next blocks.now }
         requires nothing_flies { K.flying links.old ≡ [] }
-        requires room { 32 * length self.old.code.net.links ≤ K.room links.old }
+        requires room { room_for self.old.code ≤ K.room links.old }
         ensures code { self.new.code ≡ self.old.code }
         ensures pattern { self.new.pattern ≡ self.old.pattern }
         ensures first { self.new.first ≡ self.old.next }

@@ -1,6 +1,6 @@
 //! A step of a run at work.
 ghost use Rattle.std.specs.Prelude.{◌≡◌, ◌*◌, ◌≤◌, ◌∷◌, ℕ, [], List, OnErr, Ok, length};
-ghost use Rattle.coded_traffic.specs.Traffic.{Window};
+ghost use Rattle.coded_traffic.specs.Traffic.{Window, room_for};
 ghost use Rattle.lif_outside.specs.Moves.{took_none};
 ghost use Rattle.relay_core.specs.Core.{Delivery, RelayState};
 ghost use Rattle.relay_runner.specs.Running.{IsRunning, StandAt};
@@ -21,7 +21,7 @@ pub(crate) fn step<F: Field, K: Links>(
 ) -> Result<Turn, Failed>
     requires stand { (pattern : ℕ) × StandAt code.now pattern
         (relays_of stations.old) (sinks_of stations.old) (K.flying links.old) }
-    requires room { 32 * length code.now.net.links ≤ K.room links.old }
+    requires room { room_for code.now ≤ K.room links.old }
     ensures moved { result ≡ Ok Turn.Moved
         → (pattern : ℕ) (window : Window) (run : List Delivery) (state : RelayState)
         → IsRunning code.now pattern window run (relays_of stations.old) (sinks_of stations.old)

@@ -9,8 +9,8 @@ use Rattle.std.proofs.lemmas.List.Concat.{length-flat_map}
 use Rattle.std.proofs.lemmas.List.FromFn.{length-range_with_len}
 use Rattle.std.proofs.lemmas.List.Sums.{sum_by-append, sum_by-le}
 use Rattle.coded_traffic.proofs.KeyLaws.{key-once}
-use Rattle.coded_traffic.specs.Traffic.{IsKey, Key, Window, is_same_key, key_of, keys_of, live_links_of}
-use Rattle.generation_frame.specs.Blocks.{pieces}
+use Rattle.coded_traffic.specs.Traffic.{IsKey, Key, Window, is_same_key, key_of, keys_of, live_links_of, room_for}
+use Rattle.generation_frame.specs.Blocks.{most_blocks, pieces}
 use Rattle.generation_frame.specs.declared.frame.Packet.{Packet}
 use Rattle.node_plans.proofs.ListLaws.{length-filter-le}
 use Rattle.node_plans.proofs.OrderLaws.{live-below}
@@ -126,7 +126,7 @@ module _ (code : Code) (pattern node : ℕ) (window : Window) where
 
 module _ (code : Code) (pattern : ℕ) (window : Window) where
   -- of no more blocks than a node works on there are few keys
-  few-of-few : length window.blocks ≤ 4 → length (keys_of code pattern window) ≤ 32 * length code.net.links
+  few-of-few : length window.blocks ≤ most_blocks → length (keys_of code pattern window) ≤ room_for code
   few-of-few few = omega (arith, few-keys code pattern window, mul-le-mul_right (length code.net.links * 8) few)
 
   -- new packets and those that were sent are few
@@ -152,10 +152,10 @@ module _ (code : Code) (pattern : ℕ) (window : Window) where
 
 -- there is room for what flies and all that a node puts once a packet came
 pub room-after : (code : Code) (pattern node : ℕ) (window : Window) (run : List Delivery) (state : RelayState)
-    → IsRun code pattern run (opening code pattern window) state → length window.blocks ≤ 4
+    → IsRun code pattern run (opening code pattern window) state → length window.blocks ≤ most_blocks
     → (delivery : Delivery) (packet : Packet) (relay mid new : Relay) (packets : List Packet)
     → Comes code pattern node window delivery state.held state.sent packet relay → NodeTakes packet relay mid → GivesEach mid packets new
-    → length state.flying + length packets ≤ 32 * length code.net.links
+    → length state.flying + length packets ≤ room_for code
 room-after code pattern node window run state is few delivery packet relay mid new packets comes takes gives =
     let kept = reached-kept code pattern window run state is in
     let shows = shows-mid code pattern node window delivery state.held state.sent packet relay comes mid takes in
@@ -169,8 +169,8 @@ room-after code pattern node window run state is few delivery packet relay mid n
     )
 
 -- and for all that the source puts first
-pub room-first : (code : Code) (pattern : ℕ) (window : Window) (source new : Relay) (packets : List Packet) → length window.blocks ≤ 4
-    → IsFedAll code pattern window source → GivesEach source packets new → length packets ≤ 32 * length code.net.links
+pub room-first : (code : Code) (pattern : ℕ) (window : Window) (source new : Relay) (packets : List Packet) → length window.blocks ≤ most_blocks
+    → IsFedAll code pattern window source → GivesEach source packets new → length packets ≤ room_for code
 room-first code pattern window source new packets few fed gives =
     let works : WorksOn code pattern code.net.source window source = record { plan = fed.takes.plan; first = fed.takes.first; count = fed.takes.count } in
     let fresh = given-new code pattern code.net.source window packets source new [] works (λ key is. fed.not_given key is) gives in

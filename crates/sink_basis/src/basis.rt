@@ -27,14 +27,14 @@ pub struct Basis<F: Field> {
     pub inverses: Matrix<F>,
     ghost basis: { IsBasis F.zero F.one F.add F.mul (length frontier) vectors inverses },
     ghost matrices: { AreMatrices (IsNumbered F.number F.of_number F.SIZE) vectors inverses },
-    ghost few: { length frontier ≤ highest_rate },
+    ghost few_paths: { length frontier ≤ highest_rate },
 }
 
 impl<F: Field> Basis<F> {
     /// The basis of the unit vectors of length `h`, with no link on any path.
     pub fn start(alloc: Global, h: u32) -> Result<Self, AllocError>
-        requires some { 1 ≤ h }
-        requires few { h ≤ highest_rate }
+        requires some_rate { 1 ≤ h }
+        requires low_rate { h ≤ highest_rate }
         ensures frontier { IfOk result (λ basis. basis.frontier ≡ replicate h None) }
         ensures vectors { IfOk result (λ basis. basis.vectors.rows ≡ identity_of F.zero F.one h) }
         ensures inverses { IfOk result (λ basis. basis.inverses.rows ≡ identity_of F.zero F.one h) }

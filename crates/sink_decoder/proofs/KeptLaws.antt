@@ -5,7 +5,7 @@ use Rattle.std.proofs.Math.ListN.{set}
 use Rattle.std.proofs.lemmas.Bool.{cases_Bool, eqb-false, eqb-true}
 use Rattle.std.proofs.lemmas.List.{get_or-map, length-map}
 use Rattle.std.proofs.lemmas.List.Elements.{All-get_or}
-use Rattle.generation_frame.specs.Blocks.{pieces}
+use Rattle.generation_frame.specs.Blocks.{most_blocks, pieces}
 use Rattle.held_rows.specs.Held as rows
 use Rattle.held_rows.specs.Held.{Held, Holds, is_held, payload_of, row_count}
 use Rattle.sink_decoder.proofs.PlaceLaws.{at-place_of, wanted-place}
@@ -17,7 +17,7 @@ nothing = record { payloads = []; marks = [] }
 
 -- the place of a generation that was begun
 pub begun-place : (receiver : Receiver) (generation : ℕ) → IsReceiver receiver → IsBegun receiver generation → generation - receiver.first < length receiver.came
-begun-place receiver generation keeps begun = omega (arith, keeps.few, keeps.windows, begun.from_first, begun.to_last)
+begun-place receiver generation keeps begun = omega (arith, keeps.few_generations, keeps.windows, begun.from_first, begun.to_last)
 
 -- it has rows for all links
 pub begun-rows : (receiver : Receiver) (generation : ℕ) → IsReceiver receiver → IsBegun receiver generation → row_count (came_of receiver generation) ≡ receiver.plan.rate
@@ -25,7 +25,7 @@ begun-rows receiver generation keeps begun =
     All-get_or (λ held. row_count held ≡ receiver.plan.rate) receiver.came (generation - receiver.first) nothing (begun-place receiver generation keeps begun) keeps.rows
 
 -- generations begun anew, where what came was forgotten
-pub IsReceiver-begun : (receiver : Receiver) (first count : ℕ) (came : List Held) → IsReceiver receiver → count ≤ 4 → map row_count came ≡ map row_count receiver.came
+pub IsReceiver-begun : (receiver : Receiver) (first count : ℕ) (came : List Held) → IsReceiver receiver → count ≤ most_blocks → map row_count came ≡ map row_count receiver.came
     → IsReceiver (record receiver { first = first; count = count; came = came })
 IsReceiver-begun receiver first count came keeps few same =
     let long : length came ≡ length receiver.came = sym (length-map came row_count) ∙ ap (length {A = ℕ}) same ∙ length-map receiver.came row_count in
@@ -36,7 +36,7 @@ IsReceiver-begun receiver first count came keeps few same =
       live_count = keeps.live_count;
       entry_count = keeps.entry_count;
       elements = keeps.elements;
-      few = few;
+      few_generations = few;
       windows = long ∙ keeps.windows;
       rows = λ k d within.
           let inside : k < length receiver.came = omega (arith, within, long) in

@@ -5,6 +5,7 @@ use Rattle.std.proofs.lemmas.List.{length-map, map_more}
 use Rattle.std.proofs.lemmas.List.Elements.{All-weaker}
 use Rattle.std.proofs.lemmas.Nat.{mod-mul-add}
 use Rattle.std.proofs.lemmas.Option.{get_or_from_slice_get}
+use Rattle.generation_frame.specs.Blocks.{most_blocks}
 use Rattle.failure_patterns.specs.Demands.{number_of}
 use Rattle.net_model.specs.Demands.{demand_count, pattern_of_demand, sink_of_demand}
 use Rattle.net_model.specs.declared.Demand.{Demand}
@@ -87,7 +88,7 @@ module _ (code : Code) (number : ℕ) (decoder : Decoder) (live among : List Boo
       (subst Found same (ap (slice_get code.decoders) (sym numbered) ∙ found)) table
 
   -- with rows for its links a sink begins
-  pub IsReceiver-opened : (came : List Held) → length came ≡ 4 → All (λ held. row_count held ≡ code.rate) came
+  pub IsReceiver-opened : (came : List Held) → length came ≡ most_blocks → All (λ held. row_count held ≡ code.rate) came
       → IsReceiver (receiver_of code.field code.rate links among entries 0 0 came)
   IsReceiver-opened came windows counts =
       let is = found-decoder code number decoder within found in
@@ -100,7 +101,7 @@ module _ (code : Code) (number : ℕ) (decoder : Decoder) (live among : List Boo
         live_count = count;
         entry_count = is.entry_count;
         elements = is.elements;
-        few = omega arith;
+        few_generations = omega arith;
         windows = windows;
         rows = counts;
       } in

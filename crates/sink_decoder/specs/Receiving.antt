@@ -8,7 +8,7 @@ use Rattle.linear_algebra.specs.Matrices.{matrix_times}
 use Rattle.linear_algebra.specs.Rows.{AreElements}
 use Rattle.net_model.specs.Demands.{pattern_of_demand}
 use Rattle.net_model.specs.Lists.{is_rising}
-use Rattle.generation_frame.specs.Blocks.{most_rows, pieces}
+use Rattle.generation_frame.specs.Blocks.{most_blocks, most_rows, pieces}
 use Rattle.held_rows.specs.Held.{Held, is_held, payload_of, row_count}
 use Rattle.held_rows.specs.Held as rows
 use Rattle.node_program.specs.CodeValue.{is_live_in}
@@ -61,7 +61,7 @@ receiver_of field rate links live entries first count came =
     }
 
 -- as many links as the rate, rising, of each whether it is live, a square matrix of elements, and rows for the links in
--- each of 4 generations
+-- each generation of a window
 pub record IsReceiver (receiver : Receiver) : Type 0 where
   pub low_rate : receiver.plan.rate ≤ most_rows
   pub link_count : length receiver.plan.links ≡ receiver.plan.rate
@@ -69,8 +69,8 @@ pub record IsReceiver (receiver : Receiver) : Type 0 where
   pub live_count : length receiver.plan.live ≡ receiver.plan.rate
   pub entry_count : length receiver.plan.entries ≡ receiver.plan.rate * receiver.plan.rate
   pub elements : AreElements receiver.plan.field receiver.plan.entries
-  pub few : receiver.count ≤ 4
-  pub windows : length receiver.came ≡ 4
+  pub few_generations : receiver.count ≤ most_blocks
+  pub windows : length receiver.came ≡ most_blocks
   pub rows : All (λ held. row_count held ≡ receiver.plan.rate) receiver.came
 
 -- a generation was begun

@@ -1,7 +1,7 @@
 //! A sink at work.
 ghost use Rattle.std.specs.Prelude.{◌≡◌, ◌<◌, ◌≤◌, ◌+◌, ◌*◌, ◌^◌, ◌==◌, ℕ, true, length, position, slice_get, IfOk};
 ghost use Rattle.failure_patterns.specs.Demands.{number_of};
-ghost use Rattle.generation_frame.specs.Blocks.{pieces, row_bytes};
+ghost use Rattle.generation_frame.specs.Blocks.{most_blocks, pieces, row_bytes};
 ghost use Rattle.generation_frame.specs.Frames.{accepted};
 ghost use Rattle.gf_tables.specs.Kind.{IsOfKind};
 ghost use Rattle.net_model.specs.Demands.{demand_count};
@@ -21,9 +21,6 @@ use node_program::{LiveLinks, live_links};
 use std::alloc::{AllocError, Global};
 use std::marker::{Model, PhantomData};
 use std::sync::Arc;
-
-/// The most generations of a window.
-pub const MOST_GENERATIONS: usize = 4;
 
 /// A sink at work, over the code's field: it takes in the packets of its decoder's links. Contracts see its plan, which
 /// is all that it has of the code, the generations begun, and what came of each.
@@ -121,8 +118,8 @@ impl<F: Field> Decoder<F> {
 
     /// Forgets what came, and begins these generations.
     pub fn begin(&mut self, first: u32, count: u32)
-        requires some { 1 ≤ count }
-        requires few { count ≤ 4 }
+        requires some_generations { 1 ≤ count }
+        requires few_generations { count ≤ most_blocks }
         requires last { first + count ≤ 2 ^ 32 }
         ensures plan { self.new.plan ≡ self.old.plan }
         ensures first { self.new.first ≡ first }

@@ -16,7 +16,7 @@ use held_rows::HeldRows;
 
 // Whether all pieces of the live links' rows have come.
 pub(crate) fn are_whole(live: &[bool], held: &HeldRows) -> bool
-    requires few { length live.now ≤ most_rows }
+    requires few_links { length live.now ≤ most_rows }
     requires rows { length live.now ≤ row_count held.now }
     ensures { result
         ≡ list_all (λ place. not (slice_index_or live.now place false) || is_whole held.now place)
@@ -42,7 +42,7 @@ pub(crate) fn sum_rows(
     requires width { length into.old ≡ row_bytes }
     requires count { length coefficients.now ≡ length live.now }
     requires elements { AreElements field coefficients.now }
-    requires few { length live.now ≤ most_rows }
+    requires few_links { length live.now ≤ most_rows }
     requires rows { length live.now ≤ row_count held.now }
     ensures width { length into.new ≡ row_bytes }
     ensures sum { elements_of field into.new
@@ -66,7 +66,7 @@ pub(crate) fn decode_rows(
     held: &HeldRows,
     into: &mut [u8],
 )
-    requires few { length live.now ≤ most_rows }
+    requires few_links { length live.now ≤ most_rows }
     requires rows { length live.now ≤ row_count held.now }
     requires square { length entries.now ≡ length live.now * length live.now }
     requires elements { AreElements field entries.now }

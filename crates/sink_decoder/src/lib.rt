@@ -10,4 +10,4 @@ mod decoding;
 mod opening;
 mod sharing;
 
-pub use decoder::{Decoder, MOST_GENERATIONS};
+pub use decoder::Decoder;

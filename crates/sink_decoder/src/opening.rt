@@ -1,8 +1,9 @@
 //! What a sink begins with.
 ghost use Rattle.std.specs.Prelude.{◌≡◌, ◌<◌, IfOk, false, length, map, slice_index_or, All};
+ghost use Rattle.generation_frame.specs.Blocks.{most_blocks};
 ghost use Rattle.held_rows.specs.Held.{HoldsNone, row_count};
 
-use crate::MOST_GENERATIONS;
+use generation_frame::MOST_BLOCKS;
 use held_rows::HeldRows;
 use node_program::LiveLinks;
 use std::alloc::{AllocError, Global};
@@ -26,11 +27,11 @@ pub(crate) fn live_among(
 
 // So many rows for each generation of a window, of which no piece has come.
 pub(crate) fn none_held(alloc: Global, rows: u32) -> Result<Vec<HeldRows>, AllocError>
-    ensures count { IfOk result (λ came. length came.items ≡ MOST_GENERATIONS) }
+    ensures count { IfOk result (λ came. length came.items ≡ most_blocks) }
     ensures rows { IfOk result (λ came. All (λ held. row_count held ≡ rows) came.items) }
 {
-    let mut came = Vec::with_capacity(alloc, MOST_GENERATIONS)?;
-    for _ in 0..MOST_GENERATIONS {
+    let mut came = Vec::with_capacity(alloc, MOST_BLOCKS)?;
+    for _ in 0..MOST_BLOCKS {
         came.push(HeldRows::new(alloc, rows)?)?;
     }
     Ok(came)

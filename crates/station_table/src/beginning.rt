@@ -1,5 +1,6 @@
 //! Stations that begin generations.
 ghost use Rattle.std.specs.Prelude.{◌≤◌, ◌+◌, ◌^◌};
+ghost use Rattle.generation_frame.specs.Blocks.{most_blocks};
 ghost use Rattle.station_table.specs.Table.{HaveBegun, relays_of, sinks_of};
 
 use gf_tables::Field;
@@ -7,8 +8,8 @@ use node_stations::Station;
 
 /// Lets all stations forget what came and what was given, and begin these generations.
 pub fn begin_stations<F: Field>(stations: &mut [Station<F>], first: u32, count: u32)
-    requires some { 1 ≤ count }
-    requires few { count ≤ 4 }
+    requires some_generations { 1 ≤ count }
+    requires few_generations { count ≤ most_blocks }
     requires last { first + count ≤ 2 ^ 32 }
     ensures { HaveBegun first count (relays_of stations.old) (relays_of stations.new)
         (sinks_of stations.old) (sinks_of stations.new) }

@@ -26,8 +26,8 @@ use Rattle.top_tools.specs.Compile.Made.{IsServedBy}
 pub only-memory : (net : Net) (size rate : ℕ) → HasRate net rate → demand_count net ≤ size → (why : CompileRefusal) → IsRefusal net size why → why ≡ OutOfMemory
 only-memory net size rate has few (Cyclic links) shown = absurd (has.acyclic links shown.is_cycle)
 only-memory net size rate has few (TooManyDemands count) crowded = absurd (omega (arith, few, crowded.1))
-only-memory net size rate has few (ZeroRate demand side) zero = absurd (IsZeroRate-only net rate demand side has.is_rate (omega (arith, has.some)) zero.1)
-only-memory net size rate has few (RateOver demand least) over = absurd (omega (arith, has.few, over.1.over, IsRate-unique net rate least has.is_rate over.1.rate))
+only-memory net size rate has few (ZeroRate demand side) zero = absurd (IsZeroRate-only net rate demand side has.is_rate (omega (arith, has.some_rate)) zero.1)
+only-memory net size rate has few (RateOver demand least) over = absurd (omega (arith, has.low_rate, over.1.over, IsRate-unique net rate least has.is_rate over.1.rate))
 only-memory net size rate has few OutOfMemory lost = refl
 
 module _ (n k : ℕ) (fits : Fits n k) (net : Net) (is : IsCombination n k net) where
@@ -35,8 +35,8 @@ module _ (n k : ℕ) (fits : Fits n k) (net : Net) (is : IsCombination n k net) 
   combination-good = record {
     acyclic = combination-acyclic n k fits net is;
     is_rate = combination-rate n k fits net is;
-    some = fits.some;
-    few = fits.rate;
+    some_rate = fits.some;
+    low_rate = fits.rate;
   }
 
   -- a field serves its demands

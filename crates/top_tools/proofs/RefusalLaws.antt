@@ -33,10 +33,10 @@ module _ (net : Net) where
   zero_over demand other least side zero over = IsZeroRate-only net least demand side over.rate (omega (arith, over.over)) zero
 
   good_zero : (line : List ℕ) (demand : ℕ) (side : List Bool) → IsGood net line → IsZeroRate net demand side → ⊥
-  good_zero line demand side good zero = IsZeroRate-only net good.rate demand side good.is_rate (omega (arith, good.some)) zero
+  good_zero line demand side good zero = IsZeroRate-only net good.rate demand side good.is_rate (omega (arith, good.some_rate)) zero
 
   good_over : (line : List ℕ) (demand least : ℕ) → IsGood net line → IsRateOver net demand least → ⊥
-  good_over line demand least good over = absurd (omega (arith, good.few, over.over, IsRate-unique net good.rate least good.is_rate over.rate))
+  good_over line demand least good over = absurd (omega (arith, good.low_rate, over.over, IsRate-unique net good.rate least good.is_rate over.rate))
 
   -- one status is due
   pub same_due : (status : Status) (line : List ℕ) (status' : Status) (line' : List ℕ) → Due net status line → Due net status' line' → status ≡ status'

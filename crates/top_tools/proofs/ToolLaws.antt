@@ -103,8 +103,8 @@ module _ (given : Compile) where
     served = made.served;
     rate = made.code.rate;
     is_rate = subst (IsRate net) (sym made.compiled.rate) (IsRate-least_value net made.certs made.compiled.least made.compiled.certified made.compiled.is_least);
-    some = made.code.code.draft.some_rate;
-    few = made.code.code.draft.low_rate;
+    some_rate = made.code.code.draft.some_rate;
+    low_rate = made.code.code.draft.low_rate;
     line_is = made.line_is;
   }
 

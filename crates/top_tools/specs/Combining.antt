@@ -14,8 +14,8 @@ use Rattle.top_tools.specs.Compile.Made.{IsServedBy}
 pub record HasRate (net : Net) (rate : ℕ) : Type 0 where
   pub acyclic : IsAcyclic net.links
   pub is_rate : IsRate net rate
-  pub some : 1 ≤ rate
-  pub few : rate ≤ highest_rate
+  pub some_rate : 1 ≤ rate
+  pub low_rate : rate ≤ highest_rate
 
 -- a code that is compiled of the network with a sink behind each k of n nodes, over the field that serves its demands: it is
 -- accepted, and its rate is k, the size of each sink's least cut

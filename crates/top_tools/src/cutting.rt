@@ -10,15 +10,12 @@ ghost use Rattle.top_tools.specs.Cuts.{IsCrowded, IsReport, IsWitnessed, cuts_co
 use crate::reporting::report_of;
 use cut_witness::{certify_all_along, rate};
 use failure_patterns::{demands, used_field};
-use lif_outside::{Gate, Store};
+use lif_outside::{Gate, Store, WORKERS};
 use link_chains::Wiring;
 use net_model::Net;
 use std::alloc::{AllocError, Global};
 use std::thread::Threads;
 use top_base::{Line, Outcome, Status, read_ordered};
-
-/// The most jobs that certificates are cut into, and so are the lines of their report.
-pub(crate) const WORKERS: u32 = 4;
 
 /// What a network makes of a command that has more demands than a field serves.
 pub fn crowded<'a>(net: &Net) -> Outcome<'a>
@@ -41,7 +38,7 @@ fn report<G: Gate + Sync, R: Threads + Sync>(
     gate: &G,
 ) -> Result<Vec<u8>, AllocError>
     requires wiring { IsWiring net.now.links (length net.now.nodes) wiring.now }
-    requires few { demand_count net.now ≤ pair_demands }
+    requires few_demands { demand_count net.now ≤ pair_demands }
     ensures { IfOk result (λ text. IsReport net.now text.items) }
 {
     let certs = certify_all_along(rt, alloc, net, wiring, WORKERS, gate)?;

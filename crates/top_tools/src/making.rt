@@ -9,7 +9,7 @@ ghost use Rattle.topo_order.specs.Order.{order_of};
 ghost use Rattle.top_tools.specs.Compile.Made.{IsServedBy};
 ghost use Rattle.top_tools.specs.Compile.Ready.{IsReady, IsUnmade, RefusesOrLosesIt};
 
-use crate::cutting::{WORKERS, crowded};
+use crate::cutting::crowded;
 use crate::reporting::report_of;
 use code_file::write_code;
 use counted_steps::Steps;
@@ -17,7 +17,7 @@ use cut_witness::Cert;
 use failure_patterns::used_field;
 use gf_tables::{Field, Gf8, Gf16};
 use lif_compiler::{CompileRefusal, compile_along};
-use lif_outside::Gate;
+use lif_outside::{Gate, WORKERS};
 use link_chains::Wiring;
 use net_model::{FieldChoice, Net};
 use node_program::Code;

@@ -13,7 +13,7 @@ use std::alloc::{AllocError, Global};
 // A cycle, where some links aren't placed and none of them may be placed next.
 pub(crate) fn cycle(alloc: Global, net: &Net, placing: &Placing) -> Result<LinkList, AllocError>
     requires placing { IsPlacingIn net.now placing.now }
-    requires some { length placing.now.order.items < length net.now.links }
+    requires unplaced { length placing.now.order.items < length net.now.links }
     requires stuck { IsStuck net.now placing.now }
     ensures { IfOk result (IsShownCycle net.now.links) }
 {
@@ -26,7 +26,7 @@ pub(crate) fn cycle(alloc: Global, net: &Net, placing: &Placing) -> Result<LinkL
 // The least link that isn't placed.
 fn first_unplaced(net: &Net, placing: &Placing) -> u32
     requires placing { IsPlacingIn net.now placing.now }
-    requires some { length placing.now.order.items < length net.now.links }
+    requires unplaced { length placing.now.order.items < length net.now.links }
     ensures within { result < length net.now.links }
     ensures unplaced { slice_index_or placing.now.placed.items result false ≡ false }
 {
@@ -55,7 +55,7 @@ fn back(net: &Net, placing: &Placing, link: u32) -> u32
 // cycle.
 fn path_back(alloc: Global, net: &Net, placing: &Placing) -> Result<(Vec<u32>, usize), AllocError>
     requires placing { IsPlacingIn net.now placing.now }
-    requires some { length placing.now.order.items < length net.now.links }
+    requires unplaced { length placing.now.order.items < length net.now.links }
     requires stuck { IsStuck net.now placing.now }
     ensures from { IfOk result (λ found. found.1 < length found.0.items) }
     ensures turn { IfOk result (λ found. IsTurn net.now.links (drop found.1 found.0.items)) }

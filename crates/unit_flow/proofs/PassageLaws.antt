@@ -57,11 +57,13 @@ passage-free links states link free = rw (free, eq-eqb (tail_of links link) (tai
 pub passage-used : (links : List Link) (states : List LinkState) (link : ℕ) → is_used states link ≡ true → passage links states link (head_of links link) ≡ Some (tail_of links link)
 passage-used links states link used = rw ((used_alone states link used).0, used, eq-eqb (head_of links link) (head_of links link) refl) refl
 
+-- the state of a link is there
+state_there : (states : List LinkState) (link : ℕ) (state : LinkState) → link < length states → state ≡ get_or states link state → slice_get states link ≡ Some state
+state_there states link state within is = slice_get-get_or states link state within ∙ ap (λ (one : LinkState). Some one) (sym is)
+
 -- a link in another state isn't free
 pub not_free : (states : List LinkState) (link : ℕ) (state : LinkState) → link < length states → state ≡ get_or states link state → state ≢ Free → is_free states link ≡ false
-not_free states link state within is other =
-    let there : slice_get states link ≡ Some state = slice_get-get_or states link state within ∙ ap (λ (one : LinkState). Some one) (sym is) in
-    rw there (at state other)
+not_free states link state within is other = rw (state_there states link state within is) (at state other)
   where
     at : (one : LinkState) → one ≢ Free → is_free_state one ≡ false
     at Free other = absurd (other refl)
@@ -70,9 +72,7 @@ not_free states link state within is other =
 
 -- or isn't used
 pub not_used : (states : List LinkState) (link : ℕ) (state : LinkState) → link < length states → state ≡ get_or states link state → state ≢ Used → is_used states link ≡ false
-not_used states link state within is other =
-    let there : slice_get states link ≡ Some state = slice_get-get_or states link state within ∙ ap (λ (one : LinkState). Some one) (sym is) in
-    rw there (at state other)
+not_used states link state within is other = rw (state_there states link state within is) (at state other)
   where
     at : (one : LinkState) → one ≢ Used → is_used_state one ≡ false
     at Free other = refl

@@ -27,7 +27,7 @@ impl Undecomposed {
         requires states { length self.now.residual.states ≡ length net.now.links }
         requires cursors { HasCursors net.now self.now }
         requires node { node < length net.now.nodes }
-        requires some { IsSome (used_leaving net.now.links self.now.residual.states node) }
+        requires used_link { IsSome (used_leaving net.now.links self.now.residual.states node) }
         ensures { used_leaving net.now.links self.now.residual.states node ≡ Some result }
     {
         let mut link = self.cursors[node as usize];

@@ -171,7 +171,7 @@ impl Search {
         requires entered { AreEntered net.now.links (length net.now.nodes) residual.now.states
             entered.now }
         requires searching { IsSearchIn net.now residual.now self.old }
-        requires some { 0 < self.old.depth }
+        requires on_way { 0 < self.old.depth }
         ensures way { KeepsWay self.old self.new }
         ensures moved { MovesAt (last_of self.old) self.old self.new }
         ensures led { HaveLedIn net.now residual.now
@@ -234,7 +234,7 @@ impl Search {
         requires entered { AreEntered net.now.links (length net.now.nodes) residual.now.states
             entered.now }
         requires searching { IsSearchIn net.now residual.now self.old }
-        requires some { 0 < self.old.depth }
+        requires on_way { 0 < self.old.depth }
         requires away { is_on self.old.reached.items sink ≡ false }
         ensures searching { IsSearchIn net.now residual.now self.new }
         ensures sink { is_on self.new.reached.items sink ≡ result }

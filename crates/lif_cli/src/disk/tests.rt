@@ -102,8 +102,7 @@ fn keeps_bytes_on_disk(rt: HostRuntime) {
         Step::CreateFails("no-such-folder/file"),
         Step::Faults(1, 2),
     ];
-    let mut store = FileStore::new(&rt);
-    assert_eq!(rt; first_wrong(&rt, &mut store, steps), None);
+    assert_eq!(rt; first_wrong(&rt, &mut FileStore::new(&rt), steps), None);
 }
 
 #[test]
@@ -123,8 +122,7 @@ fn faults_of_the_system_are_counted(rt: HostRuntime) {
         Step::Faults(3, 5),
     ];
     assert!(rt; fs::create_dir_all(&rt, folder).is_ok());
-    let mut store = FileStore::new(&rt);
-    assert_eq!(rt; first_wrong(&rt, &mut store, steps), None);
+    assert_eq!(rt; first_wrong(&rt, &mut FileStore::new(&rt), steps), None);
     assert!(rt; fs::exists(&rt, missing).is_ok_and(|is_there| !is_there));
     assert!(rt; fs::remove_dir(&rt, folder).is_ok());
 }
@@ -170,18 +168,17 @@ fn holds_long(store: &mut FileStore<HostRuntime>, path: &str, held: &[u8]) -> bo
 }
 
 // Whether a file of these bytes is written and read without a fault.
-fn keeps_long(rt: &HostRuntime, path: &'static str, bytes: &[u8]) -> bool {
-    let mut store = FileStore::new(rt);
-    write_by_pieces(&mut store, path, bytes).is_ok()
-        && holds_long(&mut store, path, bytes)
-        && goes(rt, &mut store, &Step::Faults(0, 0))
+fn keeps_long(store: &mut FileStore<HostRuntime>, path: &str, bytes: &[u8]) -> bool {
+    write_by_pieces(store, path, bytes).is_ok()
+        && holds_long(store, path, bytes)
+        && (store.read_faults, store.write_faults) == (0, 0)
 }
 
 #[test]
 fn long_appends_are_kept(rt: HostRuntime) -> Result<(), Fail> {
     let path = "disk-store-long-test";
     let bytes = varied_bytes(rt.alloc(), 70_000)?;
-    assert!(rt; keeps_long(&rt, path, &bytes));
+    assert!(rt; keeps_long(&mut FileStore::new(&rt), path, &bytes));
     fs::remove_file(&rt, path)?;
     Ok(())
 }
@@ -212,28 +209,48 @@ fn has_powers(store: &mut FileStore<HostRuntime>, path: &str) -> bool {
     store.read(path, 1 << 31, &mut [0; 2]) == Ok(1)
 }
 
+// Whether a file that is made holds what is written far behind its start.
+fn holds_far(rt: &HostRuntime, store: &mut FileStore<HostRuntime>, path: &str) -> io::Result<bool> {
+    if store.create(path).is_err() {
+        return Ok(false);
+    }
+    write_powers(rt, path)?;
+    Ok(has_powers(store, path))
+}
+
 #[test]
 fn reads_begin_far_behind(rt: HostRuntime) -> Result<(), Fail> {
     let path = "disk-store-far-test";
-    let mut store = FileStore::new(&rt);
-    assert!(rt; store.create(path).is_ok());
-    write_powers(&rt, path)?;
-    assert!(rt; has_powers(&mut store, path));
+    assert!(rt; holds_far(&rt, &mut FileStore::new(&rt), path)?);
     fs::remove_file(&rt, path)?;
     Ok(())
+}
+
+// Makes a file so long.
+fn lengthen(rt: &HostRuntime, path: &str, length: u64) -> io::Result<()> {
+    OpenOptions::new()
+        .write(true)
+        .open(rt, path)?
+        .set_len(length)
+}
+
+// Whether a file that is made, and becomes 5,000,000 bytes long, is read far behind its start and made anew.
+fn is_made_anew(
+    rt: &HostRuntime,
+    store: &mut FileStore<HostRuntime>,
+    path: &str,
+) -> io::Result<bool> {
+    if store.create(path).is_err() {
+        return Ok(false);
+    }
+    lengthen(rt, path, 5_000_000)?;
+    Ok(store.read(path, 4_000_000, &mut [1; 9]) == Ok(9) && store.create(path).is_ok())
 }
 
 #[test]
 fn a_long_file_is_made_anew(rt: HostRuntime) -> Result<(), Fail> {
     let path = "disk-store-anew-test";
-    let mut store = FileStore::new(&rt);
-    assert!(rt; store.create(path).is_ok());
-    OpenOptions::new()
-        .write(true)
-        .open(&rt, path)?
-        .set_len(5_000_000)?;
-    assert_eq!(rt; store.read(path, 4_000_000, &mut [1; 9]), Ok(9));
-    assert!(rt; store.create(path).is_ok());
+    assert!(rt; is_made_anew(&rt, &mut FileStore::new(&rt), path)?);
     assert_eq!(rt; fs::metadata(&rt, path)?.len(), 0);
     fs::remove_file(&rt, path)?;
     Ok(())
@@ -281,11 +298,20 @@ fn holds_path_thrice<R: Files + AllocGlobal>(store: &mut FileStore<'_, R>, path:
     rest.is_empty()
 }
 
+// Whether each of many files holds its path three times.
+fn hold_paths<R: Files + AllocGlobal>(store: &mut FileStore<'_, R>, paths: &[String]) -> bool {
+    for path in paths {
+        if !holds_path_thrice(store, path) {
+            return false;
+        }
+    }
+    true
+}
+
 // Whether many files are written by turns and read without a fault.
-fn keeps_many<R: Files + AllocGlobal>(rt: &R, paths: &[String]) -> bool {
-    let mut store = FileStore::new(rt);
-    write_many(&mut store, paths).is_ok()
-        && paths.iter().all(|path| holds_path_thrice(&mut store, path))
+fn keeps_many<R: Files + AllocGlobal>(store: &mut FileStore<'_, R>, paths: &[String]) -> bool {
+    write_many(store, paths).is_ok()
+        && hold_paths(store, paths)
         && (store.read_faults, store.write_faults) == (0, 0)
 }
 
@@ -294,7 +320,7 @@ fn more_files_than_stay_open_are_appended_to(rt: HostRuntime) -> Result<(), Fail
     let folder = "disk-store-many-test";
     fs::create_dir(&rt, folder)?;
     let paths = paths_in(rt.alloc(), folder)?;
-    assert!(rt; keeps_many(&rt, &paths));
+    assert!(rt; keeps_many(&mut FileStore::new(&rt), &paths));
     fs::remove_dir_all(&rt, folder)?;
     Ok(())
 }
@@ -304,7 +330,10 @@ fn handles_may_be_wanting(rt: HostRuntime) -> Result<(), Fail> {
     let paths = paths_in(rt.alloc(), "many")?;
     for handles in [256, 1] {
         let files = MemFiles::new(rt.alloc(), 0, handles)?;
-        assert!(rt; keeps_many(&files, &paths), "{handles}");
+        assert!(rt;
+            keeps_many(&mut FileStore::new(&files), &paths),
+            "{handles}"
+        );
     }
     Ok(())
 }

@@ -133,6 +133,32 @@ fn has_files(files: &MemFiles, source: &[u8], whole: bool) -> bool {
     files.holds("out.t1", source, whole) && files.holds("out.t2", source, whole)
 }
 
+// Runs the words over a system, and answers the status. What it does and says goes to the store and to `say`.
+fn run_over<R: Threads + Sync>(
+    rt: &R,
+    alloc: Global,
+    words: Words,
+    store: &mut Logged<FileStore<'_, MemFiles>>,
+    say: &mut MemSink,
+) -> ExitCode {
+    run(rt, alloc, words, store, say, &mut SeedLinks::new(alloc))
+}
+
+// Whether a run over a system with these files ended as a whole one, up to a call that failed.
+fn ended_as(
+    status: ExitCode,
+    store: &Logged<FileStore<'_, MemFiles>>,
+    say: &MemSink,
+    files: &MemFiles,
+    source: &[u8],
+    whole: &[Event],
+) -> bool {
+    store.is_whole()
+        && !files.went_on()
+        && goes_as(status, say.bytes(), store.log(), whole)
+        && has_files(files, source, status == ExitCode::SUCCESS)
+}
+
 // Whether a run goes as a whole one, up to a call that failed.
 fn goes<R: Threads + Sync>(
     rt: &R,
@@ -144,12 +170,23 @@ fn goes<R: Threads + Sync>(
 ) -> bool {
     let mut store = Logged::new(alloc, FileStore::new(files));
     let mut say = MemSink::new(alloc, Vec::new(alloc));
-    let mut links = SeedLinks::new(alloc);
-    let status = run(rt, alloc, words, &mut store, &mut say, &mut links);
-    store.is_whole()
-        && !files.went_on()
-        && goes_as(status, say.bytes(), store.log(), whole)
-        && has_files(files, source, status == ExitCode::SUCCESS)
+    let status = run_over(rt, alloc, words, &mut store, &mut say);
+    ended_as(status, &store, &say, files, source, whole)
+}
+
+// Whether a run in which the call of this number fails goes as a whole one up to that, and whether the call was made.
+fn goes_up_to<R: Threads + Sync>(
+    rt: &R,
+    alloc: Global,
+    failing: u64,
+    handles: usize,
+    source: &[u8],
+    whole: &[Event],
+) -> io::Result<(bool, bool)> {
+    let words = words_of(alloc, WORDS)?;
+    let files = system(alloc, failing, handles, source)?;
+    let is_right = goes(rt, alloc, &files, words, source, whole);
+    Ok((is_right, failing <= files.calls()))
 }
 
 // The first call of the system whose failure leads elsewhere, by its number. It is 0 where there is no end of calls.
@@ -161,34 +198,43 @@ fn first_wrong<R: Threads + Sync>(
     whole: &[Event],
 ) -> io::Result<Option<u64>> {
     for failing in 1..MOST_CALLS {
-        let files = system(alloc, failing, handles, source)?;
-        if !goes(rt, alloc, &files, words_of(alloc, WORDS)?, source, whole) {
-            return Ok(Some(failing));
-        }
-        if files.calls() < failing {
-            return Ok(None);
+        match goes_up_to(rt, alloc, failing, handles, source, whole)? {
+            (true, true) => {}
+            (true, false) => return Ok(None),
+            (false, _) => return Ok(Some(failing)),
         }
     }
     Ok(Some(0))
 }
 
-// The same, where the run in which no call fails is as promised.
+// The same, where the run in which no call fails was as promised.
+fn first_wrong_after<R: Threads + Sync>(
+    rt: &R,
+    alloc: Global,
+    handles: usize,
+    source: &[u8],
+    whole: &[Event],
+) -> io::Result<Option<u64>> {
+    if is_sending(whole, source) {
+        first_wrong(rt, alloc, handles, source, whole)
+    } else {
+        Ok(Some(0))
+    }
+}
+
+// The same, for a system in which no call fails yet.
 fn first_wrong_call<R: Threads + Sync>(
     rt: &R,
     alloc: Global,
     handles: usize,
     source: &[u8],
 ) -> io::Result<Option<u64>> {
+    let words = words_of(alloc, WORDS)?;
     let files = system(alloc, 0, handles, source)?;
     let mut store = Logged::new(alloc, FileStore::new(&files));
     let mut say = MemSink::new(alloc, Vec::new(alloc));
-    let words = words_of(alloc, WORDS)?;
-    let mut links = SeedLinks::new(alloc);
-    let _status = run(rt, alloc, words, &mut store, &mut say, &mut links);
-    if !is_sending(store.log(), source) {
-        return Ok(Some(0));
-    }
-    first_wrong(rt, alloc, handles, source, store.log())
+    let _status = run_over(rt, alloc, words, &mut store, &mut say);
+    first_wrong_after(rt, alloc, handles, source, store.log())
 }
 
 #[test]

@@ -1,6 +1,7 @@
 -- The calls of `demo`, by its outcome: they are on the links alone. This holds of all links.
 use Rattle.std.specs.Prelude.{◌≡◌, ◌⊎◌, ◌%◌, ◌^◌, ℕ, Bool, List, [], ◌∷◌, flat_map, length, sum}
 use Rattle.std.specs.List.{range_with_len}
+use Rattle.coded_traffic.specs.Traffic.{room_for}
 use Rattle.generation_frame.specs.declared.frame.Packet.{Packet}
 use Rattle.lif_outside.specs.Calls.{Calls}
 use Rattle.lif_outside.specs.Moves.{Move, open_refused, opened, pairs_put}
@@ -13,7 +14,6 @@ use Rattle.top_base.specs.declared.status.Status.{Status}
 use Rattle.top_base.specs.declared.status.Status.TheVariants.{Done, LinkFault, OutOfMemory}
 use Rattle.lif_top.specs.Demo.Given.{IsDemoCode, blocks_in, demo_seed, source_of}
 use Rattle.lif_top.specs.Send.Carried.{Breaks, CarriesFirst, IsOver}
-use Rattle.lif_top.specs.Send.Runs.{room_for}
 use Rattle.lif_top.specs.Send.Turns.{received_at}
 
 -- what all sinks of a code get of the first generations, by what came

@@ -1,5 +1,6 @@
 -- How a delivery goes on: a window of blocks of the source is carried over the links, and then each sink's file gets what came.
 use Rattle.std.specs.Prelude.{◌≡◌, ◌<◌, ◌≤◌, ◌+◌, ◌*◌, ℕ, Bool, false, List, [], ◌++◌, drop, length}
+use Rattle.coded_traffic.specs.Traffic.{room_for}
 use Rattle.generation_frame.specs.Blocks.{block_count, capacity}
 use Rattle.lif_outside.specs.Calls.{Calls}
 use Rattle.lif_outside.specs.Events.{Event}
@@ -20,7 +21,7 @@ pub record CanCarry (runner : Running) (flying : List Flight) (room : ℕ) : Typ
   pub known : runner.pattern < length runner.code.net.patterns
   pub works : runner.has_failed ≡ false
   pub quiet : flying ≡ []
-  pub has_room : 32 * length runner.code.net.links ≤ room
+  pub has_room : room_for runner.code ≤ room
 
 -- it has carried so many blocks more
 pub record HasMoved (blocks : ℕ) (old new : Running) : Type 0 where

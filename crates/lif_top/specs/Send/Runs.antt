@@ -1,5 +1,6 @@
 -- The calls of `send`, by its outcome. This holds of every store and of all links.
 use Rattle.std.specs.Prelude.{◌≡◌, ◌⊎◌, ◌*◌, ◌/◌, ℕ, Bool, if◌then◌else◌, min, length, List, [], ◌∷◌, Some, IsSome, IsNone}
+use Rattle.coded_traffic.specs.Traffic.{room_for}
 use Rattle.generation_frame.specs.Blocks.{block_count, capacity}
 use Rattle.generation_frame.specs.declared.frame.Packet.{Packet}
 use Rattle.lif_outside.specs.Calls.{Calls, MakesNone}
@@ -34,10 +35,6 @@ deliveries_to paths code pattern came carried reads =
 -- what each sink's file gets of what was read of SRC
 abbrev pub deliveries : Send → Code → List Packet → ℕ → List Event → List Event
 deliveries send code = deliveries_to (outputs_of send code) code (pattern_in send code)
-
--- how many frames may fly: 4 generations of 8 pieces for each link
-abbrev pub room_for : Code → ℕ
-room_for code = 32 * length code.net.links
 
 -- calls on the links alone, and calls behind the one that opened the links
 abbrev pub link_calls : List Move → Calls

@@ -39,8 +39,8 @@ pub record IsGood (net : Net) (line : List ℕ) : Type 0 where
   pub served : IsServedBy net field
   pub rate : ℕ
   pub is_rate : IsRate net rate
-  pub some : 1 ≤ rate
-  pub few : rate ≤ highest_rate
+  pub some_rate : 1 ≤ rate
+  pub low_rate : rate ≤ highest_rate
   pub line_is : line ≡ compiled_line rate field (demand_count net)
 
 -- a network that none is made of, by the status and the line: there are too many demands, or the rate is 0 or above 32

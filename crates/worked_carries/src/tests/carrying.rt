@@ -1,6 +1,7 @@
 //! Windows of blocks through a code, over any links.
 ghost use Rattle.std.specs.Prelude.{◌≡◌, ◌<◌, ◌≤◌, ◌+◌, ◌*◌, ◌/◌, ◌^◌, [], IfSome, length, false, true};
-ghost use Rattle.generation_frame.specs.Blocks.{row_bytes};
+ghost use Rattle.coded_traffic.specs.Traffic.{room_for};
+ghost use Rattle.generation_frame.specs.Blocks.{most_blocks, row_bytes};
 ghost use Rattle.gf_tables.specs.Kind.{IsOfKind};
 ghost use Rattle.relay_runner.specs.Decoding.{HasDecoded};
 
@@ -78,8 +79,8 @@ fn sinks_have_all<F: Field>(
 
 /// How many blocks of a size these bytes are, where they are 1 to 4 whole ones.
 pub(super) fn blocks_in(bytes: &[u8], size: usize) -> Option<u32>
-    ensures some { IfSome result (λ count. 1 ≤ count) }
-    ensures few { IfSome result (λ count. count ≤ 4) }
+    ensures some_blocks { IfSome result (λ count. 1 ≤ count) }
+    ensures few_blocks { IfSome result (λ count. count ≤ most_blocks) }
     ensures count { IfSome result (λ count. count ≡ length bytes.now / size) }
     ensures whole { IfSome result (λ count. length bytes.now ≡ count * size) }
 {
@@ -102,14 +103,14 @@ fn carries_window<F: Field + Send + Sync, K: Links, G: Gate + Sync, R: Threads +
 ) -> bool
     requires works { runner.old.has_failed ≡ false }
     requires nothing_flies { K.flying links.old ≡ [] }
-    requires room { 32 * length runner.old.code.net.links ≤ K.room links.old }
+    requires room { room_for runner.old.code ≤ K.room links.old }
     requires sinks { sinks ≡ length runner.old.code.net.sinks }
     requires next { runner.old.next + 4 ≤ 2 ^ 32 }
     requires into { length into.old ≡ runner.old.code.rate * row_bytes }
     ensures code { runner.new.code ≡ runner.old.code }
     ensures works { result ≡ true → runner.new.has_failed ≡ false }
     ensures nothing_flies { result ≡ true → K.flying links.new ≡ [] }
-    ensures room { result ≡ true → 32 * length runner.old.code.net.links ≤ K.room links.new }
+    ensures room { result ≡ true → room_for runner.old.code ≤ K.room links.new }
     ensures next { runner.new.next ≤ runner.old.next + 4 }
     ensures into { length into.new ≡ length into.old }
 {
@@ -136,7 +137,7 @@ fn carries_windows<F: Field + Send + Sync, K: Links, G: Gate + Sync, R: Threads 
 ) -> bool
     requires works { runner.old.has_failed ≡ false }
     requires nothing_flies { K.flying links.old ≡ [] }
-    requires room { 32 * length runner.old.code.net.links ≤ K.room links.old }
+    requires room { room_for runner.old.code ≤ K.room links.old }
     requires sinks { sinks ≡ length runner.old.code.net.sinks }
     requires next { runner.old.next ≡ 0 }
     requires into { length into.old ≡ runner.old.code.rate * row_bytes }

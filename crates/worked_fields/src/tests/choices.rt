@@ -113,7 +113,7 @@ fn choose_counted<F: Field, L: Ledger>(
 ) -> (Result<Vec<F>, AllocError>, Steps<L>)
     requires none { steps ≡ 0 }
     requires nonzero { HasNonzeroAt F.zero matrix.now places.now }
-    requires few { length matrix.now.rows ≤ F.SIZE }
+    requires few_rows { length matrix.now.rows ≤ F.SIZE }
     ensures { result.1 ≤ choice_steps (length matrix.now.rows) matrix.now.columns }
 {
     let mut steps = steps;

@@ -48,8 +48,8 @@ fn shape_of(number: u32) -> Shape {
 }
 
 fn node_count(draws: &mut Draws, shape: Shape) -> u32
-    ensures some { 2 ≤ result }
-    ensures few { result ≤ 7 }
+    ensures some_nodes { 2 ≤ result }
+    ensures few_nodes { result ≤ 7 }
 {
     match shape {
         Shape::Layered => 7,
@@ -60,8 +60,8 @@ fn node_count(draws: &mut Draws, shape: Shape) -> u32
 
 // Two different nodes.
 fn two_nodes(draws: &mut Draws, nodes: u32) -> (u32, u32)
-    requires some { 2 ≤ nodes }
-    requires few { nodes ≤ 7 }
+    requires some_nodes { 2 ≤ nodes }
+    requires few_nodes { nodes ≤ 7 }
 {
     let tail = draws.below(nodes);
     let head = (tail + 1 + draws.below(nodes - 1)) % nodes;
@@ -70,8 +70,8 @@ fn two_nodes(draws: &mut Draws, nodes: u32) -> (u32, u32)
 
 // The ends of a link.
 fn ends_of(draws: &mut Draws, shape: Shape, nodes: u32) -> (u32, u32)
-    requires some { 2 ≤ nodes }
-    requires few { nodes ≤ 7 }
+    requires some_nodes { 2 ≤ nodes }
+    requires few_nodes { nodes ≤ 7 }
 {
     match shape {
         Shape::Layered => {
@@ -97,8 +97,8 @@ fn links(
     nodes: u32,
     count: u32,
 ) -> Result<Vec<(u32, u32)>, AllocError>
-    requires some { 2 ≤ nodes }
-    requires few { nodes ≤ 7 }
+    requires some_nodes { 2 ≤ nodes }
+    requires few_nodes { nodes ≤ 7 }
 {
     let mut links = Vec::new(alloc);
     for _ in 0..count {
@@ -115,7 +115,7 @@ fn some_of(
     end: u32,
     one_in: u32,
 ) -> Result<Vec<u32>, AllocError>
-    requires some { first < end }
+    requires order { first < end }
     requires one_in { 0 < one_in }
 {
     let mut drawn = Vec::new(alloc);

@@ -1,5 +1,6 @@
 //! A node and a sink, of which a call is made only where it may be: that is looked at when it is made.
 ghost use Rattle.std.specs.Prelude.{◌≡◌, ◌<◌, ◌≤◌, ◌+◌, ◌^◌, IfOk, true, length};
+ghost use Rattle.generation_frame.specs.Blocks.{most_blocks};
 ghost use Rattle.gf_tables.specs.Kind.{IsOfKind};
 ghost use Rattle.node_plans.specs.Plans.{plan_of};
 ghost use Rattle.relay_node.specs.Relay.{HasNothing};
@@ -54,8 +55,8 @@ impl<T: Drop> From<AllocFailed<T>> for Wrong {
 pub(super) struct Span {
     pub(super) first: u32,
     pub(super) count: u32,
-    ghost some: { 1 ≤ count },
-    ghost few: { count ≤ 4 },
+    ghost some_generations: { 1 ≤ count },
+    ghost few_generations: { count ≤ most_blocks },
     ghost last: { first + count ≤ 2 ^ 32 },
 }
 

@@ -19,4 +19,4 @@ returns-in-Some-2 c =
 
 pub returns : goal.returns
 returns c =
-    clear_all c.args.code.now c.args.batches c.args.made.items c.loop-first.yielded _ _ c.requires.some c.loop-first.invariant c.in-None.ensures.steps.0
+    clear_all c.args.code.now c.args.batches c.args.made.items c.loop-first.yielded _ _ c.requires.some_batches c.loop-first.invariant c.in-None.ensures.steps.0

@@ -14,4 +14,4 @@ loop-batch-preserved c =
 
 pub returns : goal.returns
 returns c =
-    all_joined c.args.net.now c.args.batches c.args.made.items c.loop-batch.yielded _ _ c.loop-batch.certs.items c.requires.some c.loop-batch.invariant c.in-None.ensures.steps.0
+    all_joined c.args.net.now c.args.batches c.args.made.items c.loop-batch.yielded _ _ c.loop-batch.certs.items c.requires.some_batches c.loop-batch.invariant c.in-None.ensures.steps.0

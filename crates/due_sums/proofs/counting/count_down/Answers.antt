@@ -25,7 +25,7 @@ loop-group-preserved c =
     counted_down c.args.base c.args.readers.now c.args.starts.now c.args.piece c.loop-group.group-index c.args.missing.now c.loop-group.missing c.args.due.now c.loop-group.due
     c.if-missing-number-eq0.due c.requires.piece c.loop-group-test.true
     (has_sums c.args.base c.args.readers.now c.args.starts.now c.args.piece c.loop-group.group-index c.args.missing.now c.loop-group.missing c.args.due.now c.loop-group.due
-    c.loop-group-test.true c.requires.enough c.loop-group.invariant c.loop-group.auto.missing c.requires.groups).some c.requires.enough c.loop-group.invariant
+    c.loop-group-test.true c.requires.enough c.loop-group.invariant c.loop-group.auto.missing c.requires.groups).some_sums c.requires.enough c.loop-group.invariant
     (elim c.if-missing-number-eq0.branch [
       | then-missing-number-eq0 w ↦ inl (w.if-missing-number-eq0.true, subst (λ set. GainsEighths _ _ c.loop-group.due set) (sym w.due-is) w.make_due.ensures)
       | else-missing-number-eq0 w ↦ inr (w.if-missing-number-eq0.false, w.due-is)

@@ -8,7 +8,7 @@ pub invariant_of-self : goal.invariant_of-self
 invariant_of-self c =
     let words = c.self.inside.words in
     let long_view = ap (λ (set : Members). length set.words) c.self.view_is in
-    let few = c.self.invariant.0.few in
+    let few = c.self.invariant.0.few_words in
     let over_words = c.self.inside.over_words in
     let added = c.add-self-inside.new in
     let bits = subst (λ ws. SetsBit c.args.number ws added.words) c.deref_mut.ensures.value c.add-self-inside.ensures.bits in

@@ -9,7 +9,7 @@ pub invariant_of-self : goal.invariant_of-self
 invariant_of-self c =
     let words = c.self.inside.words in
     let long_view = ap (λ (set : Members). length set.words) c.self.view_is in
-    let few = c.self.invariant.0.few in
+    let few = c.self.invariant.0.few_words in
     let over_words = c.self.inside.over_words in
     let added = c.add_eighths-self-inside.new in
     let ensures = c.add_eighths-self-inside.ensures in

@@ -7,7 +7,7 @@ use Rattle.least_set.proofs.levels.add_bits.Goals.{After-set_bits}
 
 -- the word has a bit then
 some : (c : After-set_bits) → slice_index_or c.set_bits.new.words c.args.word 0 ≢ 0
-some c none = some_set _ c.args.bits c.requires.some (sym c.set_bits.ensures.bits.here ∙ none)
+some c none = some_set _ c.args.bits c.requires.some_bits (sym c.set_bits.ensures.bits.here ∙ none)
 
 pub returns-then-set_bits-clause-over : goal.returns-then-set_bits-clause-over
 returns-then-set_bits-clause-over c =

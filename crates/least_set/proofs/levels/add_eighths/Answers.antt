@@ -2,8 +2,8 @@ use Rattle.std.proofs.Common.{◌∙◌, arith}
 use Rattle.least_set.proofs.MaskLaws.{added-all, added-more, some_eighths}
 use Rattle.least_set.proofs.levels.add_eighths.Goals as goal
 
-pub add_bits-over_all-requires-clause-some : goal.add_bits-over_all-requires-clause-some
-add_bits-over_all-requires-clause-some c =
+pub add_bits-over_all-requires-clause-some_bits : goal.add_bits-over_all-requires-clause-some_bits
+add_bits-over_all-requires-clause-some_bits c =
     some_eighths c.loop-word.word c.args.first c.args.last c.eighths_of.result (omega arith) (omega arith) c.requires.order c.requires.step c.eighths_of.ensures
 
 pub loop-word-preserved : goal.loop-word-preserved

@@ -9,7 +9,7 @@ use Rattle.least_set.proofs.words.leave_word.Goals as goal
 
 pub returns-then-clear_bit-clause-tells : goal.returns-then-clear_bit-clause-tells
 returns-then-clear_bit-clause-tells c =
-    let low : c.args.word / 64 < 64 = omega (arith, c.requires.within, c.requires.few) in
+    let low : c.args.word / 64 < 64 = omega (arith, c.requires.within, c.requires.few_words) in
     tells_none c.args.over_words.now c.clear_bit.new.words (bit_at c.args.over_all) _ (c.args.word / 64) c.requires.tells c.clear_bit.ensures.elsewhere
     (clear_other c.args.over_all (c.args.word / 64) c.ranges.over_all.fits low) (eqb-true _ 0 (sym c.if-clear_bit.ensures.value)) (bit_at_clear_same w64 c.args.over_all (c.args.word / 64) low)
 

@@ -56,7 +56,7 @@ returns-clause-compiled g c =
     let visitable = can_visit_all net new c.args.certs.now c.args.order.now c.args.rate (marked_kind g.F.Field.MARK) c.requires.order c.requires.acyclic c.requires.certified c.requires.least c.in_ok-net.ensures c.deref.result.now
     (ap length c.deref.ensures.value ∙ c.in_ok-hops.ensures.count) (subst (HaveHops routes) (sym c.deref.ensures.value) c.in_ok-hops.ensures.hops) in
     let made = c.of.ensures in
-    compiled net new c.args.certs.now c.args.order.now c.args.rate (marked_kind g.F.Field.MARK) c.requires.order c.requires.acyclic c.requires.certified c.requires.least c.in_ok-net.ensures g.F.Field.SIZE c.requires.field.size c.requires.few
+    compiled net new c.args.certs.now c.args.order.now c.args.rate (marked_kind g.F.Field.MARK) c.requires.order c.requires.acyclic c.requires.certified c.requires.least c.in_ok-net.ensures g.F.Field.SIZE c.requires.field.size c.requires.few_demands
     c.in_ok-operands.operands c.in_ok-operands.decoders (c.in_ok-operands.ensures.filled routes visitable) c.of.result made.net made.rate (made.field ∙ c.kind_of.ensures) made.operands made.decoders
 
 pub returns-in_err-operands-clause-ticks : goal.returns-in_err-operands-clause-ticks

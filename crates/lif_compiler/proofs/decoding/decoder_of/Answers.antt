@@ -17,13 +17,13 @@ entries_of-requires-clause-paths g c =
     All-same P c.deref-2.result.now sorted c.deref-2.ensures.value
     (subst (λ (n : ℕ). All (λ (one : PlacedLink). one.path < n) sorted) (sym basis.basis.inverses_high) (paths_below basis.frontier c.requires.reached sorted is))
 
-pub entries_of-requires-clause-few : goal.entries_of-requires-clause-few
-entries_of-requires-clause-few g c =
+pub entries_of-requires-clause-few_links : goal.entries_of-requires-clause-few_links
+entries_of-requires-clause-few_links g c =
     let basis = c.args.basis.now in
     let sorted = c.in_ok-sorted.sorted.items in
     let is : AreSorted basis.frontier sorted = subst (λ (frontier : List (Option ℕ)). AreSorted frontier sorted) c.as_slice.ensures c.in_ok-sorted.ensures in
     let count : length c.deref-2.result.now ≡ length basis.frontier = ap length c.deref-2.ensures.value ∙ sorted_count basis.frontier c.requires.reached sorted is in
-    omega (arith, count, basis.few)
+    omega (arith, count, basis.few_paths)
 
 pub returns : goal.returns
 returns g c =

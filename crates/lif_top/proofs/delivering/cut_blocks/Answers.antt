@@ -35,7 +35,7 @@ loop-place-preserved c =
     cut_there c.cut.new.block _ (piece_of bytes rate n) _ rate c.cut.ensures (mid_len (n * size) (n * size + size) blocks room ∙ long) piece in
     let start : 0 + n ≡ n = omega arith in
     put-block blocks c.cut.new.block _ (concat (blocks_from bytes rate 0 n)) n size (omega (arith, room))
-    (ap length is ∙ length-block rate (piece_of bytes rate n) c.requires.some (length-piece_of bytes rate n)) c.loop-place.invariant
+    (ap length is ∙ length-block rate (piece_of bytes rate n) c.requires.some_rate (length-piece_of bytes rate n)) c.loop-place.invariant
     ∙ ap (λ block. concat (blocks_from bytes rate 0 n) ++ block) (is ∙ sym (append-nil (block_of rate (piece_of bytes rate n))))
     ∙ sym (concat-append (blocks_from bytes rate 0 n) (block_of rate (piece_of bytes rate n) ∷ []))
     ∙ ap concat (sym (blocks_from-append bytes rate 0 n 1 ∙ ap (λ first. blocks_from bytes rate 0 n ++ blocks_from bytes rate first 1) start))

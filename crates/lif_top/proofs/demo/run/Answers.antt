@@ -2,6 +2,7 @@ use Rattle.std.proofs.Common.{◌≡◌, ◌≤◌, ◌*◌, [], ◌∷◌, ℕ,
 use Rattle.std.proofs.Math.Nat.{div-le_self, mul-le-mul}
 use Rattle.std.proofs.lemmas.List.{length-replicate}
 use Rattle.std.proofs.lemmas.List.FromFn.{length-map-range_with_len}
+use Rattle.coded_traffic.specs.Traffic.{room_for}
 use Rattle.generation_frame.specs.Blocks.{block_count, capacity}
 use Rattle.lif_outside.specs.Moves.{opened}
 use Rattle.net_maker.specs.Source.{source_byte}
@@ -15,7 +16,7 @@ use Rattle.lif_top.specs.Demo.Given.{blocks_in, demo_seed, source_of}
 use Rattle.lif_top.specs.Demo.Runs.{RunsDemo}
 use Rattle.lif_top.specs.Send.Delivering.{DeliversSome, Interrupts}
 use Rattle.lif_top.specs.Send.Ready.{paths_of}
-use Rattle.lif_top.specs.Send.Runs.{link_calls, room_for}
+use Rattle.lif_top.specs.Send.Runs.{link_calls}
 use Rattle.lif_top.specs.declared.delivery.DeliveryFault.TheVariants as fault
 use Rattle.lif_top.proofs.demo.run.Goals as goal
 

@@ -1,11 +1,12 @@
 use Rattle.std.proofs.Common.{◌∷◌, [], refl, subst, inl, inr, ⊎_elim}
+use Rattle.coded_traffic.specs.Traffic.{room_for}
 use Rattle.lif_outside.specs.LinksAccounts.{holding}
 use Rattle.lif_outside.specs.Moves.{open_refused, opened}
 use Rattle.top_base.specs.Given.{demo_given_in}
 use Rattle.lif_top.proofs.DemoRuns.{can-carry, not-begun}
 use Rattle.lif_top.specs.Demo.Given.{demo_seed}
 use Rattle.lif_top.specs.Demo.Runs.{RunsDemo}
-use Rattle.lif_top.specs.Send.Runs.{link_calls, room_for}
+use Rattle.lif_top.specs.Send.Runs.{link_calls}
 use Rattle.lif_top.proofs.demo.show.Goals as goal
 
 pub run-requires-clause-can : goal.run-requires-clause-can

@@ -1,6 +1,7 @@
 use Rattle.std.specs.Prelude.{List, IsNone, IsSome}
 use Rattle.std.proofs.Common.{◌≡◌, ◌∷◌, [], None, Some, inl, inr, map, string_bytes, refl, sym, subst, ap, ◌∙◌, ⊎_elim}
 use Rattle.std.specs.Option.{option_map}
+use Rattle.coded_traffic.specs.Traffic.{room_for}
 use Rattle.lif_outside.proofs.CallLaws.{calls_of}
 use Rattle.lif_outside.specs.Files.{AreDistinct}
 use Rattle.lif_outside.specs.Moves.{Move, open_refused}
@@ -11,7 +12,7 @@ use Rattle.top_base.specs.Given.{given_in}
 use Rattle.top_base.specs.Paths.{shared_path}
 use Rattle.top_base.specs.declared.reading.FileRefusal.TheVariants as refused
 use Rattle.lif_top.specs.Send.Given.{shared_of}
-use Rattle.lif_top.specs.Send.Runs.{RunsCode, link_calls, room_for}
+use Rattle.lif_top.specs.Send.Runs.{RunsCode, link_calls}
 use Rattle.lif_top.proofs.preparing.prepare.Goals as goal
 
 -- where no call was made

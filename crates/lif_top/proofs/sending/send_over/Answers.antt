@@ -1,5 +1,6 @@
 use Rattle.std.specs.Prelude.{◌∷◌, [], Bool}
 use Rattle.std.proofs.Common.{subst}
+use Rattle.coded_traffic.specs.Traffic.{room_for}
 use Rattle.lif_outside.proofs.CallLaws.{both_behind_move, both_on_links}
 use Rattle.lif_outside.specs.Calls.{Calls}
 use Rattle.lif_outside.specs.LinksAccounts.{holding}
@@ -7,7 +8,7 @@ use Rattle.lif_outside.specs.Moves.{opened}
 use Rattle.top_base.specs.Given.{given_in}
 use Rattle.lif_top.proofs.DeliveryLaws.{opened-can}
 use Rattle.lif_top.proofs.GivenLaws.{pattern-within}
-use Rattle.lif_top.specs.Send.Runs.{RunsCode, Sends, behind_open, link_calls, room_for}
+use Rattle.lif_top.specs.Send.Runs.{RunsCode, Sends, behind_open, link_calls}
 use Rattle.lif_top.proofs.sending.send_over.Goals as goal
 
 pub deliver-requires-clause-can : goal.deliver-requires-clause-can

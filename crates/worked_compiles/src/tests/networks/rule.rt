@@ -56,7 +56,7 @@ fn write_links(
     nodes: u32,
     least: u32,
 ) -> Result<u32, AllocError>
-    requires some { 0 < nodes }
+    requires some_nodes { 0 < nodes }
 {
     let mut links = 0u32;
     for turn in 0..nodes {
@@ -135,7 +135,7 @@ fn write_network(
     nodes: u32,
     sinks: &[&str],
 ) -> Result<&'static [&'static str], AllocError>
-    requires some { 0 < nodes }
+    requires some_nodes { 0 < nodes }
 {
     write_sinks(text, sinks)?;
     let least = 1 + draws.below(4);

@@ -24,7 +24,7 @@ base c = c.args.generation * 2 ^ c.self.inside.shift
 
 -- and the shift that gives it loses nothing
 base_is : (c : After-deref-2) → (c.args.generation * 2 ^ c.self.inside.shift) % 2 ^ 64 ≡ base c
-base_is c = shifted c.args.generation c.self.inside.shift 64 (omega (arith, within c, c.self.invariant.generations)) (low_shift c.self.inside.shift c.self.invariant.low) (omega arith)
+base_is c = shifted c.args.generation c.self.inside.shift 64 (omega (arith, within c, c.self.invariant.few_generations)) (low_shift c.self.inside.shift c.self.invariant.low_room) (omega arith)
 
 -- there is room for its sums
 room : (c : After-deref-2) → base c + 2 ^ c.self.inside.shift ≤ length c.self.inside.tables.items * 2 ^ c.self.inside.shift
@@ -67,7 +67,7 @@ count_down-requires-clause-enough c =
     c.self.invariant.grouped c.self.invariant.read (counted c) (within_inputs c) c.requires.piece (none c)))
 
 pub overflow_shl-generation : goal.overflow_shl-generation
-overflow_shl-generation c = omega (arith, low_shift c.self.inside.shift c.self.invariant.low)
+overflow_shl-generation c = omega (arith, low_shift c.self.inside.shift c.self.invariant.low_room)
 
 -- there is room for the sums of each group
 pub count_down-requires-clause-groups : goal.count_down-requires-clause-groups
@@ -75,7 +75,7 @@ count_down-requires-clause-groups c = λ group below.
     let inside = c.self.inside in
     let table = c.index_mut-table.result.now in
     let waiting = c.self.invariant in
-    let fits = rooms (length inside.tables.items) (2 ^ inside.shift) waiting.generations waiting.low in
+    let fits = rooms (length inside.tables.items) (2 ^ inside.shift) waiting.few_generations waiting.low_room in
     subst (λ (first : ℕ). HasSums first c.deref.result.now group inside.due) (sym (base_is c))
     (subst (λ (starts : List ℕ). HasSums (base c) starts group inside.due) (sym c.deref.ensures.value)
     (groups_fit inside.sums inside.groups.inputs inside.groups.starts.items waiting.grouped table.missing.items (base c) inside.due c.args.piece (counted c).whole

@@ -38,7 +38,7 @@ invariant_of-self c =
     let room = 2 ^ inside.shift in
     let bounded : length inside.tables.items * room * pieces ≤ bound c.clear.new.self = omega (arith, waiting.bounded, c.clear.ensures.room) in
     IsWaiting-fresh inside.inputs inside.sums inside.groups.inputs inside.groups.starts.items (lists_of inside.readers.items) (with_items inside.tables c.clear_tables.new.tables).items room
-    c.clear.new.self waiting.work waiting.few waiting.grouped waiting.read waiting.enough waiting.low (omega (arith, waiting.generations, as_many c))
+    c.clear.new.self waiting.work waiting.few_inputs waiting.grouped waiting.read waiting.enough waiting.low_room (omega (arith, waiting.few_generations, as_many c))
     (subst (λ n. n * room * pieces ≤ bound c.clear.new.self) (sym (as_many c)) bounded) (fresh c) c.clear.ensures.none
 
 pub returns-clause-nothing : goal.returns-clause-nothing

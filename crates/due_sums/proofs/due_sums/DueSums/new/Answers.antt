@@ -17,8 +17,8 @@ fresh_tables-requires c = groups_sum c.args.sums c.in_ok-groups.groups.inputs c.
 pub new-requires : goal.new-requires
 new-requires c =
     let shift = c.shift_for-shift.result in
-    let low = c.shift_for-shift.ensures.low in
-    omega (arith, shifted c.args.generations shift 64 c.requires.few low (omega arith), rooms c.args.generations (2 ^ shift) c.requires.few (pow_mono low))
+    let low = c.shift_for-shift.ensures.low_shift in
+    omega (arith, shifted c.args.generations shift 64 c.requires.few_generations low (omega arith), rooms c.args.generations (2 ^ shift) c.requires.few_generations (pow_mono low))
 
 pub invariant_of-result : goal.invariant_of-result
 invariant_of-result c =
@@ -27,14 +27,14 @@ invariant_of-result c =
     let tables = c.in_ok-tables.tables.items in
     let shift = c.shift_for-shift.result in
     let due = c.in_ok-new.field-0 in
-    let low = c.shift_for-shift.ensures.low in
+    let low = c.shift_for-shift.ensures.low_shift in
     let count = c.in_ok-tables.ensures.count in
     let Waits : List (List ℕ) → Type 0 = λ sums. IsWaiting c.args.inputs sums groups.inputs groups.starts.items readers tables (2 ^ shift) due in
     let bounded : c.args.generations * 2 ^ shift * pieces ≤ bound due =
-    omega (arith, c.in_ok-new.ensures.room, shifted c.args.generations shift 64 c.requires.few low (omega arith)) in
+    omega (arith, c.in_ok-new.ensures.room, shifted c.args.generations shift 64 c.requires.few_generations low (omega arith)) in
     subst Waits (sym c.sums.view_is)
     (IsWaiting-fresh c.args.inputs c.args.sums groups.inputs groups.starts.items readers tables (2 ^ shift) due c.requires.sums c.ranges.inputs.fits c.in_ok-groups.ensures c.in_ok-readers.ensures
-    (omega (arith, c.shift_for-shift.ensures.room, c.len.ensures)) (pow_mono low) (omega (arith, count, c.requires.few))
+    (omega (arith, c.shift_for-shift.ensures.room, c.len.ensures)) (pow_mono low) (omega (arith, count, c.requires.few_generations))
     (subst (λ n. n * 2 ^ shift * pieces ≤ bound due) (sym count) bounded) c.in_ok-tables.ensures.fresh c.in_ok-new.ensures.none)
 
 pub returns-clause-nothing : goal.returns-clause-nothing

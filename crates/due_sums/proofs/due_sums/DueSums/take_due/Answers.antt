@@ -14,21 +14,21 @@ within c =
 
 -- their rooms begin below the limit
 limit : (c : After-self) → (c.args.generations * 2 ^ c.self.inside.shift) % 2 ^ 32 ≡ c.args.generations * 2 ^ c.self.inside.shift
-limit c = shifted c.args.generations c.self.inside.shift 32 (omega (arith, within c, c.self.invariant.generations)) (low_shift c.self.inside.shift c.self.invariant.low) (omega arith)
+limit c = shifted c.args.generations c.self.inside.shift 32 (omega (arith, within c, c.self.invariant.few_generations)) (low_shift c.self.inside.shift c.self.invariant.low_room) (omega arith)
 
 pub overflow_shl-limit : goal.overflow_shl-limit
-overflow_shl-limit c = omega (arith, low_shift c.self.inside.shift c.self.invariant.low)
+overflow_shl-limit c = omega (arith, low_shift c.self.inside.shift c.self.invariant.low_room)
 
 pub overflow_shr-generation : goal.overflow_shr-generation
-overflow_shr-generation c = omega (arith, low_shift c.self.inside.shift c.self.invariant.low)
+overflow_shr-generation c = omega (arith, low_shift c.self.inside.shift c.self.invariant.low_room)
 
 pub overflow_shl-result : goal.overflow_shl-result
-overflow_shl-result c = omega (arith, low_shift c.self.inside.shift c.self.invariant.low)
+overflow_shl-result c = omega (arith, low_shift c.self.inside.shift c.self.invariant.low_room)
 
 pub take_below-requires : goal.take_below-requires
 take_below-requires c =
     let here = (goal.at.take_below-requires c).After-self in
-    omega (arith, limit here, rooms c.args.generations (2 ^ c.self.inside.shift) (omega (arith, within here, c.self.invariant.generations)) c.self.invariant.low)
+    omega (arith, limit here, rooms c.args.generations (2 ^ c.self.inside.shift) (omega (arith, within here, c.self.invariant.few_generations)) c.self.invariant.low_room)
 
 pub invariant_of-self-2 : goal.invariant_of-self-2
 invariant_of-self-2 c =
@@ -49,9 +49,9 @@ returns-clause-least c =
     let inside = c.self.inside in
     let room = 2 ^ inside.shift in
     let number = c.in_ok-number.number in
-    let low = low_shift inside.shift c.self.invariant.low in
+    let low = low_shift inside.shift c.self.invariant.low_room in
     let least = c.in_ok-number.ensures.least in
-    let at = number_place c.args.generations inside.shift number (omega (arith, within here, c.self.invariant.generations)) low (omega (arith, least.0, limit here)) in
+    let at = number_place c.args.generations inside.shift number (omega (arith, within here, c.self.invariant.few_generations)) low (omega (arith, least.0, limit here)) in
     let place = number / pieces in
     let generation = place / room in
     let sum = place - generation * room % 2 ^ 32 in

@@ -2,8 +2,8 @@ use Rattle.std.proofs.Common.{◌∙◌, arith}
 use Rattle.due_sums.proofs.TableLaws.{IsFresh-counted, few_inputs}
 use Rattle.due_sums.proofs.due_sums.Table.new.Goals as goal
 
-pub count_all-requires-clause-few : goal.count_all-requires-clause-few
-count_all-requires-clause-few c = few_inputs c.args.inputs c.args.groups.now c.requires c.ranges.inputs.fits
+pub count_all-requires-clause-few_inputs : goal.count_all-requires-clause-few_inputs
+count_all-requires-clause-few_inputs c = few_inputs c.args.inputs c.args.groups.now c.requires c.ranges.inputs.fits
 
 pub returns : goal.returns
 returns c =

@@ -31,11 +31,11 @@ choose_operands-requires-clause-hops g c =
     let can = c.requires.ready.1 in
     among laws can
 
-pub choose_operands-requires-clause-few : goal.choose_operands-requires-clause-few
-choose_operands-requires-clause-few g c =
+pub choose_operands-requires-clause-few_hops : goal.choose_operands-requires-clause-few_hops
+choose_operands-requires-clause-few_hops g c =
     let laws : LawsOf g.F.Field = record { field = g.met.F.Field.field; numbering = g.met.F.Field.numbering; of_kind = c.requires.field } in
     let can = c.requires.ready.1 in
-    omega (arith, few_hops laws can, c.requires.few)
+    omega (arith, few_hops laws can, c.requires.few_demands)
 
 pub choose_operands-requires-clause-named : goal.choose_operands-requires-clause-named
 choose_operands-requires-clause-named g c =

@@ -32,8 +32,8 @@ append_decoded-requires-clause-decoded g c = subst HasDecoded (sym c.loop-sink.i
 pub append_decoded-requires-clause-place : goal.append_decoded-requires-clause-place
 append_decoded-requires-clause-place g c = omega (arith, c.requires.place, ap (λ (runner : Running). runner.count) c.loop-sink.invariant.still.runner)
 
-pub append_decoded-requires-clause-few : goal.append_decoded-requires-clause-few
-append_decoded-requires-clause-few g c = omega (arith, c.requires.few, ap (λ (runner : Running). runner.count) c.loop-sink.invariant.still.runner)
+pub append_decoded-requires-clause-few_blocks : goal.append_decoded-requires-clause-few_blocks
+append_decoded-requires-clause-few_blocks g c = omega (arith, c.requires.few_blocks, ap (λ (runner : Running). runner.count) c.loop-sink.invariant.still.runner)
 
 pub append_decoded-requires-clause-made : goal.append_decoded-requires-clause-made
 append_decoded-requires-clause-made g c = λ path there.

@@ -31,8 +31,8 @@ loop-place-init g c = record {
 pub append_block-requires-clause-place : goal.append_block-requires-clause-place
 append_block-requires-clause-place g c = omega (arith, c.requires.all, ap (λ (runner : Running). runner.count) c.loop-place.invariant.still.runner)
 
-pub append_block-requires-clause-few : goal.append_block-requires-clause-few
-append_block-requires-clause-few g c = omega (arith, c.requires.all, c.requires.few, ap (λ (runner : Running). runner.count) c.loop-place.invariant.still.runner)
+pub append_block-requires-clause-few_blocks : goal.append_block-requires-clause-few_blocks
+append_block-requires-clause-few_blocks g c = omega (arith, c.requires.all, c.requires.few_blocks, ap (λ (runner : Running). runner.count) c.loop-place.invariant.still.runner)
 
 pub append_block-requires-clause-decoded : goal.append_block-requires-clause-decoded
 append_block-requires-clause-decoded g c = subst HasDecoded (sym c.loop-place.invariant.still.runner) c.requires.decoded

@@ -25,7 +25,7 @@ pub returns-clause-gathered : goal.returns-clause-gathered
 returns-clause-gathered g c =
     let self = c.args.self.now in
     let rate = self.runner.code.rate in
-    let all : length self.gathered.items ≡ self.window * capacity rate = omega (arith, self.few, c.if-len-window_bytes.false, c.len.ensures, c.window_bytes.ensures) in
+    let all : length self.gathered.items ≡ self.window * capacity rate = omega (arith, self.few_bytes, c.if-len-window_bytes.false, c.len.ensures, c.window_bytes.ensures) in
     on_ok_both c.carry_gathered.result
     (λ nothing moved.
     let count : self.window ≡ c.carry_gathered.new.self.runner.next - self.runner.next = omega (arith, moved.next) in

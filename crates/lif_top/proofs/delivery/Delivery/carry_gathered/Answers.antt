@@ -50,7 +50,7 @@ pub carry-requires-clause-blocks : goal.carry-requires-clause-blocks
 carry-requires-clause-blocks g c =
     let self = c.args.self.now in
     are-blocks self.runner.code self.gathered.items c.args.count (bytes_of c.args.count c.args.self.now.rate c.deref-2.result.now) (hand g (goal.at.carry-requires-clause-blocks g c).After-deref-2) self.runner.next
-    c.requires.some (omega (arith, c.requires.few, self.most)) c.requires.numbered
+    c.requires.some_blocks (omega (arith, c.requires.few_blocks, self.few_blocks)) c.requires.numbered
 
 pub invariant_of-self : goal.invariant_of-self
 invariant_of-self g c =
@@ -62,9 +62,9 @@ invariant_of-self g c =
     record {
       rate_of = self.rate_of ∙ sym rate;
       sinks = self.sinks ∙ ap (λ (code : Code). length code.net.sinks) (sym code);
-      some = self.some;
-      most = self.most;
-      few = omega (arith, c.clear.ensures.len);
+      some_blocks = self.some_blocks;
+      few_blocks = self.few_blocks;
+      few_bytes = omega (arith, c.clear.ensures.len);
       room = omega (arith, self.room, c.clear.ensures.capacity, room);
       blocks_length = omega (arith, self.blocks_length, size);
       decoded_length = omega (arith, self.decoded_length, rate);
@@ -128,7 +128,7 @@ returns-in-Ok-append_window-clause-delivered g c =
     let after = c.in-Ok.ensures in
     delivers g.S.Store g.K.Links runner c.carry.new.self c.decode_all.new.self (paths_of self) blocks (window_from runner.code runner.next (bytes_of c.args.count c.args.self.now.rate c.deref-2.result.now)) c.args.count Are c.args.store.now c.append_window.new.store
     c.args.links.now c.carry.new.links after.sent after.code after.pattern after.first (window g (goal.at.returns-in-Ok-append_window-clause-delivered g c).After-deref-2)
-    (omega (arith, long, c.requires.some)) (sym long) c.decode_all.ensures.rest c.in-Ok-append_window.ensures.appended
+    (omega (arith, long, c.requires.some_blocks)) (sym long) c.decode_all.ensures.rest c.in-Ok-append_window.ensures.appended
 
 pub returns-in-Err-clause-interrupted : goal.returns-in-Err-clause-interrupted
 returns-in-Err-clause-interrupted g c =
@@ -139,4 +139,4 @@ returns-in-Err-clause-interrupted g c =
     let after = c.in-Ok.ensures in
     delivers g.S.Store g.K.Links runner c.carry.new.self c.decode_all.new.self (paths_of self) blocks (window_from runner.code runner.next (bytes_of c.args.count c.args.self.now.rate c.deref-2.result.now)) c.args.count StopsWithin c.args.store.now c.append_window.new.store
     c.args.links.now c.carry.new.links after.sent after.code after.pattern after.first (window g (goal.at.returns-in-Err-clause-interrupted g c).After-deref-2)
-    (omega (arith, long, c.requires.some)) (sym long) c.decode_all.ensures.rest c.in-Err.ensures.failed
+    (omega (arith, long, c.requires.some_blocks)) (sym long) c.decode_all.ensures.rest c.in-Err.ensures.failed

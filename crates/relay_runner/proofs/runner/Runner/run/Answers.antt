@@ -1,6 +1,6 @@
 -- The source's packets are put, and then turn follows turn.
 use Rattle.std.proofs.Common.{Ok, refl, ◌≡◌, ◌≤◌, ◌*◌, length, subst, sym, ap}
-use Rattle.coded_traffic.specs.Traffic.{Window}
+use Rattle.coded_traffic.specs.Traffic.{Window, room_for}
 use Rattle.lif_outside.specs.Calls.{MakesMoves}
 use Rattle.node_program.specs.declared.code.Code.{Code}
 use Rattle.node_stations.proofs.PuttingLaws.{on_err}
@@ -15,7 +15,7 @@ pub put_due-requires : goal.put_due-requires
 put_due-requires g c =
     let can = subst CanStart (sym c.self.view_is) c.requires.start in
     let place = ap (λ (code : Code). code.net.source) c.code.ensures.value in
-    let room = subst (λ (runner : Running). 32 * length runner.code.net.links ≤ g.K.Links.room c.args.links.now) (sym c.self.view_is) c.requires.room in
+    let room = subst (λ (runner : Running). room_for runner.code ≤ g.K.Links.room c.args.links.now) (sym c.self.view_is) c.requires.room in
     first-room g.K.Links c.self.inside.code.now c.self.inside.pattern c.self.inside.stations.items c.code.result.now.net.source c.index_mut.result.now
     place c.index_mut.ensures.value c.args.links.now c.requires.nothing_flies can.window can.starts room
 

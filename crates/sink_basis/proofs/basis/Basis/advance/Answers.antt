@@ -31,12 +31,12 @@ invariant_of-self g c =
           record {
             basis = rw (vectors, inverses, put, size) made;
             matrices = rw (vectors, inverses) (AreMatrices-numbered N _ _ (w.put_row.ensures.kept.1, w.renew_inverses.ensures.renewed.kept));
-            few = rw size old.few;
+            few_paths = rw size old.few_paths;
           })
       | else-ne w ↦
           (let vectors = ap (λ it. it.1.1.0) w.self-is in
           let inverses = ap (λ it. it.1.1.1.0) w.self-is in
-          record { basis = rw (vectors, inverses, size) old.basis; matrices = rw (vectors, inverses) old.matrices; few = rw size old.few })
+          record { basis = rw (vectors, inverses, size) old.basis; matrices = rw (vectors, inverses) old.matrices; few_paths = rw size old.few_paths })
     ]
 
 pub returns-clause-vectors : goal.returns-clause-vectors

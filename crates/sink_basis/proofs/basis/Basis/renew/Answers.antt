@@ -33,5 +33,5 @@ invariant_of-self g c =
     record {
       basis = subst (λ n. IsBasis F.zero F.one F.add F.mul n vectors inverses) (high ∙ sym size) c.in_ok-inverses.ensures.basis;
       matrices = AreMatrices-numbered N vectors inverses (c.in_ok-vectors.ensures.kept, c.in_ok-inverses.ensures.kept);
-      few = rw size old.few;
+      few_paths = rw size old.few_paths;
     }

@@ -14,5 +14,5 @@ invariant_of-result g c =
       basis = subst (λ n. IsBasis F.zero F.one F.add F.mul n vectors inverses) (sym size)
           (identity-IsBasis g.met.F.Field.field vectors inverses c.args.h c.in_ok-vectors.ensures.columns c.in_ok-inverses.ensures.columns c.in_ok-vectors.ensures.rows c.in_ok-inverses.ensures.rows);
       matrices = AreMatrices-numbered g.met.F.Field.numbering vectors inverses (c.in_ok-vectors.ensures.kept, c.in_ok-inverses.ensures.kept);
-      few = rw size c.requires.few;
+      few_paths = rw size c.requires.low_rate;
     }

@@ -13,4 +13,4 @@ invariant_of-self g c =
     let long : length now ≡ inside.came.len = c.forget_all.auto.came ∙ ap (length {A = Held}) c.deref_mut.ensures.value ∙ sym inside.came.ok.0 in
     let left : take inside.came.len (now ++ drop (length now) inside.came.items) ≡ now = take_at now (drop (length now) inside.came.items) inside.came.len long in
     subst (λ (came : List Held). IsReceiver (record receiver { first = c.args.first; count = c.args.count; came = came })) (sym left)
-    (IsReceiver-begun receiver c.args.first c.args.count now c.self.invariant c.requires.few (c.forget_all.ensures.rows ∙ ap (map row_count) c.deref_mut.ensures.value))
+    (IsReceiver-begun receiver c.args.first c.args.count now c.self.invariant c.requires.few_generations (c.forget_all.ensures.rows ∙ ap (map row_count) c.deref_mut.ensures.value))

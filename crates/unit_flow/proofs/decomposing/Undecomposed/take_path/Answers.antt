@@ -16,8 +16,8 @@ loop-node-init c =
       inside = net.network.source_node;
     }
 
-pub next_used-link-requires-clause-some : goal.next_used-link-requires-clause-some
-next_used-link-requires-clause-some c =
+pub next_used-link-requires-clause-used_link : goal.next_used-link-requires-clause-used_link
+next_used-link-requires-clause-used_link c =
     taking_some c.args.net.now c.args.self.now c.loop-node.self c.loop-node.path.items c.loop-node.node c.loop-node.invariant (λ same. c.loop-node-test.true (same ∙ sym c.sink-sink.ensures))
 
 pub set_state-requires : goal.set_state-requires

@@ -17,7 +17,7 @@ use Rattle.unit_flow.proofs.search.Search.next_entry.Goals.{After-pass_chain-pas
 module _ (g : _) (c : After-pass_chain-passed g) where
   -- the node that is looked at is one, and has cursors
   below : c.index-node.result.now < length c.args.net.now.nodes
-  below = last_below (flow_network c.args.net.now c.args.residual.now.demand) c.args.residual.now.states c.args.self.now c.index-node.result.now c.requires.searching c.requires.some c.index-node.ensures
+  below = last_below (flow_network c.args.net.now c.args.residual.now.demand) c.args.residual.now.states c.args.self.now c.index-node.result.now c.requires.searching c.requires.on_way c.index-node.ensures
 
   inside : c.index-node.result.now < length c.args.self.now.from.items
   inside = omega (arith, below, c.requires.searching.way.places.from)

@@ -1,4 +1,5 @@
 use Rattle.std.specs.Prelude.{◌≡◌, ◌≤◌, ◌*◌, ℕ, [], false, length}
+use Rattle.coded_traffic.specs.Traffic.{room_for}
 use Rattle.lif_outside.specs.declared.links.Links.{Ghosts as LinksGhosts}
 use Rattle.node_program.specs.declared.code.Code.{Code}
 use Rattle.relay_runner.specs.Running.{Running}
@@ -9,7 +10,7 @@ pub record IsReady {L : Type 0} (g : LinksGhosts L) (code : Code) (windows : ℕ
   pub same_code : runner.code ≡ code
   pub works : runner.has_failed ≡ false
   pub nothing_flies : g.flying links ≡ []
-  pub room : 32 * length code.net.links ≤ g.room links
+  pub room : room_for code ≤ g.room links
   pub next : runner.next ≤ 4 * windows
 
 -- the windows so far have come to the sinks
