@@ -67,6 +67,44 @@ fn failing_puts(alloc: Global, nth: u64) -> Result<Vec<u64>, AllocError> {
     Ok(fails)
 }
 
+// A store with the text of a run, of which a read may fail.
+fn store_of(alloc: Global, run: &Run<'_>) -> Result<MemStore, AllocError> {
+    let fails = failing_reads(alloc, run.failing_read)?;
+    let mut store = MemStore::new(alloc, run.most.max(1), fails);
+    if let Some(text) = run.text {
+        store.put_file(alloc, "net", text)?;
+    }
+    Ok(store)
+}
+
+// Whether a run ends with a status and says its line, and its text stands as before.
+fn ends_with<R: Threads + Sync>(
+    rt: &R,
+    alloc: Global,
+    run: &Run<'_>,
+    status: &Status,
+    words: &[String],
+    store: &mut MemStore,
+    say: &mut MemSink,
+) -> bool {
+    call(rt, alloc, words, store, say) == *status
+        && say.bytes() == run.line
+        && store.file("net") == run.text
+}
+
+// The same, of a run that is made.
+fn ends<R: Threads + Sync>(
+    rt: &R,
+    alloc: Global,
+    run: &Run<'_>,
+    status: &Status,
+) -> Result<bool, AllocError> {
+    let words = words_of(alloc, &[run.command, "net"])?;
+    let mut store = store_of(alloc, run)?;
+    let mut say = MemSink::new(alloc, failing_puts(alloc, run.failing_put)?);
+    Ok(ends_with(rt, alloc, run, status, &words, &mut store, &mut say))
+}
+
 // Does a run, and looks at its status, at what is said, and at the text, which stands as before.
 fn check<R: Abort + Threads + Sync>(
     rt: &R,
@@ -74,20 +112,7 @@ fn check<R: Abort + Threads + Sync>(
     run: &Run<'_>,
     status: &Status,
 ) -> Result<(), test::Fail> {
-    let mut store = MemStore::new(
-        alloc,
-        run.most.max(1),
-        failing_reads(alloc, run.failing_read)?,
-    );
-    let mut say = MemSink::new(alloc, failing_puts(alloc, run.failing_put)?);
-    if let Some(text) = run.text {
-        store.put_file(alloc, "net", text)?;
-    }
-    let words = words_of(alloc, &[run.command, "net"])?;
-    let ended = call(rt, alloc, words.as_slice(), &mut store, &mut say);
-    assert!(rt; ended == *status);
-    assert_eq!(rt; say.bytes(), run.line);
-    assert!(rt; store.file("net") == run.text);
+    assert!(rt; ends(rt, alloc, run, status)?);
     Ok(())
 }
 

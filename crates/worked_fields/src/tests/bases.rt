@@ -1,4 +1,6 @@
 //! Bases on a frontier: the vectors and inverses after vectors were replaced, by both ways.
+ghost use Rattle.std.specs.Prelude.{◌<◌};
+
 use super::counting::{Counted, run_over};
 use super::numbered::{element, row, two_by_two};
 use counted_steps::Steps;
@@ -98,17 +100,27 @@ fn two_paths<F: Field>(basis: &Basis<F>) -> Option<TwoPaths> {
     Some((links, vectors, inverses))
 }
 
+// Two paths of a basis, after the vector of one was replaced, where that could be. The link is 7.
+fn paths_after<F: Field, L: Ledger>(
+    alloc: Global,
+    way: Way,
+    basis: &mut Basis<F>,
+    path: u32,
+    vector: &[F],
+    steps: &mut Steps<L>,
+) -> Option<TwoPaths> {
+    replace(alloc, way, basis, path, 7, vector, steps).ok()?;
+    two_paths(basis)
+}
+
 impl Counted for FirstReplaced {
     type Found = Option<TwoPaths>;
 
-    // The link is 7.
     fn run<F: Field, L: Ledger>(self, alloc: Global, mut steps: Steps<L>) -> Option<TwoPaths> {
         let FirstReplaced { way, path, vector } = self;
         let vector = row::<F>(alloc, &vector).ok()?;
         let mut basis = Basis::<F>::start(alloc, 2).ok()?;
-        let vector = vector.as_slice();
-        replace(alloc, way, &mut basis, path, 7, vector, &mut steps).ok()?;
-        two_paths(&basis)
+        paths_after(alloc, way, &mut basis, path, vector.as_slice(), &mut steps)
     }
 }
 
@@ -203,6 +215,27 @@ impl<F: Field> Twins<F> {
         )?;
         Ok(advanced && renewed)
     }
+
+    // In how many of so many rounds a vector was replaced, and whether both were right after each.
+    fn go_round<L: Ledger>(
+        &mut self,
+        alloc: Global,
+        h: u32,
+        rounds: u32,
+        steps: &mut Steps<L>,
+    ) -> Option<(u32, bool)>
+        requires some_paths { 0 < h }
+    {
+        let mut right = self.are_right();
+        let mut made = 0u32;
+        for round in 0..rounds {
+            if self.go_on(alloc, round, round % h, steps).ok()? {
+                made = made.wrapping_add(1);
+            }
+            right = right && self.are_right();
+        }
+        Some((made, right))
+    }
 }
 
 // So many rounds from the unit vectors of a length.
@@ -214,7 +247,6 @@ struct Rounds {
 impl Counted for Rounds {
     type Found = Option<(u32, bool)>;
 
-    // In how many a vector was replaced, and whether both bases were right after each.
     fn run<F: Field, L: Ledger>(self, alloc: Global, mut steps: Steps<L>) -> Option<(u32, bool)> {
         let Rounds { h, rounds } = self;
         if h < 1 || h > HIGHEST_RATE {
@@ -224,15 +256,7 @@ impl Counted for Rounds {
             advanced: Basis::<F>::start(alloc, h).ok()?,
             renewed: Basis::<F>::start(alloc, h).ok()?,
         };
-        let mut right = twins.are_right();
-        let mut made = 0u32;
-        for round in 0..rounds {
-            if twins.go_on(alloc, round, round % h, &mut steps).ok()? {
-                made = made.wrapping_add(1);
-            }
-            right = right && twins.are_right();
-        }
-        Some((made, right))
+        twins.go_round(alloc, h, rounds, &mut steps)
     }
 }
 

@@ -186,24 +186,37 @@ enum Outcome {
     OutOfMemory,
 }
 
+// Whether two matrices are inverse to each other.
+fn are_inverse<F: Field, L: Ledger>(a: &Matrix<F>, b: &Matrix<F>, steps: &mut Steps<L>) -> bool {
+    difference(a, b, steps).is_none() && difference(b, a, steps).is_none()
+}
+
+// What comes of a matrix that is inverted.
+fn outcome_of<F: Field, L: Ledger>(alloc: Global, a: &Matrix<F>, steps: &mut Steps<L>) -> Outcome {
+    if a.rows() != a.columns() {
+        return Outcome::Wrong;
+    }
+    match invert(alloc, a) {
+        Ok(b) => right_or_wrong(are_inverse(a, &b, steps), Outcome::Inverse),
+        Err(InvertRefusal::Singular { block }) => {
+            right_or_wrong(is_sent_to_zero(a, block.as_slice(), steps), Outcome::Block)
+        }
+        Err(InvertRefusal::OutOfMemory) => Outcome::OutOfMemory,
+    }
+}
+
+// An outcome that is as it should be, or a wrong one.
+fn right_or_wrong(is_right: bool, outcome: Outcome) -> Outcome {
+    if is_right { outcome } else { Outcome::Wrong }
+}
+
 impl Counted for Mixed {
     type Found = Outcome;
 
     fn run<F: Field, L: Ledger>(self, alloc: Global, mut steps: Steps<L>) -> Outcome {
-        let Ok(a) = mix::<F, L>(alloc, self, &mut steps) else {
-            return Outcome::OutOfMemory;
-        };
-        if a.rows() != a.columns() {
-            return Outcome::Wrong;
-        }
-        match invert(alloc, &a) {
-            Ok(b)
-                if difference(&a, &b, &mut steps).is_none()
-                    && difference(&b, &a, &mut steps).is_none() => Outcome::Inverse,
-            Err(InvertRefusal::Singular { block })
-                if is_sent_to_zero(&a, block.as_slice(), &mut steps) => Outcome::Block,
-            Err(InvertRefusal::OutOfMemory) => Outcome::OutOfMemory,
-            _ => Outcome::Wrong,
+        match mix::<F, L>(alloc, self, &mut steps) {
+            Ok(matrix) => outcome_of(alloc, &matrix, &mut steps),
+            Err(AllocError) => Outcome::OutOfMemory,
         }
     }
 }

@@ -7,7 +7,7 @@ use net_reader::ReadRefusal::{
     RepeatedLink, SecondField, SecondSource, SelfLoop, SinkIsSource, TooMany, UnknownLink,
 };
 use net_reader::{ReadRefusal, What};
-use std::alloc::Global;
+use std::alloc::{AllocError, Global};
 use std::process::Abort;
 use std::test;
 use std::thread::Threads;
@@ -83,18 +83,36 @@ const CYCLES: &[(&[u8], &[u32], &str)] = &[
     ),
 ];
 
+// A run is refused for a cycle, also where its line can't be said.
+fn check_cycle<R: Abort + Threads + Sync>(
+    rt: &R,
+    alloc: Global,
+    run: &Run<'_>,
+    status: &Status,
+) -> Result<(), test::Fail> {
+    assert_eq!(rt; status.code(), 3);
+    check(rt, alloc, run, status)?;
+    check_puts(rt, alloc, run, status, status)
+}
+
+// A cycle of these links is said, where these lines follow those of one link.
+fn check_said<R: Abort + Threads + Sync>(
+    rt: &R,
+    alloc: Global,
+    rest: &[u8],
+    links: &[u32],
+    said: &str,
+) -> Result<(), test::Fail> {
+    let text = joined(alloc, ONE_LINK_TEXT, rest)?;
+    let line = format!(in alloc; "net refused: cycle {said}\n")?;
+    let status = Status::NetRefused(NetWhy::Cycle(LinkList::of(Vec::from_slice(alloc, links)?)));
+    check_cycle(rt, alloc, &well("order", &text, line.as_bytes()), &status)
+}
+
 #[test]
 fn a_cycle_is_said(rt: HostRuntime) -> Result<(), test::Fail> {
-    let alloc = rt.alloc();
     for &(rest, links, said) in CYCLES {
-        let text = joined(alloc, ONE_LINK_TEXT, rest)?;
-        let list = LinkList::of(Vec::from_slice(alloc, links)?);
-        let status = Status::NetRefused(NetWhy::Cycle(list));
-        assert_eq!(rt; status.code(), 3);
-        let line = format!(in alloc; "net refused: cycle {said}\n")?;
-        let run = well("order", &text, line.as_bytes());
-        check(&rt, alloc, &run, &status)?;
-        check_puts(&rt, alloc, &run, &status, &status)?;
+        check_said(&rt, rt.alloc(), rest, links, said)?;
     }
     Ok(())
 }
@@ -254,33 +272,38 @@ const MANY: &[Many] = &[
     },
 ];
 
-// As many lines as there may be are a network's, and one more is refused.
-fn check_many<R: Abort + Threads + Sync>(
+// The text with so many of the lines.
+fn text_with(alloc: Global, many: &Many, lines: u64) -> Result<String, AllocError> {
+    numbered(alloc, many.front, many.before, many.behind, lines)
+}
+
+// As many lines as there may be are a network's.
+fn check_most<R: Abort + Threads + Sync>(
     rt: &R,
     alloc: Global,
     many: &Many,
 ) -> Result<(), test::Fail> {
-    let Many {
-        front,
-        before,
-        behind,
-        most,
-        links,
-        why,
-        said,
-    } = *many;
-    let text = numbered(alloc, front, before, behind, most)?;
-    let line = numbered(alloc, "", "l", "\n", links)?;
+    let text = text_with(alloc, many, many.most)?;
+    let line = numbered(alloc, "", "l", "\n", many.links)?;
     let run = well("order", text.as_bytes(), line.as_bytes());
-    check(rt, alloc, &run, &Status::Done)?;
-    let text = numbered(alloc, front, before, behind, most.saturating_add(1))?;
-    refuse_text(rt, alloc, text.as_bytes(), why, said)
+    check(rt, alloc, &run, &Status::Done)
+}
+
+// And one more is refused.
+fn check_more<R: Abort + Threads + Sync>(
+    rt: &R,
+    alloc: Global,
+    many: &Many,
+) -> Result<(), test::Fail> {
+    let text = text_with(alloc, many, many.most.saturating_add(1))?;
+    refuse_text(rt, alloc, text.as_bytes(), many.why, many.said)
 }
 
 #[test]
 fn one_too_many_is_refused(rt: HostRuntime) -> Result<(), test::Fail> {
     for many in MANY {
-        check_many(&rt, rt.alloc(), many)?;
+        check_most(&rt, rt.alloc(), many)?;
+        check_more(&rt, rt.alloc(), many)?;
     }
     Ok(())
 }
