@@ -1,7 +1,9 @@
 //! Whether a code is accepted: each demand's decoder gives back every block.
 //!
-//! A decoder does exactly where its matrix times the global coding vectors of its links is the identity,
-//! so that one product for each demand decides.
+//! There is one call, `check`, which takes a code and gives a `Checked` one, seen as its code, or the code back
+//! with the first demand that fails. Read `specs/Checking.antt` and `specs/First.antt`. A decoder gives back every
+//! block exactly where its matrix times the global coding vectors of its links is the identity, so that one product
+//! for each demand decides (`decoding-identity` in node_program/proofs/DecodingLaws).
 #![tactic(auto)]
 
 mod batches;

@@ -1,4 +1,9 @@
 //! Code files: the bytes of a code, and the code of bytes.
+//!
+//! `read_code` and `write_code` are the two calls. Read `specs/Spelling.antt`, the bytes of a code, and
+//! `specs/Reading.antt`, what bytes are refused for, from left to right. The laws that matter are
+//! `contents_of-bytes_of` and `bytes_of-prefix` in proofs/ReadingLaws: a spelling is read as what was spelled, and
+//! none begins another.
 #![tactic(auto)]
 
 mod decoders;

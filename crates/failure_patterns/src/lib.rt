@@ -1,4 +1,8 @@
-//! The demands of a network in order, and the field that serves them.
+//! The demands of a network in order, each a sink with a pattern, and the field that serves them.
+//!
+//! `demands` counts them, `demand_at` gives the one of a number and `number_of` its number, `used_field` the field.
+//! Read `specs/Demands.antt`, `specs/UsedField.antt`, and `specs/Rate.antt`, what the rate of a network is, and the
+//! first demand with a cut of a kind.
 #![tactic(auto)]
 
 ghost use Rattle.std.specs.Prelude.{◌≡◌, ◌↔◌, ◌/◌, ◌%◌, ◌<◌, ◌^◌, IsNone, length, slice_index};

@@ -1,4 +1,8 @@
 //! Sums of rows of field elements, over the bytes that the elements are.
+//!
+//! Begin with `RowTables`, which is made once; its `add_scaled` adds a multiple of one row of bytes to another, 64
+//! bytes at a time. Read `specs/Bytes.antt`, the elements that bytes are, and `specs/Added.antt`. What a call did
+//! is said of elements alone, in the words of `linear_algebra`: how tables and lanes are used is in no contract.
 #![tactic(auto)]
 
 mod lanes;

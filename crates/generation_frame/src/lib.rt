@@ -1,4 +1,10 @@
 //! Blocks and frames: how a file is cut into generations, and a row into pieces that travel.
+//!
+//! `cap` says how many bytes of a file a block takes, `cut` makes the block of a piece, and `counted` gives the
+//! piece back; `Joiner` puts the pieces of a file together. `frame_of` makes the frame of a packet, and
+//! `read_frame` gives it back. Read `specs/Blocks.antt` and `specs/Frames.antt`. The laws that matter are
+//! `counted-block` in proofs/BlockLaws and `concat-pieces_of` in proofs/PieceLaws: the pieces of a file are the
+//! file.
 #![tactic(auto)]
 
 ghost use Rattle.std.specs.Prelude.{◌≡◌, ◌<◌, ◌≤◌, ◌*◌, ◌+◌, ◌/◌, ◌%◌, length};

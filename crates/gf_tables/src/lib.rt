@@ -1,4 +1,9 @@
 //! The fields that codes are over: of 256 elements, by tables, and of 65,536 elements, as pairs.
+//!
+//! Begin with the trait `Field` and its markers `Gf8` and `Gf16`; `product` multiplies the numbers of elements by
+//! the kind of their field. Read `specs/Product.antt`, what a product is by its definition on numbers, and
+//! `specs/Field.antt`, the laws of a field. Those that matter are the two of the trait, `numbering` and `field`:
+//! records that a generic proof takes as one fact each.
 #![tactic(auto)]
 
 mod field;

@@ -1,4 +1,8 @@
 //! Rows of 1024 bytes that come in pieces of 128, each piece once.
+//!
+//! Begin with `HeldRows::new`; `hold` takes a piece in, `is_whole` says whether all of a row came, and `row` and
+//! `payload` give it. Read `specs/Held.antt`. What matters is that the first payload of a piece stays, until
+//! `clear`.
 #![tactic(auto)]
 
 ghost use Rattle.std.specs.Prelude.{◌≡◌, ◌<◌, ◌≤◌, ◌*◌, ◌+◌, length, IfOk, true, false, not};

@@ -1,4 +1,7 @@
 //! A list type for values that contracts name: a vector, seen as the list of its items.
+//!
+//! Begin with `ItemList::of`, which takes a vector; `at`, `len` and `as_slice` read it. A contract that names a
+//! list says `List`, and takes no note of the vector: the type is seen as its items. There are no specs of its own.
 #![tactic(auto)]
 
 ghost use Rattle.std.specs.Prelude.{◌≡◌, ◌<◌, ℕ, List, length, slice_get, Some, slice_set, ◌==◌};

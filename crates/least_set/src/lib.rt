@@ -1,8 +1,10 @@
 //! A set of numbers that gives its least one in the time of three words, however many there are.
 //!
-//! The bits of the numbers stand in words of 64; a bit above each word says whether it has any, in two levels, so
-//! that three words lead to the least number. That is found ahead, when the one before it is taken, so that it is at hand;
-//! where the word has another number, that word alone leads to it.
+//! Begin with `LeastSet::new`; `insert` and `insert_eighths` put numbers in, and `take_below` takes the least one
+//! out, if it is below a limit. Read `specs/Members.antt`. The bits of the numbers stand in words of 64; a bit
+//! above each word says whether it has any, in two levels, so that three words lead to the least number. That is
+//! found ahead, when the one before it is taken, so that it is at hand; where the word has another number, that
+//! word alone leads to it.
 #![tactic(auto)]
 
 ghost use Rattle.std.specs.Prelude.{◌≡◌, ◌≢◌, ◌<◌, ◌≤◌, ◌*◌, ◌+◌, ◌%◌, ℕ, length, IfOk, IfSome, IsNone, Some};

@@ -1,4 +1,8 @@
 //! The program: the top call over its words, the files of the system and standard output.
+//!
+//! Begin with `run`, which `main` calls with `DiskStore`, `StdSay` and `SeedLinks`. Read `specs/Disk.antt` and
+//! `specs/Say.antt`: each call on the system's files and on standard output is the call that the store and the sink
+//! promise. Nothing is told of what the system holds; src/tests shows that the adapters work.
 #![tactic(auto)]
 
 ghost use Rattle.std.specs.Prelude.{◌≡◌, ◌≢◌};

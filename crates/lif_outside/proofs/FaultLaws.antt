@@ -4,7 +4,7 @@ use Rattle.std.specs.List.{list_any}
 use Rattle.std.proofs.Common.{refl, sym, ap, ◌∙◌, subst}
 use Rattle.std.proofs.lemmas.List.Folds.{list_any-append}
 use Rattle.lif_outside.specs.Events.{Event, read, read_failed, created, create_failed, appended, append_failed, is_failed_read, is_failed_write}
-use Rattle.lif_outside.specs.Runs.{AreReadsFrom, ReadsWhole, ReadsToFault, AreAppendsTo}
+use Rattle.lif_outside.specs.FileCalls.{AreReadsFrom, ReadsWhole, ReadsToFault, AreAppendsTo}
 
 -- whether a read among the calls failed, and whether a create or an append did
 pub record HaveFailed (reads writes : Bool) (events : List Event) : Type 0 where

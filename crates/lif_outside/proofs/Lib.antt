@@ -1,5 +1,5 @@
 pub mod SequenceLaws
-pub mod RunLaws
+pub mod FileCallLaws
 pub mod FaultLaws
 pub mod TurnLaws
 pub mod WriteLaws

@@ -9,8 +9,8 @@ use Rattle.std.proofs.lemmas.List.Folds.{list_any-append}
 use Rattle.lif_outside.specs.Events.{Event, read, read_failed, created, create_failed, appended, append_failed, is_failed_read, is_failed_write, HappenAt}
 use Rattle.lif_outside.specs.EventLaws.{KeepsPath, happen-split, happens_keeping}
 use Rattle.lif_outside.proofs.FaultLaws.{HaveFailed}
-use Rattle.lif_outside.specs.Runs.{ReadsToFault, ReadsWhole, StopsWithin, bytes_read, failed_of}
-use Rattle.lif_outside.proofs.RunLaws.{bytes_read-append, reads_begin, whole_held}
+use Rattle.lif_outside.specs.FileCalls.{ReadsToFault, ReadsWhole, StopsWithin, bytes_read, failed_of}
+use Rattle.lif_outside.proofs.FileCallLaws.{bytes_read-append, reads_begin, whole_held}
 use Rattle.lif_outside.specs.Sequences.{Are, IsFrontOf}
 use Rattle.lif_outside.proofs.SequenceLaws.{all_split, front_all, front_none, stops_all}
 use Rattle.lif_outside.specs.Streams.{Streams, gave_nothing, have_ended, is_read, is_write, reads_in, writes_in}

@@ -14,10 +14,10 @@ use Rattle.lif_outside.specs.EventLaws.{KeepsPath, happen-split, happens_here, h
 use Rattle.lif_outside.proofs.FaultLaws.{HaveFailed, failed-append, appends_unfailed}
 use Rattle.lif_outside.specs.Files.{HoldsPrefix, IsSameOrEmpty, AreDistinct}
 use Rattle.lif_outside.proofs.PutLaws.{take-behind}
-use Rattle.lif_outside.specs.Runs.{StopsWithin, Written, failed_of, creates_of, appends_of, appends_to, turn_of, AreAppendsTo, bytes_appended}
+use Rattle.lif_outside.specs.FileCalls.{StopsWithin, Written, failed_of, creates_of, appends_of, appends_to, turn_of, AreAppendsTo, bytes_appended}
 use Rattle.lif_outside.specs.Sequences.{IsFrontOf}
 use Rattle.lif_outside.proofs.SequenceLaws.{all_split, stops_all, stops_there}
-use Rattle.lif_outside.proofs.RunLaws.{appends_held, bytes_appended-append}
+use Rattle.lif_outside.proofs.FileCallLaws.{appends_held, bytes_appended-append}
 
 -- creates of paths, and then of others: also of one more
 pub creates_of-append : (paths others : List (List ℕ)) → creates_of (paths ++ others) ≡ creates_of paths ++ creates_of others

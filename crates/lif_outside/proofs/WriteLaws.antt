@@ -12,7 +12,7 @@ use Rattle.lif_outside.specs.Events.{Event, created, create_failed, appended, ap
 use Rattle.lif_outside.specs.EventLaws.{KeepsPath, happens_here, happens_elsewhere, happen_keeping, path_cases}
 use Rattle.lif_outside.proofs.FaultLaws.{HaveFailed}
 use Rattle.lif_outside.specs.Files.{Files, AreDistinct, Holds, HoldsPrefix}
-use Rattle.lif_outside.specs.Runs.{StopsWithin, Written, failed_of}
+use Rattle.lif_outside.specs.FileCalls.{StopsWithin, Written, failed_of}
 use Rattle.lif_outside.proofs.SequenceLaws.{stops_none}
 use Rattle.lif_outside.proofs.TurnLaws.{first_there, behind_there, apart_first, apart_behind, stops_keep}
 use Rattle.lif_outside.specs.Writes.{WritesFiles, WritesPart, paths_written, writes_of}

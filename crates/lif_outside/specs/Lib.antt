@@ -6,7 +6,7 @@ pub mod Files
 pub mod Events
 pub mod EventLaws
 pub mod Sequences
-pub mod Runs
+pub mod FileCalls
 pub mod Writes
 pub mod Streams
 pub mod Puts

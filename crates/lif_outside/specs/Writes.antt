@@ -3,7 +3,7 @@ use Rattle.std.specs.Prelude.{◌≡◌, ◌⊎◌, ℕ, List, [], ◌∷◌, Al
 use Rattle.std.specs.List.{flat_map}
 use Rattle.lif_outside.specs.Events.{Event, created, appended}
 use Rattle.lif_outside.specs.Files.{Files, Holds, HoldsPrefix, SameBut}
-use Rattle.lif_outside.specs.Runs.{Written}
+use Rattle.lif_outside.specs.FileCalls.{Written}
 
 -- the paths
 abbrev pub paths_written : List Written → List (List ℕ)

@@ -1,4 +1,10 @@
-//! The outside, as the program sees it: stores of files and sinks of bytes, with those in memory, and the gate of jobs.
+//! The outside, as the program sees it: stores of files, sinks of what is said, links that carry frames, those in
+//! memory too, and the gate of jobs.
+//!
+//! Begin with the traits `Store`, `Sink` and `Links`: what each call answers, and which event it is. Read
+//! `specs/Events.antt` and `specs/Moves.antt`, what calls change, `specs/FileCalls.antt`, how a file is read and written
+//! by several calls, and `specs/Calls.antt`, what was done on all objects. The law that matters is each trait's
+//! `accounts`: where content is told, it follows the calls, and a count rose where one failed.
 #![tactic(auto)]
 
 mod gate;

@@ -13,7 +13,7 @@ use Rattle.lif_outside.proofs.SequenceLaws.{stops_behind}
 use Rattle.lif_outside.specs.Calls.{Calls}
 use Rattle.lif_outside.specs.Events.{Event}
 use Rattle.lif_outside.specs.Moves.{FollowMoves, InFlight, Move, opened}
-use Rattle.lif_outside.specs.Runs.{StopsWithin, appends_of}
+use Rattle.lif_outside.specs.FileCalls.{StopsWithin, appends_of}
 use Rattle.lif_outside.specs.Sequences.{Are}
 use Rattle.node_program.specs.declared.code.Code.{Code}
 use Rattle.relay_runner.specs.Carried.{packets_given}

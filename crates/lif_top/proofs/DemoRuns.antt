@@ -6,7 +6,7 @@ use Rattle.coded_traffic.specs.Traffic.{live_links_of, room_for}
 use Rattle.generation_frame.specs.Blocks.{pieces}
 use Rattle.lif_outside.specs.Calls.{Calls}
 use Rattle.lif_outside.specs.Moves.{FollowMoves, InFlight, Move, open_refused, opened, pairs_put}
-use Rattle.lif_outside.specs.Runs.{appends_of}
+use Rattle.lif_outside.specs.FileCalls.{appends_of}
 use Rattle.net_model.specs.Renumbering.{renumbered_pattern}
 use Rattle.node_program.specs.declared.code.Code.{Code}
 use Rattle.relay_runner.specs.Carried.{packets_given}

@@ -5,7 +5,7 @@ use Rattle.generation_frame.specs.Blocks.{block_count}
 use Rattle.lif_outside.specs.Calls.{Calls}
 use Rattle.lif_outside.specs.Events.{Event}
 use Rattle.lif_outside.specs.Moves.{Move, opened}
-use Rattle.lif_outside.specs.Runs.{ReadsPastLimit, ReadsToFault, ReadsWhole, StopsWithin, creates_of}
+use Rattle.lif_outside.specs.FileCalls.{ReadsPastLimit, ReadsToFault, ReadsWhole, StopsWithin, creates_of}
 use Rattle.lif_outside.specs.Sequences.{Are, IsFrontOf}
 use Rattle.node_program.specs.declared.code.Code.{Code}
 use Rattle.top_base.specs.Inputs.{ReadsAny}

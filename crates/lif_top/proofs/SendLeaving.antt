@@ -20,8 +20,8 @@ use Rattle.lif_outside.specs.EventLaws.{KeepsPath, happen_keeping}
 use Rattle.lif_outside.specs.Files.{AreDistinct, ChangesOnly, Files, Holds, HoldsPrefix, IsSameOrEmpty}
 use Rattle.lif_outside.specs.Moves.{FollowMoves, InFlight, Move, is_fault, opened}
 use Rattle.lif_outside.proofs.OpenLaws.{quiet-after, seed-after}
-use Rattle.lif_outside.specs.Runs.{AreAppendsTo, ReadsPastLimit, ReadsToFault, ReadsWhole, StopsWithin, bytes_appended, bytes_read, creates_of}
-use Rattle.lif_outside.proofs.RunLaws.{appends_held, appends_keep, fault_there, long_held, reads_begin, whole_held}
+use Rattle.lif_outside.specs.FileCalls.{AreAppendsTo, ReadsPastLimit, ReadsToFault, ReadsWhole, StopsWithin, bytes_appended, bytes_read, creates_of}
+use Rattle.lif_outside.proofs.FileCallLaws.{appends_held, appends_keep, fault_there, long_held, reads_begin, whole_held}
 use Rattle.lif_outside.specs.Sequences.{Are, IsFrontOf}
 use Rattle.lif_outside.proofs.StreamLaws.{fault_begins, reads_among, reads_happen, stream_keeps, whole_begins, whole_ended, whole_gave, writes_among, writes_happen}
 use Rattle.lif_outside.specs.Streams.{reads_in, writes_in}

@@ -11,8 +11,8 @@ use Rattle.lif_outside.proofs.FaultLaws.{HaveFailed, appends_unfailed, failed-ap
 use Rattle.lif_outside.specs.Files.{Files}
 use Rattle.lif_outside.specs.Moves.{Move, opened}
 use Rattle.lif_outside.specs.Moves as moves
-use Rattle.lif_outside.specs.Runs.{AreAppendsTo, ReadsPastLimit, ReadsToFault, ReadsWhole, StopsWithin}
-use Rattle.lif_outside.proofs.RunLaws.{long_held}
+use Rattle.lif_outside.specs.FileCalls.{AreAppendsTo, ReadsPastLimit, ReadsToFault, ReadsWhole, StopsWithin}
+use Rattle.lif_outside.proofs.FileCallLaws.{long_held}
 use Rattle.lif_outside.specs.Sequences.{Are, IsFrontOf}
 use Rattle.lif_outside.proofs.StreamLaws.{stream_failed}
 use Rattle.lif_outside.specs.Streams.{reads_in, writes_in}

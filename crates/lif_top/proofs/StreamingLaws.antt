@@ -14,10 +14,10 @@ use Rattle.lif_outside.specs.declared.links.Links.{Ghosts as LinksGhosts}
 use Rattle.lif_outside.specs.declared.store.Store.{Ghosts as StoreGhosts}
 use Rattle.lif_outside.specs.Events.{Event, appended, read, read_failed}
 use Rattle.lif_outside.specs.Moves.{Move}
-use Rattle.lif_outside.specs.Runs.{AreReadsFrom, ReadsPastLimit, ReadsToFault, ReadsWhole, StopsWithin, Written, appends_of, bytes_read}
+use Rattle.lif_outside.specs.FileCalls.{AreReadsFrom, ReadsPastLimit, ReadsToFault, ReadsWhole, StopsWithin, Written, appends_of, bytes_read}
 use Rattle.lif_outside.specs.Sequences.{Are, IsFrontOf}
 use Rattle.lif_outside.specs.Streams.{gave_nothing, have_ended, is_read, is_write, reads_in, writes_in}
-use Rattle.lif_outside.proofs.RunLaws.{bytes_read-append, reads_more}
+use Rattle.lif_outside.proofs.FileCallLaws.{bytes_read-append, reads_more}
 use Rattle.lif_outside.proofs.SequenceLaws.{all_append, all_split, front_all, stops_behind}
 use Rattle.lif_outside.proofs.StreamLaws.{AreDue, AreWrites, due_all, due_none, due_stops, reads_of_all, split_at_call, stops_are_writes, whole_gave}
 use Rattle.node_program.specs.declared.code.Code.{Code}

@@ -12,7 +12,7 @@ use Rattle.generation_frame.specs.declared.frame.Packet.{Packet}
 use Rattle.lif_outside.proofs.TurnLaws.{appends-fault}
 use Rattle.net_maker.proofs.SubsetLaws.{range-more}
 use Rattle.lif_outside.specs.Events.{Event, appended}
-use Rattle.lif_outside.specs.Runs.{AreAppendsTo, StopsWithin, Written, appends_of}
+use Rattle.lif_outside.specs.FileCalls.{AreAppendsTo, StopsWithin, Written, appends_of}
 use Rattle.node_program.specs.declared.code.Code.{Code}
 use Rattle.lif_top.specs.Demo.Runs.{received_before}
 use Rattle.lif_top.specs.Demo.Tally.{Tallies, sum_of}

@@ -10,13 +10,13 @@ use Rattle.generation_frame.proofs.PieceLaws.{pieces_before-more}
 use Rattle.generation_frame.specs.Blocks.{counted_bytes, piece_of, pieces_before}
 use Rattle.generation_frame.specs.declared.frame.Packet.{Packet}
 use Rattle.lif_outside.proofs.CallLaws.{calls_of}
-use Rattle.lif_outside.proofs.RunLaws.{appends-append}
+use Rattle.lif_outside.proofs.FileCallLaws.{appends-append}
 use Rattle.lif_outside.proofs.SequenceLaws.{stops_behind, stops_first, stops_here}
 use Rattle.lif_outside.proofs.TurnLaws.{appends_of-append, appends_to-append}
 use Rattle.lif_outside.specs.Calls.{ByCalls}
 use Rattle.lif_outside.specs.Events.{Event, append_event, append_failed, appended}
 use Rattle.lif_outside.specs.Moves.{Move}
-use Rattle.lif_outside.specs.Runs.{AreAppendsTo, StopsWithin, Written, appends_of, appends_to, turn_of}
+use Rattle.lif_outside.specs.FileCalls.{AreAppendsTo, StopsWithin, Written, appends_of, appends_to, turn_of}
 use Rattle.lif_outside.specs.Sequences.{Are}
 use Rattle.lif_outside.specs.declared.Failed.{Failed}
 use Rattle.node_program.specs.declared.code.Code.{Code}

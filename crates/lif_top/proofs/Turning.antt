@@ -5,7 +5,7 @@ use Rattle.std.proofs.lemmas.Bool.{false≢true, lt-ltb, ne_eqb}
 use Rattle.std.proofs.Math.Seq.{take-suc, split_at}
 use Rattle.std.proofs.lemmas.List.{get_or-map, length-map}
 use Rattle.lif_outside.specs.Events.{created, create_failed}
-use Rattle.lif_outside.specs.Runs.{StopsWithin, creates_of}
+use Rattle.lif_outside.specs.FileCalls.{StopsWithin, creates_of}
 use Rattle.lif_outside.proofs.TurnLaws.{creates_of-append, creates_of-stops}
 
 module _ (paths : List (List ℕ)) (n : ℕ) (within : n < length paths) where

@@ -5,7 +5,7 @@ use Rattle.coded_traffic.specs.Traffic.{Window}
 use Rattle.lif_outside.specs.Calls.{MakesBoth, MakesCalls}
 use Rattle.lif_outside.specs.Events.{Event}
 use Rattle.lif_outside.specs.Moves.{Move}
-use Rattle.lif_outside.specs.Runs.{appends_of}
+use Rattle.lif_outside.specs.FileCalls.{appends_of}
 use Rattle.lif_outside.specs.declared.links.Links.{Ghosts as LinksGhosts}
 use Rattle.lif_outside.specs.declared.store.Store.{Ghosts as StoreGhosts}
 use Rattle.relay_runner.proofs.CarriedLaws.{by-decoded}

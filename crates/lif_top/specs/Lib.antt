@@ -32,7 +32,7 @@ pub use Rattle.lif_outside.specs.Counts
 pub use Rattle.lif_outside.specs.Events
 pub use Rattle.lif_outside.specs.Files
 pub use Rattle.lif_outside.specs.Puts
-pub use Rattle.lif_outside.specs.Runs
+pub use Rattle.lif_outside.specs.FileCalls
 pub use Rattle.lif_outside.specs.Sequences
 pub use Rattle.lif_outside.specs.Streams
 pub use Rattle.lif_outside.specs.Told

@@ -4,7 +4,7 @@ ghost use Rattle.std.specs.List.{concat};
 ghost use Rattle.generation_frame.specs.Blocks.{block_count, capacity, most_blocks, most_rows, row_bytes};
 ghost use Rattle.lif_outside.specs.Calls.{KeepsStore, MakesBoth, MakesCalls};
 ghost use Rattle.lif_outside.specs.Moves.{Move};
-ghost use Rattle.lif_outside.specs.Runs.{StopsWithin, appends_of, creates_of};
+ghost use Rattle.lif_outside.specs.FileCalls.{StopsWithin, appends_of, creates_of};
 ghost use Rattle.lif_outside.specs.Sequences.{Are};
 ghost use Rattle.lif_top.specs.Send.Carried.{blocks_from};
 ghost use Rattle.lif_top.specs.Send.Delivering.{CanCarry, DeliversBlocks, DeliversSome, HasGoneOn, HasMoved, Interrupts, InterruptsBlocks, InterruptsBytes, IsBehind, IsStill};

@@ -1,4 +1,7 @@
 //! The program: words to commands, and what they do.
+//!
+//! There is one call, `lif`. Read `specs/Promises.antt`, its clause, and `specs/Send/Command.antt`, the four words
+//! of `send`. docs/ARCHITECTURE.md has the way from `lif` down to 'the sink's file is the source'.
 #![tactic(auto)]
 
 mod delivering;

@@ -1,4 +1,9 @@
 //! Networks: named nodes and links, a source, sinks, and patterns of links that fail together.
+//!
+//! Begin with `Net::of`: every value of `Net` is a network. Read `specs/Network.antt`, what a network is, then
+//! `specs/Flows.antt`, what paths, flows, cuts and the least side are, and `specs/Limits.antt`. The laws that
+//! matter are `flow-le-cut` and `IsLeastSide-unique` in proofs/FlowLaws: no flow has more paths than a cut has
+//! links, and there is one least side.
 #![tactic(auto)]
 
 mod limits;

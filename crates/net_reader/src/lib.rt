@@ -1,4 +1,8 @@
 //! Networks as texts.
+//!
+//! There is one call, `read_net`. Read `specs/Lines.antt`, lines and words, `specs/Statements.antt`, what a line
+//! says and what is wrong with it after the lines before, and `specs/Text.antt`, the network of a whole text. A
+//! text is read exactly where every line is good and so is the whole; else the first line that isn't is named.
 #![tactic(auto)]
 
 mod lines;

@@ -1,4 +1,9 @@
 //! Linear network codes as values, and what their links carry.
+//!
+//! Begin with `Code::of`: every value of `Code` is a code. `vectors` makes the global coding vectors under a
+//! pattern, and `live_links` the table of live links. Read `specs/Code.antt`, `specs/Value.antt`, what a link
+//! carries, `specs/Vectors.antt` and `specs/Decoding.antt`, what an accepted code is. The law that matters is
+//! `accepted-decodes` in proofs/DecodingLaws: every sink of an accepted code gets every block back.
 #![tactic(auto)]
 
 mod carrying;

@@ -15,11 +15,11 @@ use std::alloc::{AllocError, Global};
 use std::marker::Model;
 use std::thread::{Threads, for_each_chunk_mut};
 
-/// How many sinks there are for each run, at least: to start a thread takes longer than to decode at a few sinks. Where
+/// How many sinks there are for each batch, at least: to start a thread takes longer than to decode at a few sinks. Where
 /// there are twice as many, each window is decoded by threads.
 pub const LEAST_SINKS: usize = 3;
 
-/// How many products of a row with an element there are for each run, at least, where there are more than two runs: to
+/// How many products of a row with an element there are for each batch, at least, where there are more than two batches: to
 /// start a thread takes about as long as a thousand of them.
 const LEAST_PRODUCTS: usize = 2048;
 
@@ -119,9 +119,9 @@ fn decode_sink<F: Field>(
     }
 }
 
-// Decodes at a run of sinks, from one on. The runs but the last are of a size, and the run enters the gate before by its
+// Decodes at a batch of sinks, from one on. The batches but the last are of a size, and the batch enters the gate before by its
 // number.
-fn decode_run<F: Field, G: Gate>(
+fn decode_batch<F: Field, G: Gate>(
     code: &Code,
     stations: &[Station<F>],
     first: u32,
@@ -153,18 +153,18 @@ fn decode_run<F: Field, G: Gate>(
     }
 }
 
-// How many sinks a run has, but for the last one, where so many generations are decoded at so many sinks.
-fn run_size(sinks: usize, count: u32, rate: u32) -> usize
+// How many sinks a batch has, but for the last one, where so many generations are decoded at so many sinks.
+fn batch_size(sinks: usize, count: u32, rate: u32) -> usize
     ensures { 0 < result }
 {
     let rows = (count as usize).saturating_mul(rate as usize);
     let products = sinks.saturating_mul(rows).saturating_mul(rate as usize);
     let wanted = (products / LEAST_PRODUCTS).max(2).min(WORKERS as usize);
-    let runs = wanted.min(sinks / LEAST_SINKS).max(1);
-    sinks.div_ceil(runs).max(1)
+    let batches = wanted.min(sinks / LEAST_SINKS).max(1);
+    sinks.div_ceil(batches).max(1)
 }
 
-/// Decodes so many generations from one on at all sinks of a code, in at most four runs of sinks side by side.
+/// Decodes so many generations from one on at all sinks of a code, in at most four batches of sinks side by side.
 pub(crate) fn decode_sinks<F: Field + Send + Sync, G: Gate + Sync, R: Threads + Sync>(
     rt: &R,
     code: &Code,
@@ -182,13 +182,13 @@ pub(crate) fn decode_sinks<F: Field + Send + Sync, G: Gate + Sync, R: Threads + 
         → AreDecoded code.now (sinks_of stations.now) first count sink
         (slice_index_or blocks.new sink []) }
 {
-    let size = run_size(blocks.len(), count, code.rate);
+    let size = batch_size(blocks.len(), count, code.rate);
     for_each_chunk_mut(
         rt,
         blocks,
         size,
-        &|start: usize, run: &mut [DecodedBlocks]| {
-            decode_run(code, stations, first, count, size, start, run, gate)
+        &|start: usize, batch: &mut [DecodedBlocks]| {
+            decode_batch(code, stations, first, count, size, start, batch, gate)
         },
     );
 }

@@ -234,8 +234,8 @@ impl<'c, F: Field + Send + Sync> Runner<'c, F> {
     ghost use Rattle.relay_runner.specs.Decoding.{HasDecoded, with_decoded};
     ghost use Rattle.relay_runner.specs.Running.{HasCarried};
 
-    /// Decodes the blocks carried last, at all sinks. The sinks are cut into at most four runs, each of which enters the gate
-    /// before; the runs are done side by side. It takes no memory.
+    /// Decodes the blocks carried last, at all sinks. The sinks are cut into at most four batches, each of which enters the gate
+    /// before; the batches are done side by side. It takes no memory.
     pub fn decode_all<G: Gate + Sync, R: Threads + Sync>(&mut self, rt: &R, gate: &G)
         requires carried { HasCarried self.old }
         ensures decoded { HasDecoded self.new }

@@ -5,7 +5,7 @@ use Rattle.std.specs.declared.alloc.AllocError.{AllocError}
 use Rattle.std.proofs.Common.{refl, sym, ◌∙◌, ap, subst, append-nil, append_assoc, arith}
 use Rattle.std.proofs.lemmas.List.{flat_map_more}
 use Rattle.std.proofs.lemmas.List.Elements.{All-push}
-use Rattle.report_text.specs.Runs.{AreJoined, made_text}
+use Rattle.report_text.specs.Batches.{AreJoined, made_text}
 
 -- the texts so far, which were made, and the rest, of which so many are left
 pub record AreJoinedSoFar (before : List ℕ) (texts front rest : List (Result (Vec ℕ Global) AllocError)) (left : ℕ) (whole : List ℕ) : Type 0 where

@@ -1,4 +1,4 @@
 pub mod PrintableLaws
 mod JoinSteps
 mod Lengths
-mod RunLaws
+mod BatchLaws

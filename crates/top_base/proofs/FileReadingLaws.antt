@@ -2,8 +2,8 @@
 use Rattle.std.proofs.Common.{◌≡◌, ◌≤◌, ◌<◌, ◌+◌, ◌++◌, ◌∷◌, ℕ, List, [], Ok, Err, true, false, length, sym, ap, subst, ◌∙◌, arith}
 use Rattle.std.proofs.lemmas.List.{append-nil, length-append}
 use Rattle.lif_outside.specs.Events.{Event, read, read_failed}
-use Rattle.lif_outside.specs.Runs.{AreReadsFrom, bytes_read, ReadsWhole}
-use Rattle.lif_outside.proofs.RunLaws.{reads_more, bytes_read-append}
+use Rattle.lif_outside.specs.FileCalls.{AreReadsFrom, bytes_read, ReadsWhole}
+use Rattle.lif_outside.proofs.FileCallLaws.{reads_more, bytes_read-append}
 use Rattle.top_base.specs.FileReading.{ReadsMore, StopsReading}
 use Rattle.top_base.specs.declared.reading.FileRefusal.{FileRefusal}
 use Rattle.top_base.specs.declared.reading.FileRefusal.TheVariants as refused

@@ -10,8 +10,8 @@ use Rattle.lif_outside.specs.Events.{Event, HappenAt}
 use Rattle.lif_outside.specs.EventLaws.{KeepsPath}
 use Rattle.lif_outside.proofs.FaultLaws.{HaveFailed, reads_unfailed, whole_unfailed, fault_failed}
 use Rattle.lif_outside.specs.Files.{Holds}
-use Rattle.lif_outside.specs.Runs.{ReadsWhole}
-use Rattle.lif_outside.proofs.RunLaws.{reads_keep, whole_keeps, fault_keeps, fault_there, whole_held, long_held}
+use Rattle.lif_outside.specs.FileCalls.{ReadsWhole}
+use Rattle.lif_outside.proofs.FileCallLaws.{reads_keep, whole_keeps, fault_keeps, fault_there, whole_held, long_held}
 use Rattle.top_base.specs.FileReading.{StopsReading, outcome_of}
 use Rattle.top_base.specs.Inputs.{HoldsInput, HoldsLong, HoldsNone, HoldsShort, IsNoMemory, Loses, Reads, ReadsAny, is_lost, is_refusal}
 use Rattle.top_base.specs.Lines.{too_long_line}

@@ -10,7 +10,7 @@ use Rattle.lif_outside.specs.Events.{Event, Follow}
 use Rattle.lif_outside.proofs.FaultLaws.{HaveFailed, none_failed}
 use Rattle.lif_outside.specs.Files.{AreDistinct}
 use Rattle.lif_outside.specs.Moves as moves
-use Rattle.lif_outside.specs.Runs.{StopsWithin, Written}
+use Rattle.lif_outside.specs.FileCalls.{StopsWithin, Written}
 use Rattle.lif_outside.specs.Sequences.{Are}
 use Rattle.lif_outside.specs.Told.{Told}
 use Rattle.lif_outside.specs.ToldLaws.{becomes_weaker}

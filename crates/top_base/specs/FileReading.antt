@@ -2,7 +2,7 @@
 use Rattle.std.specs.Prelude.{◌≡◌, ◌<◌, ◌≤◌, ◌+◌, ℕ, Bool, true, false, List, [], ◌∷◌, ◌++◌, length, take, Result, Ok, Err}
 use Rattle.lif_outside.specs.Events.{Event, read, read_failed}
 use Rattle.lif_outside.specs.declared.Failed.{Failed}
-use Rattle.lif_outside.specs.Runs.{ReadsToFault, ReadsPastLimit, ReadsSome}
+use Rattle.lif_outside.specs.FileCalls.{ReadsToFault, ReadsPastLimit, ReadsSome}
 use Rattle.top_base.specs.declared.reading.FileRefusal.{FileRefusal}
 use Rattle.top_base.specs.declared.reading.FileRefusal.TheVariants as refused
 use Rattle.top_base.specs.Lines.{read_fault_line, too_long_line, out_of_memory_line}

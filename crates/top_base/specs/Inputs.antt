@@ -2,7 +2,7 @@
 use Rattle.std.specs.Prelude.{◌≡◌, ◌⊎◌, ◌≤◌, ◌<◌, ℕ, Bool, true, false, List, length, Option, Result, Ok, Err}
 use Rattle.lif_outside.specs.Events.{Event}
 use Rattle.lif_outside.specs.Files.{Holds}
-use Rattle.lif_outside.specs.Runs.{ReadsWhole, ReadsToFault, ReadsPastLimit, ReadsSome}
+use Rattle.lif_outside.specs.FileCalls.{ReadsWhole, ReadsToFault, ReadsPastLimit, ReadsSome}
 use Rattle.top_base.specs.Lines.{out_of_memory_line, read_fault_line, too_long_line}
 use Rattle.top_base.specs.declared.outcome.Outcome.{Outcome}
 use Rattle.top_base.specs.declared.status.Status.{Status}

@@ -5,7 +5,7 @@ use Rattle.lif_outside.specs.Calls.{Calls, Outside}
 use Rattle.lif_outside.specs.Counts.{Rose}
 use Rattle.lif_outside.specs.Events.{Event}
 use Rattle.lif_outside.specs.Files.{Files}
-use Rattle.lif_outside.specs.Runs.{StopsWithin, Written}
+use Rattle.lif_outside.specs.FileCalls.{StopsWithin, Written}
 use Rattle.lif_outside.specs.Sequences.{Are}
 use Rattle.lif_outside.specs.Told.{Becomes, Told}
 use Rattle.lif_outside.specs.Writes.{WritesFiles, WritesPart, writes_of}

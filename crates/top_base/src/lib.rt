@@ -1,5 +1,9 @@
 //! What the commands share: words, statuses and the lines said with them, whole files, and the codes and networks
 //! that are read from them.
+//!
+//! Begin with `command_of`, `read_whole`, `read_accepted` and `conclude`. Read `specs/Performs.antt`: what a
+//! command does is one record of four words, and `Performs` what is promised of any. The law that matters is
+//! `performs_said` in proofs/PerformingLaws: all of it follows from the calls.
 #![tactic(auto)]
 
 mod accepting;

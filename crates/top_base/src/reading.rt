@@ -1,7 +1,7 @@
 //! Whole files, read within a limit.
 ghost use Rattle.std.specs.Prelude.{◌≡◌, ◌≤◌, ◌<◌, ◌+◌, ◌^◌, [], length, true, IfOk, IfErr, IsErrOf, vec_len, vec_capacity};
 ghost use Rattle.lif_outside.specs.Calls.{MakesCalls};
-ghost use Rattle.lif_outside.specs.Runs.{ReadsWhole};
+ghost use Rattle.lif_outside.specs.FileCalls.{ReadsWhole};
 ghost use Rattle.top_base.specs.FileReading.{ReadsMore, ReadsNext, StopsReading};
 
 use lif_outside::{Failed, Store};

@@ -5,7 +5,7 @@ use Rattle.std.proofs.lemmas.Bool.{false≢true}
 use Rattle.cut_witness.proofs.CertificateLaws.{IsRate-least_value}
 use Rattle.failure_patterns.specs.Rate.{IsRate}
 use Rattle.lif_outside.specs.Calls.{Calls}
-use Rattle.lif_outside.specs.Runs.{Written}
+use Rattle.lif_outside.specs.FileCalls.{Written}
 use Rattle.lif_outside.specs.Writes.{paths_written}
 use Rattle.net_model.specs.Demands.{demand_count}
 use Rattle.net_model.specs.declared.net.Net.{Net}

@@ -4,7 +4,7 @@ use Rattle.std.proofs.Common.{refl}
 use Rattle.lif_outside.proofs.CallLaws.{calls_of}
 use Rattle.lif_outside.specs.Calls.{ByCalls}
 use Rattle.lif_outside.specs.Events.{Event, append_event, append_failed, appended, created}
-use Rattle.lif_outside.specs.Runs.{StopsWithin}
+use Rattle.lif_outside.specs.FileCalls.{StopsWithin}
 use Rattle.lif_outside.specs.Sequences.{Are}
 use Rattle.lif_outside.specs.Writes.{writes_of}
 use Rattle.lif_outside.specs.declared.Failed.{Failed}

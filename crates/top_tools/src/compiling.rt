@@ -2,7 +2,7 @@
 ghost use Rattle.std.specs.Prelude.{◌≡◌, ◌∷◌, [], OnErr, OnOk, ℕ, length};
 ghost use Rattle.std.specs.Option.{option_map};
 ghost use Rattle.lif_outside.specs.Calls.{MakesCalls};
-ghost use Rattle.lif_outside.specs.Runs.{StopsWithin};
+ghost use Rattle.lif_outside.specs.FileCalls.{StopsWithin};
 ghost use Rattle.lif_outside.specs.Sequences.{Are};
 ghost use Rattle.lif_outside.specs.Writes.{writes_of};
 ghost use Rattle.link_chains.specs.Wiring.{IsWiring};

@@ -1,6 +1,8 @@
-//! The commands that read one input and say what they find: the order of a network's links, its least cuts, and
-//! whether a code is accepted. And the one that compiles a network and writes its code and report, and the codes of
-//! combination networks.
+//! The commands `order`, `cuts` and `check`, which read one input and say what they find, and `compile`, which
+//! makes a code of a network and writes it with the report; and the codes of combination networks.
+//!
+//! There is a call for each command, of that name, and `combination_code`. Read `specs/Order.antt`,
+//! `specs/Cuts.antt`, `specs/Check.antt` and `specs/Compile.antt`, each the four words of its command.
 #![tactic(auto)]
 
 mod checking;

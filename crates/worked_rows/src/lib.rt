@@ -1,4 +1,8 @@
 //! Worked examples: what the definitions give on codes, links, blocks and elements that are written out.
+//!
+//! The crates of tests above share what stands here: `files` and `texts`, the code files and network texts of the
+//! examples; `codes`, the check of a file's code; `gates`, which tell which jobs enter them; `watched`, links that
+//! tell the calls made on them; `orders`, orders in which links give what flies.
 #![tactic(auto)]
 
 pub mod accepting;

@@ -1,4 +1,7 @@
 //! Worked examples: what the definitions of traffic give on codes that are written out.
+//!
+//! Each clause computes the packets of a small code, or what a link of it adds up; the functions promise nothing
+//! else.
 #![tactic(auto)]
 
 ghost use Rattle.std.specs.Prelude.{◌≡◌, ℕ, List, [], ◌∷◌, length, map};

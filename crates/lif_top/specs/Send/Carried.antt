@@ -5,7 +5,7 @@ use Rattle.generation_frame.specs.Blocks.{block_of, piece_of}
 use Rattle.lif_outside.specs.Calls.{Calls}
 use Rattle.lif_outside.specs.Events.{Event}
 use Rattle.lif_outside.specs.Moves.{Move}
-use Rattle.lif_outside.specs.Runs.{appends_of}
+use Rattle.lif_outside.specs.FileCalls.{appends_of}
 use Rattle.node_program.specs.declared.code.Code.{Code}
 use Rattle.relay_runner.specs.Carried.{IsCarried, IsStopped, packets_given}
 use Rattle.lif_top.specs.Send.Turns.{turns_before}

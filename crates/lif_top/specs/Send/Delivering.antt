@@ -4,7 +4,7 @@ use Rattle.coded_traffic.specs.Traffic.{room_for}
 use Rattle.generation_frame.specs.Blocks.{block_count, capacity}
 use Rattle.lif_outside.specs.Calls.{Calls}
 use Rattle.lif_outside.specs.Events.{Event}
-use Rattle.lif_outside.specs.Runs.{StopsWithin, appends_of}
+use Rattle.lif_outside.specs.FileCalls.{StopsWithin, appends_of}
 use Rattle.lif_outside.specs.Sequences.{Are}
 use Rattle.lif_outside.specs.declared.links.Flight.{Flight}
 use Rattle.node_program.specs.declared.code.Code.{Code}

@@ -6,7 +6,7 @@ use Rattle.generation_frame.specs.declared.frame.Packet.{Packet}
 use Rattle.lif_outside.specs.Calls.{Calls, MakesNone}
 use Rattle.lif_outside.specs.Events.{Event}
 use Rattle.lif_outside.specs.Moves.{Move, open_refused, opened}
-use Rattle.lif_outside.specs.Runs.{ReadsPastLimit, ReadsToFault, ReadsWhole, StopsWithin, appends_of, bytes_read, creates_of}
+use Rattle.lif_outside.specs.FileCalls.{ReadsPastLimit, ReadsToFault, ReadsWhole, StopsWithin, appends_of, bytes_read, creates_of}
 use Rattle.lif_outside.specs.Sequences.{Are, IsFrontOf, Then}
 use Rattle.lif_outside.specs.Streams.{Streams, have_ended, reads_in}
 use Rattle.node_program.specs.declared.code.Code.{Code}

@@ -4,7 +4,7 @@ use Rattle.generation_frame.specs.Blocks.{block_count}
 use Rattle.lif_outside.specs.Calls.{Calls}
 use Rattle.lif_outside.specs.Events.{Event}
 use Rattle.lif_outside.specs.Moves.{Move}
-use Rattle.lif_outside.specs.Runs.{ReadsPastLimit, ReadsToFault, ReadsWhole, StopsWithin, bytes_read}
+use Rattle.lif_outside.specs.FileCalls.{ReadsPastLimit, ReadsToFault, ReadsWhole, StopsWithin, bytes_read}
 use Rattle.lif_outside.specs.Sequences.{Are, IsFrontOf}
 use Rattle.lif_outside.specs.Streams.{Streams, reads_in}
 use Rattle.node_program.specs.declared.code.Code.{Code}

@@ -3,7 +3,7 @@ use Rattle.std.specs.Prelude.{ℕ, Bool, List, [], filter, length, map, nat_lt, 
 use Rattle.std.specs.List.{range_with_len}
 use Rattle.generation_frame.specs.Blocks.{counted_bytes}
 use Rattle.generation_frame.specs.declared.frame.Packet.{Packet}
-use Rattle.lif_outside.specs.Runs.{Written}
+use Rattle.lif_outside.specs.FileCalls.{Written}
 use Rattle.node_program.specs.declared.code.Code.{Code}
 use Rattle.node_states.specs.Decoded.{decoded_of}
 use Rattle.node_stations.specs.Opening.{demand_of}

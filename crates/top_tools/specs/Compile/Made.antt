@@ -6,7 +6,7 @@ use Rattle.failure_patterns.specs.Rate.{IsRate}
 use Rattle.gf_tables.specs.declared.kind.FieldKind.{FieldKind}
 use Rattle.lif_compiler.specs.Compiled.{IsCompiled}
 use Rattle.lif_compiler.specs.Refused.{IsRateOver, IsZeroRate}
-use Rattle.lif_outside.specs.Runs.{Written}
+use Rattle.lif_outside.specs.FileCalls.{Written}
 use Rattle.net_model.specs.Limits.{highest_rate}
 use Rattle.net_model.specs.Demands.{demand_count}
 use Rattle.net_model.specs.declared.net.Net.{Net}

@@ -4,7 +4,7 @@ use Rattle.gf_tables.specs.Product.{size_of}
 use Rattle.gf_tables.specs.declared.kind.FieldKind.{FieldKind}
 use Rattle.lif_compiler.specs.Refused.{IsRefusal}
 use Rattle.lif_compiler.specs.declared.refusal.CompileRefusal.{CompileRefusal}
-use Rattle.lif_outside.specs.Runs.{Written}
+use Rattle.lif_outside.specs.FileCalls.{Written}
 use Rattle.net_model.specs.Walks.{IsAcyclic}
 use Rattle.net_model.specs.declared.net.Net.{Net}
 use Rattle.top_base.specs.Inputs.{IsNoMemory}

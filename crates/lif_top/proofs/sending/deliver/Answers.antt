@@ -3,7 +3,7 @@ use Rattle.std.proofs.Common.{◌++◌, [], sym, subst, ap, ◌∙◌}
 use Rattle.lif_outside.proofs.CallLaws.{both_behind, both_on_store}
 use Rattle.lif_outside.specs.Calls.{Calls}
 use Rattle.lif_outside.specs.Events.{created}
-use Rattle.lif_outside.specs.Runs.{StopsWithin, creates_of}
+use Rattle.lif_outside.specs.FileCalls.{StopsWithin, creates_of}
 use Rattle.lif_outside.specs.Sequences.{Are}
 use Rattle.top_base.specs.Given.{given_in}
 use Rattle.top_base.specs.Words.{source_limit}

@@ -1,7 +1,7 @@
 use Rattle.std.proofs.Common.{◌≤◌, Ok, Err, true, false, length, subst, ap, ◌∙◌, arith}
 use Rattle.lif_outside.specs.Calls.{MakesCalls}
 use Rattle.lif_outside.proofs.CallLaws.{calls_then}
-use Rattle.lif_outside.specs.Runs.{ReadsWhole}
+use Rattle.lif_outside.specs.FileCalls.{ReadsWhole}
 use Rattle.top_base.specs.FileReading.{ReadsMore, StopsReading}
 use Rattle.top_base.proofs.Exits.{if_err}
 use Rattle.top_base.proofs.FileReadingLaws.{Gave, gave_more, gave_all, stops_more}

@@ -1,6 +1,6 @@
 use Rattle.std.proofs.Common.{◌≡◌, ◌≤◌, ◌+◌, ◌-◌, vec_len, vec_capacity}
 use Rattle.lif_outside.specs.Calls.{MakesCalls}
-use Rattle.lif_outside.specs.Runs.{AreReadsFrom, bytes_read}
+use Rattle.lif_outside.specs.FileCalls.{AreReadsFrom, bytes_read}
 use Rattle.top_base.proofs.reading.read_whole.Given as goal
 
 abbrev pub invariant-loop-chunk : goal.invariant-loop-chunk

@@ -1,7 +1,7 @@
 use Rattle.std.proofs.Common.{◌≡◌, ap, subst, sym, ◌∙◌}
 use Rattle.lif_outside.proofs.CallLaws.{calls_weaker}
 use Rattle.lif_outside.specs.Calls.{MakesCalls}
-use Rattle.lif_outside.specs.Runs.{StopsWithin}
+use Rattle.lif_outside.specs.FileCalls.{StopsWithin}
 use Rattle.lif_outside.specs.Sequences.{Are}
 use Rattle.lif_outside.specs.Writes.{writes_of}
 use Rattle.top_base.specs.Given.{compile_given_in}

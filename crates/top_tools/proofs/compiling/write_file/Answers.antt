@@ -1,7 +1,7 @@
 use Rattle.std.proofs.Common.{◌∷◌, []}
 use Rattle.lif_outside.proofs.CallLaws.{calls_of}
 use Rattle.lif_outside.specs.Events.{appended, created}
-use Rattle.lif_outside.specs.Runs.{StopsWithin}
+use Rattle.lif_outside.specs.FileCalls.{StopsWithin}
 use Rattle.lif_outside.proofs.SequenceLaws.{stops_here}
 use Rattle.lif_outside.specs.Writes.{writes_of}
 use Rattle.top_base.proofs.Exits.{on_err}

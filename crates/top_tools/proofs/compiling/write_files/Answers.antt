@@ -1,6 +1,6 @@
 use Rattle.std.proofs.Common.{◌++◌, ◌∷◌, [], ap, subst, sym, ◌∙◌}
 use Rattle.lif_outside.proofs.CallLaws.{calls_then, calls_weaker}
-use Rattle.lif_outside.specs.Runs.{StopsWithin}
+use Rattle.lif_outside.specs.FileCalls.{StopsWithin}
 use Rattle.lif_outside.proofs.SequenceLaws.{stops_behind, stops_first}
 use Rattle.lif_outside.specs.Writes.{writes_of}
 use Rattle.top_base.proofs.Exits.{on_err}

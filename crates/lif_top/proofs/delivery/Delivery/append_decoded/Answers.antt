@@ -6,7 +6,7 @@ use Rattle.generation_frame.specs.Blocks.{counted_bytes}
 use Rattle.lif_outside.proofs.CallLaws.{calls_of}
 use Rattle.lif_outside.specs.Events.{Event, appended}
 use Rattle.lif_outside.specs.Moves.{Move}
-use Rattle.lif_outside.specs.Runs.{appends_of}
+use Rattle.lif_outside.specs.FileCalls.{appends_of}
 use Rattle.lif_outside.specs.Sequences.{Are}
 use Rattle.node_states.specs.Decoded.{decoded_of}
 use Rattle.node_stations.specs.Opening.{demand_of}

@@ -3,7 +3,7 @@ use Rattle.std.proofs.Common.{◌≡◌, ◌++◌, ◌∷◌, [], Contains, List
 use Rattle.lif_outside.proofs.CallLaws.{calls_of, calls_then, calls_weaker}
 use Rattle.lif_outside.specs.Events.{Event}
 use Rattle.lif_outside.specs.Moves.{Move}
-use Rattle.lif_outside.specs.Runs.{StopsWithin, appends_of}
+use Rattle.lif_outside.specs.FileCalls.{StopsWithin, appends_of}
 use Rattle.relay_runner.specs.Carried.{HasCarriedBy, packets_given}
 use Rattle.relay_runner.specs.Decoding.{HasDecoded}
 use Rattle.relay_runner.specs.Running.{Running}

@@ -1,7 +1,7 @@
 use Rattle.std.proofs.Common.{Contains, List, ℕ}
 use Rattle.lif_outside.specs.Calls.{MakesCalls}
 use Rattle.lif_outside.specs.Moves.{Move}
-use Rattle.lif_outside.specs.Runs.{appends_of}
+use Rattle.lif_outside.specs.FileCalls.{appends_of}
 use Rattle.lif_outside.specs.Sequences.{Are}
 use Rattle.relay_runner.specs.Carried.{HasCarriedBy, packets_given}
 use Rattle.lif_top.specs.Send.Delivering.{IsStill}

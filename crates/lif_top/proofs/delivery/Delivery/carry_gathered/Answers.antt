@@ -4,7 +4,7 @@ use Rattle.std.specs.List.{concat}
 use Rattle.std.proofs.lemmas.List.{take_at}
 use Rattle.generation_frame.specs.Blocks.{capacity, row_bytes}
 use Rattle.lif_outside.proofs.CallLaws.{both_on_links}
-use Rattle.lif_outside.specs.Runs.{StopsWithin}
+use Rattle.lif_outside.specs.FileCalls.{StopsWithin}
 use Rattle.lif_outside.specs.Sequences.{Are}
 use Rattle.node_program.specs.declared.code.Code.{Code}
 use Rattle.relay_runner.specs.Carried.{IsStopped}

@@ -2,7 +2,7 @@ use Rattle.std.proofs.Common.{◌≡◌, ◌<◌, ◌∷◌, ◌++◌, [], take,
 use Rattle.std.proofs.lemmas.List.{length-map, take_all}
 use Rattle.lif_outside.proofs.CallLaws.{calls_of, calls_then, calls_weaker}
 use Rattle.lif_outside.specs.Events.{created, create_failed}
-use Rattle.lif_outside.specs.Runs.{StopsWithin, creates_of}
+use Rattle.lif_outside.specs.FileCalls.{StopsWithin, creates_of}
 use Rattle.top_base.proofs.Exits.{on_err}
 use Rattle.lif_top.proofs.Turning.{create_stops, created_more, mapped_at}
 use Rattle.lif_top.specs.Send.Ready.{paths_of}

@@ -1,6 +1,6 @@
 use Rattle.std.proofs.Common.{take}
 use Rattle.lif_outside.specs.Calls.{MakesCalls}
-use Rattle.lif_outside.specs.Runs.{creates_of}
+use Rattle.lif_outside.specs.FileCalls.{creates_of}
 use Rattle.lif_outside.specs.Sequences.{Are}
 use Rattle.lif_top.specs.Send.Ready.{paths_of}
 use Rattle.lif_top.proofs.delivery.Delivery.create_outputs.Given as goal

@@ -1,4 +1,4 @@
--- Runs of calls: reads of a whole file, and appends to files.
+-- Calls on files one after another: reads of a whole file, and appends to files.
 use Rattle.std.specs.Prelude.{◌≡◌, ◌<◌, ◌≤◌, ◌+◌, ℕ, List, [], ◌∷◌, ◌++◌, length, map, if◌then◌else◌, Contains}
 use Rattle.std.specs.List.{flat_map}
 use Rattle.std.specs.Str.{bytes_eq}

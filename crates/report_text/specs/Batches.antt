@@ -1,9 +1,9 @@
--- The texts of runs of certificates, put together.
+-- The texts of batches of certificates, put together.
 use Rattle.std.specs.Prelude.{◌≡◌, ℕ, List, [], ◌++◌, All, IsOk, Err, Ok, Result, Vec, flat_map}
 use Rattle.std.specs.Global.{Global}
 use Rattle.std.specs.declared.alloc.AllocError.{AllocError}
 
--- what was made of a run: its text, or none where memory ran out
+-- what was made of a batch: its text, or none where memory ran out
 abbrev pub made_text : Result (Vec ℕ Global) AllocError → List ℕ
 made_text (Ok text) = text.items
 made_text (Err why) = []

@@ -12,7 +12,7 @@ use Rattle.lif_outside.specs.Events.{Event, read, read_failed, created, create_f
 use Rattle.lif_outside.specs.EventLaws.{KeepsPath, happen-split, happens_here, happen_keeping}
 use Rattle.lif_outside.specs.Sequences.{IsFrontOf}
 use Rattle.lif_outside.proofs.SequenceLaws.{all_append, front_none}
-use Rattle.lif_outside.specs.Runs.{AreReadsFrom, bytes_read, ReadsWhole, ReadsToFault, ReadsPastLimit, AreAppendsTo, bytes_appended}
+use Rattle.lif_outside.specs.FileCalls.{AreReadsFrom, bytes_read, ReadsWhole, ReadsToFault, ReadsPastLimit, AreAppendsTo, bytes_appended}
 
 -- one read more
 pub reads_more : (at : ℕ) (path : List ℕ) (events : List Event) (room : ℕ) (bytes : List ℕ) → AreReadsFrom at path events → 0 < length bytes

@@ -1,5 +1,5 @@
 use Rattle.std.specs.Prelude.{◌<◌, ◌+◌, ℕ, [], slice_index_or}
-use Rattle.relay_runner.proofs.decoding.decode_run.Given as goal
+use Rattle.relay_runner.proofs.decoding.decode_batch.Given as goal
 use Rattle.relay_runner.specs.Decoding.{AreDecoded, AreRooms}
 use Rattle.station_table.specs.Table.{sinks_of}
 

@@ -1,6 +1,6 @@
 use Rattle.std.proofs.Common.{arith}
 use Rattle.failure_patterns.proofs.DemandLaws.{few_sinks}
-use Rattle.relay_runner.proofs.decoding.decode_run.Goals as goal
+use Rattle.relay_runner.proofs.decoding.decode_batch.Goals as goal
 
 pub overflow_add-start : goal.overflow_add-start
 overflow_add-start g c =

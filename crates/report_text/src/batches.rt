@@ -1,7 +1,7 @@
-//! The lines of certificates, made in runs side by side.
+//! The lines of certificates, made in batches side by side.
 ghost use Rattle.std.specs.Prelude.{◌≡◌, ◌++◌, ◌≤◌, All, IfOk, flat_map};
 ghost use Rattle.report_text.specs.Report.{IsPrintable, entry_text};
-ghost use Rattle.report_text.specs.Runs.{AreJoined};
+ghost use Rattle.report_text.specs.Batches.{AreJoined};
 
 use crate::report::entry;
 use cut_witness::Cert;
@@ -10,7 +10,7 @@ use std::alloc::{AllocError, Global};
 use std::thread::{Threads, map_chunks};
 
 /// A text with the lines of certificates behind it, those of one after those of another. They are made in at most so many
-/// runs of adjacent certificates, side by side.
+/// batches of adjacent certificates, side by side.
 pub fn with_entries<R: Threads + Sync>(
     rt: &R,
     alloc: Global,
@@ -25,18 +25,18 @@ pub fn with_entries<R: Threads + Sync>(
         ≡ text.items ++ flat_map (entry_text net.now) certs.now) }
 {
     let size = certs.len().div_ceil(workers as usize).max(1);
-    let runs = map_chunks(
+    let batches = map_chunks(
         rt,
         alloc,
         certs,
         size,
-        &|_start: usize, run: &[Cert]| { run_entries(alloc, net, run) },
+        &|_start: usize, batch: &[Cert]| { batch_entries(alloc, net, batch) },
     )?;
-    join(text, runs)
+    join(text, batches)
 }
 
-// The lines of one run of certificates.
-fn run_entries(alloc: Global, net: &Net, certs: &[Cert]) -> Result<Vec<u8>, AllocError>
+// The lines of one batch of certificates.
+fn batch_entries(alloc: Global, net: &Net, certs: &[Cert]) -> Result<Vec<u8>, AllocError>
     requires { All (IsPrintable net.now) certs.now }
     ensures { IfOk result (λ text. text.items ≡ flat_map (entry_text net.now) certs.now) }
 {
@@ -48,12 +48,12 @@ fn run_entries(alloc: Global, net: &Net, certs: &[Cert]) -> Result<Vec<u8>, Allo
     Ok(text)
 }
 
-// A text with those of all runs behind it, in their order.
-fn join(text: Vec<u8>, runs: Vec<Result<Vec<u8>, AllocError>>) -> Result<Vec<u8>, AllocError>
-    ensures { IfOk result (λ whole. AreJoined text.items runs.items whole.items) }
+// A text with those of all batches behind it, in their order.
+fn join(text: Vec<u8>, batches: Vec<Result<Vec<u8>, AllocError>>) -> Result<Vec<u8>, AllocError>
+    ensures { IfOk result (λ whole. AreJoined text.items batches.items whole.items) }
 {
     let mut whole = text;
-    for lines in runs {
+    for lines in batches {
         whole.append(&mut lines?)?;
     }
     Ok(whole)
