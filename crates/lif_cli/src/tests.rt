@@ -8,7 +8,7 @@ mod words;
 
 use crate::disk::FileStore;
 use crate::run::{Words, run};
-use lif_outside::{MemSink, SeedLinks};
+use lif_outside::{MemSink, SeedLinks, Store};
 use logged_store::{Event, Logged};
 use std::alloc::{AllocError, Global};
 use std::process::ExitCode;
@@ -36,6 +36,10 @@ const SOURCE: &str = "logged-run-test/source";
 const PREFIX: &str = "logged-run-test/out";
 
 const OUTPUT: &str = "logged-run-test/out.t";
+
+const WORDS: &[&str] = &["send", CODE, "none", "1", SOURCE, PREFIX];
+
+const SENT: &[u8] = b"sent 70000 bytes in 69 generations to 1 sinks\n";
 
 /// Bytes of which neighbours differ, and those at the same place of two pages.
 pub fn varied_bytes(alloc: Global, count: usize) -> Result<Vec<u8>, AllocError>
@@ -184,7 +188,28 @@ fn has_delivered(store: &Logged<FileStore<HostRuntime>>, source: &[u8]) -> bool 
     store.is_whole() && is_delivery(store.log(), ONE_LINK, source)
 }
 
-// Whether a run sends the source by the promised calls on the disk, and says so.
+/// Runs the words over a store, and answers the status. What it says goes to `say`.
+pub fn run_over<R: Threads + Sync, S: Store>(
+    rt: &R,
+    alloc: Global,
+    words: Words,
+    store: &mut S,
+    say: &mut MemSink,
+) -> ExitCode {
+    run(rt, alloc, words, store, say, &mut SeedLinks::new(alloc))
+}
+
+// Whether a run that ended so sent the source by the promised calls on the disk, and said so.
+fn has_sent(
+    status: ExitCode,
+    store: &Logged<FileStore<HostRuntime>>,
+    say: &MemSink,
+    source: &[u8],
+) -> bool {
+    status == ExitCode::SUCCESS && say.bytes() == SENT && has_delivered(store, source)
+}
+
+// Whether a run sends the source so.
 fn sends<R: Threads + Sync>(
     rt: &R,
     alloc: Global,
@@ -194,20 +219,23 @@ fn sends<R: Threads + Sync>(
 ) -> bool {
     let mut store = Logged::new(alloc, disk);
     let mut say = MemSink::new(alloc, Vec::new(alloc));
-    let mut links = SeedLinks::new(alloc);
-    let status = run(rt, alloc, words, &mut store, &mut say, &mut links);
-    status == ExitCode::SUCCESS
-        && say.bytes() == b"sent 70000 bytes in 69 generations to 1 sinks\n".as_slice()
-        && has_delivered(&store, source)
+    let status = run_over(rt, alloc, words, &mut store, &mut say);
+    has_sent(status, &store, &say, source)
+}
+
+// Whether a source that lies in a folder of its own is sent so, and comes to the output alone.
+fn is_sent<R: Threads + Sync>(rt: &R, host: &HostRuntime, source: &[u8]) -> io::Result<bool> {
+    if !make_folder(host, source)? {
+        return Ok(false);
+    }
+    let words = words_of(host.alloc(), WORDS)?;
+    Ok(sends(rt, host.alloc(), words, FileStore::new(host), source) && has_output(host, source)?)
 }
 
 #[test]
 fn a_run_makes_the_promised_calls(rt: HostRuntime) -> Result<(), Fail> {
     let source = varied_bytes(rt.alloc(), 70_000)?;
-    assert!(rt; make_folder(&rt, &source)?);
-    let words = words_of(rt.alloc(), &["send", CODE, "none", "1", SOURCE, PREFIX])?;
-    assert!(rt; sends(&rt, rt.alloc(), words, FileStore::new(&rt), &source));
-    assert!(rt; has_output(&rt, &source)?, "the output isn't the source");
+    assert!(rt; is_sent(&rt, &rt, &source)?);
     fs::remove_dir_all(&rt, FOLDER)?;
     Ok(())
 }

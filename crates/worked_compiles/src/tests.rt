@@ -8,11 +8,12 @@ mod rates;
 mod sizes;
 mod written;
 
-use lif_outside::{Fail, MemSink, MemStore, NoGate, SeedLinks};
-use lif_top::{Status, lif};
+use lif_outside::{Fail, MemSink, MemStore};
+use lif_top::Status;
 use std::alloc::{AllocError, Global};
 use std::thread::Threads;
 use worked_rows::runs::words_of;
+use worked_runs::calls::call;
 
 const COMPILE: &[&str] = &["compile", "net", "code", "report"];
 
@@ -120,18 +121,6 @@ fn has_neither(store: &MemStore) -> bool {
 // Whether a store has this text at `net`, and neither a code nor a report.
 fn has_only(store: &MemStore, text: &[u8]) -> bool {
     has(store, "net", text) && has_neither(store)
-}
-
-// The top call alone: what it promises is proved, and the tests look at what comes of it.
-fn call<R: Threads + Sync>(
-    rt: &R,
-    alloc: Global,
-    words: &[String],
-    store: &mut MemStore,
-    say: &mut MemSink,
-) -> Status {
-    let mut links = SeedLinks::new(alloc);
-    lif(rt, alloc, words, store, say, &mut links, &NoGate)
 }
 
 // The number of the status with which these words end.

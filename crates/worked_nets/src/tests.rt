@@ -3,13 +3,14 @@ mod cuts;
 mod orders;
 mod sizes;
 
-use lif_outside::{Call, Fail, MemSink, MemStore, NoGate, SeedLinks};
-use lif_top::{Status, lif};
+use lif_outside::{Call, Fail, MemSink, MemStore};
+use lif_top::Status;
 use std::alloc::{AllocError, Global};
 use std::process::Abort;
 use std::test;
 use std::thread::Threads;
 use worked_rows::runs::{reads_of, words_of};
+use worked_runs::calls::call;
 
 // A command on the text at the path `net`, and what it says.
 #[derive(Clone, Copy)]
@@ -33,18 +34,6 @@ fn well<'a>(command: &'a str, text: &'a [u8], line: &'a [u8]) -> Run<'a> {
         failing_put: 0,
         line,
     }
-}
-
-// The top call alone: what it promises is proved, and the tests look at what comes of it.
-fn call<R: Threads + Sync>(
-    rt: &R,
-    alloc: Global,
-    words: &[String],
-    store: &mut MemStore,
-    say: &mut MemSink,
-) -> Status {
-    let mut links = SeedLinks::new(alloc);
-    lif(rt, alloc, words, store, say, &mut links, &NoGate)
 }
 
 fn failing_reads(alloc: Global, nth: u64) -> Result<Vec<Fail>, AllocError> {

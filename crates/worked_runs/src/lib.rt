@@ -1,8 +1,9 @@
 //! Worked examples: `check` and `send` over objects in memory.
 //!
-//! Begin with `Run` in src/tests.rt: words and files, and how the run ends, what it says, and what stands at the
-//! paths then. `refusals` has each refusal of a code file, `faults` each call of the store that may fail.
+//! `calls` has the top call over objects in memory, as the crates of tests above make it too. Begin with `Run` in
+//! src/tests.rt: words and files, and how the run ends, what it says, and what stands at the paths then.
 #![tactic(auto)]
 
+pub mod calls;
 #[cfg(test)]
 mod tests;

@@ -15,8 +15,9 @@ mod saying;
 mod wide_field;
 mod words;
 
-use lif_outside::{Fail, MemSink, MemStore, NoGate, SeedLinks};
-use lif_top::{CodeRefusal, Status, lif};
+use crate::calls::call;
+use lif_outside::{Fail, MemSink, MemStore};
+use lif_top::{CodeRefusal, Status};
 use std::alloc::{AllocError, Global};
 use std::process::Abort;
 use std::test;
@@ -157,18 +158,6 @@ fn changed(alloc: Global, file: &[u8], at: usize, put: &[u8]) -> Result<Vec<u8>,
     bytes.extend_from_slice(put)?;
     bytes.extend_from_slice(file.get(bytes.len()..).unwrap_or_default())?;
     Ok(bytes)
-}
-
-// The top call alone: what it promises is proved, and the tests look at what comes of it.
-fn call<R: Threads + Sync>(
-    rt: &R,
-    alloc: Global,
-    words: &[String],
-    store: &mut MemStore,
-    say: &mut MemSink,
-) -> Status {
-    let mut links = SeedLinks::new(alloc);
-    lif(rt, alloc, words, store, say, &mut links, &NoGate)
 }
 
 // The words of a line, which have a space between each two.

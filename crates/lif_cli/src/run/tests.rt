@@ -1,7 +1,13 @@
 //! What no clause says: the exit status as a value, and that nothing but the line comes of words that can't be had.
 use super::*;
-use lif_outside::{MemSink, MemStore, SeedLinks};
+use crate::tests::run_over;
+use lif_outside::{MemSink, MemStore};
 use logged_store::Logged;
+
+// Whether this line was said, and no call made on the store.
+fn said_alone(store: &Logged<MemStore>, say: &MemSink, line: &[u8]) -> bool {
+    say.bytes() == line && store.is_whole() && store.log().is_empty()
+}
 
 // Whether a run with words that can't be had ends with this number, says this line, and does nothing else.
 fn says_alone<R: Threads + Sync>(
@@ -13,12 +19,8 @@ fn says_alone<R: Threads + Sync>(
 ) -> bool {
     let mut store = Logged::new(alloc, MemStore::new(alloc, 100, Vec::new(alloc)));
     let mut say = MemSink::new(alloc, Vec::new(alloc));
-    let mut links = SeedLinks::new(alloc);
-    let code = run(rt, alloc, words, &mut store, &mut say, &mut links);
-    code == ExitCode::from(number)
-        && say.bytes() == line
-        && store.is_whole()
-        && store.log().is_empty()
+    let code = run_over(rt, alloc, words, &mut store, &mut say);
+    code == ExitCode::from(number) && said_alone(&store, &say, line)
 }
 
 #[test]

@@ -1,10 +1,10 @@
 //! Whole runs over files in memory, of which each call fails in turn: the calls on the store are those of the run in
 //! which none fails, up to the one that failed, and nothing comes behind that.
 use super::memory::MemFiles;
-use super::{behind_reads, is_stream, varied_bytes, words_of};
+use super::{behind_reads, is_stream, run_over, varied_bytes, words_of};
 use crate::disk::FileStore;
-use crate::run::{Words, run};
-use lif_outside::{MemSink, SeedLinks};
+use crate::run::Words;
+use lif_outside::MemSink;
 use logged_store::{Event, Logged};
 use std::alloc::Global;
 use std::io;
@@ -131,17 +131,6 @@ fn system(alloc: Global, failing: u64, handles: usize, source: &[u8]) -> io::Res
 // Whether each sink's file holds the source, or a front of it where it needn't be whole.
 fn has_files(files: &MemFiles, source: &[u8], whole: bool) -> bool {
     files.holds("out.t1", source, whole) && files.holds("out.t2", source, whole)
-}
-
-// Runs the words over a system, and answers the status. What it does and says goes to the store and to `say`.
-fn run_over<R: Threads + Sync>(
-    rt: &R,
-    alloc: Global,
-    words: Words,
-    store: &mut Logged<FileStore<'_, MemFiles>>,
-    say: &mut MemSink,
-) -> ExitCode {
-    run(rt, alloc, words, store, say, &mut SeedLinks::new(alloc))
 }
 
 // Whether a run over a system with these files ended as a whole one, up to a call that failed.

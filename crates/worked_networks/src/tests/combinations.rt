@@ -2,6 +2,7 @@
 use net_maker::{combination, demo_fits, source_byte};
 use net_model::Net;
 use std::alloc::Global;
+use worked_rows::networks::{has_links, has_nodes};
 
 // The nodes of the network with a sink behind each two of four.
 const NODES: &[&[u8]] = &[
@@ -40,32 +41,6 @@ fn made(alloc: Global, n: u32, k: u32) -> Option<Net> {
 // How many nodes, links and sinks there are.
 fn counts(net: &Net) -> (usize, usize, usize) {
     (net.nodes.len(), net.links.len(), net.sinks.len())
-}
-
-fn has_nodes(net: &Net, names: &[&[u8]]) -> bool {
-    for (place, name) in names.iter().enumerate() {
-        if place >= net.nodes.len() || net.nodes.at(place).bytes() != *name {
-            return false;
-        }
-    }
-    net.nodes.len() == names.len()
-}
-
-fn is_link(net: &Net, place: usize, name: &[u8], tail: u32, head: u32) -> bool {
-    if place >= net.links.len() {
-        return false;
-    }
-    let link = net.links.at(place);
-    link.name.bytes() == name && link.tail == tail && link.head == head
-}
-
-fn has_links(net: &Net, links: &[(&[u8], u32, u32)]) -> bool {
-    for (place, &(name, tail, head)) in links.iter().enumerate() {
-        if !is_link(net, place, name, tail, head) {
-            return false;
-        }
-    }
-    net.links.len() == links.len()
 }
 
 fn has_parts(net: &Net) -> bool {

@@ -1,5 +1,6 @@
 //! Texts of networks, and the parts of the networks that they stand for.
 use super::network_texts::{HEAD, net_of};
+use crate::networks::{has_links, has_nodes};
 use crate::texts::{BUTTERFLY_TEXT, ONE_LINK_TEXT};
 use net_model::{FieldChoice, Net};
 use std::alloc::Global;
@@ -103,36 +104,6 @@ const UNUSUAL: &[Good] = &[
         field: FieldChoice::Any,
     },
 ];
-
-fn is_node(net: &Net, place: usize, name: &[u8]) -> bool {
-    place < net.nodes.len() && net.nodes.at(place).bytes() == name
-}
-
-fn has_nodes(net: &Net, names: &[&[u8]]) -> bool {
-    for (place, name) in names.iter().enumerate() {
-        if !is_node(net, place, name) {
-            return false;
-        }
-    }
-    net.nodes.len() == names.len()
-}
-
-fn is_link(net: &Net, place: usize, name: &[u8], tail: u32, head: u32) -> bool {
-    if place >= net.links.len() {
-        return false;
-    }
-    let link = net.links.at(place);
-    link.name.bytes() == name && link.tail == tail && link.head == head
-}
-
-fn has_links(net: &Net, links: &[(&[u8], u32, u32)]) -> bool {
-    for (place, &(name, tail, head)) in links.iter().enumerate() {
-        if !is_link(net, place, name, tail, head) {
-            return false;
-        }
-    }
-    net.links.len() == links.len()
-}
 
 fn is_pattern(net: &Net, place: usize, name: &[u8], links: &[u32]) -> bool {
     if place >= net.patterns.len() {

@@ -1,7 +1,7 @@
 //! With which number the links are opened, and which commands leave them alone.
 ghost use Rattle.std.specs.Prelude.{◌≡◌, []};
 
-use super::sending::{ONE_BYTE_LINE, SEND, ends, store_of};
+use super::sending::{ONE_BYTE_LINE, SEND, store_of};
 use lif_outside::{Links, MemStore, SeedLinks};
 use std::alloc::Global;
 use std::test;
@@ -9,6 +9,7 @@ use std::thread::Threads;
 use worked_rows::files::{BUTTERFLY, ONE_LINK};
 use worked_rows::texts::BUTTERFLY_TEXT;
 use worked_rows::watched::{Calls, Watched, watch};
+use worked_runs::calls::ends_over;
 
 // How often links are opened and with what last, and how often a pair is put on them and asked for.
 type Counts = (u32, Option<(u64, u32)>, usize, u32);
@@ -29,7 +30,7 @@ fn counts_over<R: Threads + Sync, K: Links>(
 ) -> Option<Counts>
     requires { K.flying links.old.links ≡ [] }
 {
-    let is_ended = ends(rt, alloc, words, store, links, status, line)?;
+    let is_ended = ends_over(rt, alloc, words, store, links, status, line)?;
     is_ended.then_some(counts(&links.calls))
 }
 

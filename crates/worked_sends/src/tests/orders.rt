@@ -1,5 +1,5 @@
 //! The order in which links give what flies.
-use super::sending::{SEND, Sending, TWO_SINKS, ends, is_sent, puts_of};
+use super::sending::{SEND, Sending, TWO_SINKS, is_sent, puts_of};
 use lif_outside::{Flight, MemStore, SeedLinks};
 use std::alloc::Global;
 use std::test;
@@ -7,6 +7,7 @@ use std::thread::Threads;
 use worked_rows::files::BUTTERFLY;
 use worked_rows::orders::listed;
 use worked_rows::runs::source_of;
+use worked_runs::calls::ends_over;
 
 /// Four middle nodes, with a sink behind each two of them.
 pub(super) const COMBINATION_TEXT: &[u8] = b"source s\n\
@@ -47,7 +48,7 @@ fn compiles<R: Threads + Sync>(
 ) -> Option<bool> {
     let words = &["compile", "net", "code", "report"];
     let mut links = SeedLinks::new(alloc);
-    ends(rt, alloc, words, store, &mut links, 0, line)
+    ends_over(rt, alloc, words, store, &mut links, 0, line)
 }
 
 // The code that is made in a store of a text.

@@ -3,7 +3,7 @@ ghost use Rattle.std.specs.Prelude.{◌≡◌, []};
 ghost use Rattle.lif_outside.specs.Listed.{held_in};
 
 use super::model::{Carried, Model, Plan, Taker};
-use super::sending::{SEND, has, status_of, store_of};
+use super::sending::{SEND, has, store_of};
 use lif_outside::{Flight, ListLinks, MemSink, MemStore, Spoil};
 use std::alloc::{AllocError, Global};
 use std::test;
@@ -13,6 +13,7 @@ use worked_rows::files::{BUTTERFLY, TWO_WAYS};
 use worked_rows::orders::{Script, hostile};
 use worked_rows::runs::source_of;
 use worked_rows::watched::{Calls, Watched, watch};
+use worked_runs::calls::status_over;
 
 const BUTTERFLY_PLAN: Plan = Plan {
     file: BUTTERFLY,
@@ -274,7 +275,7 @@ fn ends_as_modelled<R: Threads + Sync>(
     requires { (held_in links.old.links).flying ≡ [] }
 {
     let mut say = MemSink::new(alloc, Vec::new(alloc));
-    let status = status_of(rt, alloc, SEND, store, links, &mut say)?;
+    let status = status_over(rt, alloc, SEND, store, links, &mut say)?;
     is_as_modelled(alloc, run, store, &links.calls, status, say.bytes())
 }
 

@@ -1,13 +1,12 @@
 //! Runs of the program over links of any kind.
 ghost use Rattle.std.specs.Prelude.{◌≡◌, []};
 
-use lif_outside::{Fail, Flight, Links, MemSink, MemStore, NoGate, SeedLinks};
-use lif_top::lif;
+use lif_outside::{Fail, Flight, Links, MemStore, SeedLinks};
 use std::alloc::Global;
 use std::thread::Threads;
 use worked_rows::files::{BUTTERFLY, ONE_LINK};
-use worked_rows::runs::words_of;
 use worked_rows::watched::{Watched, watch};
+use worked_runs::calls::ends_over;
 
 /// A source that is sent through a code, at which paths it comes out, and what is said then.
 #[derive(Clone, Copy)]
@@ -89,38 +88,6 @@ pub(super) fn all_have(store: &MemStore, paths: &[&str], bytes: &[u8]) -> bool {
     true
 }
 
-/// The number of the status with which a run ends. What it says goes to `say`.
-pub(super) fn status_of<R: Threads + Sync, K: Links>(
-    rt: &R,
-    alloc: Global,
-    words: &[&str],
-    store: &mut MemStore,
-    links: &mut K,
-    say: &mut MemSink,
-) -> Option<u8>
-    requires { K.flying links.old ≡ [] }
-{
-    let words = words_of(alloc, words).ok()?;
-    Some(lif(rt, alloc, &words, store, say, links, &NoGate).code())
-}
-
-/// Whether a run ends with the status of this number and says this line.
-pub(super) fn ends<R: Threads + Sync, K: Links>(
-    rt: &R,
-    alloc: Global,
-    words: &[&str],
-    store: &mut MemStore,
-    links: &mut K,
-    status: u8,
-    line: &str,
-) -> Option<bool>
-    requires { K.flying links.old ≡ [] }
-{
-    let mut say = MemSink::new(alloc, Vec::new(alloc));
-    let number = status_of(rt, alloc, words, store, links, &mut say)?;
-    Some(number == status && say.bytes() == line.as_bytes())
-}
-
 /// Whether a source is sent from a store, and each output has these bytes then, where it ends with the status of this number.
 pub(super) fn brings<R: Threads + Sync, K: Links>(
     rt: &R,
@@ -133,7 +100,7 @@ pub(super) fn brings<R: Threads + Sync, K: Links>(
 ) -> Option<bool>
     requires { K.flying links.old ≡ [] }
 {
-    let is_ended = ends(rt, alloc, sending.words, store, links, status, sending.line)?;
+    let is_ended = ends_over(rt, alloc, sending.words, store, links, status, sending.line)?;
     Some(is_ended && all_have(store, sending.outputs, bytes))
 }
 
