@@ -3,6 +3,12 @@ ghost use Rattle.std.specs.Prelude.{◌≡◌, ◌<◌, ◌≤◌, ◌+◌, ◌*
 ghost use Rattle.generation_frame.specs.Blocks.{most_blocks, pieces, row_bytes};
 ghost use Rattle.generation_frame.specs.Frames.{accepted};
 ghost use Rattle.gf_tables.specs.Kind.{IsOfKind};
+ghost use Rattle.net_model.specs.Limits.{most_links};
+ghost use Rattle.node_plans.specs.Plans.{IsPlan, input_count, plan_of, sums_of};
+ghost use Rattle.node_plans.specs.Wired.{HasPlaces, IsWiringOf};
+ghost use Rattle.due_sums.specs.Waiting.{AreSums};
+ghost use Rattle.relay_node.specs.Relay.{IsNode};
+ghost use Rattle.relay_node.specs.Summands.{summands_of};
 ghost use Rattle.std.specs.Arc.{arc_value};
 
 use crate::feeding::take_rows;
@@ -14,6 +20,7 @@ use field_rows::RowTables;
 use generation_frame::{Accepted, MOST_BLOCKS, Packet};
 use gf_tables::Field;
 use node_plans::{PlaceTable, Plan, Wiring, sum_table};
+use node_program::Code;
 use std::alloc::{AllocError, Global};
 use std::marker::{Model, PhantomData};
 use std::sync::Arc;
@@ -47,6 +54,54 @@ impl<F> Model for Node<F> {
 
     ghost invariant = { λ n. IsNode n.plan (arc_value n.places) n.first n.count n.sums
         × (n.summands ≡ summands_of n.plan) };
+}
+
+// What waits for the sums of a plan, before any generation, and the summands of each.
+fn work_of(alloc: Global, plan: &Plan, places: &[u32]) -> Result<(DueSums, Summands), AllocError>
+    requires plan { IsPlan plan.now }
+    requires places { HasPlaces plan.now places.now }
+    requires sums { AreSums (input_count plan.now) (sums_of plan.now) }
+    requires few_links { length plan.now.ins ≤ most_links }
+    ensures node { IfOk result (λ work. IsNode plan.now places.now 0 0 work.0) }
+    ensures summands { IfOk result (λ work. work.1 ≡ summands_of plan.now) }
+{
+    let sums = sum_table(alloc, plan, places)?;
+    let sums = DueSums::new(alloc, plan.input_count(), sums, MOST_BLOCKS)?;
+    let summands = Summands::of(alloc, plan, sums.sums())?;
+    Ok((sums, summands))
+}
+
+// The plan of a node, with what waits for its sums and the summands of each.
+fn planned(
+    alloc: Global,
+    code: &Code,
+    pattern: u32,
+    node: u32,
+    wiring: &Wiring,
+) -> Result<(Plan, DueSums, Summands), AllocError>
+    requires pattern { pattern < length code.now.net.patterns }
+    requires node { node < length code.now.net.nodes }
+    requires wiring { IsWiringOf code.now pattern wiring.now }
+    ensures plan { IfOk result (λ all. all.0 ≡ plan_of code.now pattern node) }
+    ensures node { IfOk result (λ all. IsNode all.0 wiring.now.places 0 0 all.1) }
+    ensures summands { IfOk result (λ all. all.2 ≡ summands_of all.0) }
+{
+    let plan = wiring.plan(alloc, code, pattern, node)?;
+    let (sums, summands) = work_of(alloc, &plan, wiring.places().as_slice())?;
+    Ok((plan, sums, summands))
+}
+
+// The tables that all nodes of a code share, once more.
+fn shared(
+    places: &Arc<PlaceTable>,
+    tables: &Arc<RowTables>,
+) -> Result<(Arc<PlaceTable>, Arc<RowTables>), AllocError>
+    ensures places { IfOk result (λ both. arc_value both.0 ≡ arc_value places.now) }
+    ensures tables { IfOk result (λ both. arc_value both.1 ≡ arc_value tables.now) }
+{
+    let places = places.clone()?;
+    let tables = tables.clone()?;
+    Ok((places, tables))
 }
 
 impl<F: Field> Node<F> {
@@ -91,14 +146,12 @@ impl<F: Field> Node<F> {
         ensures plan { IfOk result (λ opened. opened.plan ≡ plan_of code.now pattern node) }
         ensures count { IfOk result (λ opened. opened.count ≡ 0) }
     {
-        let plan = wiring.plan(alloc, code.code(), pattern, node)?;
-        let sums = sum_table(alloc, &plan, wiring.places().as_slice())?;
-        let sums = DueSums::new(alloc, plan.input_count(), sums, MOST_BLOCKS)?;
-        let summands = Summands::of(alloc, &plan, sums.sums())?;
+        let (places, tables) = shared(wiring.places(), tables)?;
+        let (plan, sums, summands) = planned(alloc, code.code(), pattern, node, wiring)?;
         Ok(Node {
             plan,
-            places: wiring.places().clone()?,
-            tables: tables.clone()?,
+            places,
+            tables,
             first: 0,
             count: 0,
             sums,

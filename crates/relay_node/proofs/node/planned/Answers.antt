@@ -6,11 +6,11 @@ use Rattle.node_plans.specs.declared.plan.Plan.{Plan}
 use Rattle.node_program.specs.declared.code.Code.{Code}
 use Rattle.std.proofs.lemmas.List.FromFn.{length-range_with_len}
 use Rattle.node_plans.proofs.ListLaws.{length-filter-le}
-use Rattle.relay_node.proofs.node.Node.open_with.Goals as goal
+use Rattle.relay_node.proofs.node.planned.Goals as goal
 
-pub input_count-requires : goal.input_count-requires
-input_count-requires g c =
-    let code : Code = c.code.result.now in
+pub work_of-requires-clause-few_links : goal.work_of-requires-clause-few_links
+work_of-requires-clause-few_links c =
+    let code : Code = c.args.code.now in
     let same : length c.in_ok-plan.plan.ins ≡ length (ins_of code c.args.pattern c.args.node) = ap (λ (plan : Plan). length plan.ins) c.in_ok-plan.ensures.value in
     let few : length (ins_of code c.args.pattern c.args.node) ≤ length (range_with_len 0 (length code.net.links)) =
     length-filter-le _ (range_with_len 0 (length code.net.links)) in
