@@ -63,6 +63,10 @@ module _ (lower lower' : List ℕ) (bit bit' : ℕ → ℕ) (word : ℕ) (tells 
 pub none_told : (words : List ℕ) (bit : ℕ → ℕ) (word : ℕ) → Tells words bit → bit word ≡ 0 → slice_index_or words word 0 ≡ 0
 none_told words bit word tells cleared = none_from_min _ (sym (tells word) ∙ cleared)
 
+-- the level above tells of a number's word
+pub told : (words : List ℕ) (bit : ℕ → ℕ) (number : ℕ) → Tells words bit → bit_of words number ≡ 1 → bit (number / 64) ≡ 1
+told words bit number tells within = tells (number / 64) ∙ sym (min_some _ (some_from_bit _ (number % 64) within))
+
 -- a set has no number below its least one, nor any where that is too great to be one
 pub none_below : (least : ℕ) (words : List ℕ) → HasLeast least words → (other : ℕ) → other < least → bit_of words other ≡ 0
 none_below least words has other less = elim (cases_lt least most) [
