@@ -1,5 +1,5 @@
 -- What has to be known of a command that reads one input and says what it finds.
-use Rattle.std.specs.Prelude.{◌≡◌, ◌≢◌, ◌⊎◌, ℕ, List, false, Ok, Err, IsTrue, IsFalse}
+use Rattle.std.specs.Prelude.{◌≢◌, ◌⊎◌, ℕ, List, Ok, Err, IsTrue, IsFalse}
 use Rattle.std.proofs.Common.{refl, sym, ap, ◌∙◌, ⊎_elim}
 use Rattle.std.proofs.lemmas.Bool.{false≢true}
 use Rattle.lif_outside.proofs.CallLaws.{calls_weaker}

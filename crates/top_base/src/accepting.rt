@@ -4,7 +4,7 @@ ghost use Rattle.lif_outside.specs.Calls.{MakesCalls};
 ghost use Rattle.code_checker.specs.Checking.{IsRefusal};
 ghost use Rattle.code_file.specs.Items.{bytes_of};
 ghost use Rattle.code_file.specs.Limits.{code_limit};
-ghost use Rattle.top_base.specs.Accepting.{RefusesCodeOrLosesIt, ReadsCode};
+ghost use Rattle.top_base.specs.Accepting.{IsCodeOf, RefusesCodeOrLosesIt, ReadsCode};
 
 use crate::lines::Line;
 use crate::outcome::Outcome;
@@ -57,6 +57,24 @@ fn unaccepted<'a>(refused: &Refused) -> Outcome<'a>
     }
 }
 
+// The code whose file the bytes are, checked.
+fn accept<'a, G: Gate + Sync, R: Threads + Sync>(
+    rt: &R,
+    alloc: Global,
+    bytes: &[u8],
+    gate: &G,
+) -> Result<Checked, Outcome<'a>>
+    requires { length bytes.now ≤ code_limit }
+    ensures code { IfOk result (λ checked. IsCodeOf bytes.now checked) }
+    ensures refused { IfErr result (λ outcome. RefusesCodeOrLosesIt bytes.now outcome) }
+{
+    let code = parse(alloc, bytes)?;
+    match check(rt, alloc, code, gate) {
+        Ok(checked) => Ok(checked),
+        Err(refused) => Err(unaccepted(&refused)),
+    }
+}
+
 /// Reads the code at a path, and checks it.
 pub fn read_accepted<'a, S: Store, G: Gate + Sync, R: Threads + Sync>(
     rt: &R,
@@ -71,9 +89,5 @@ pub fn read_accepted<'a, S: Store, G: Gate + Sync, R: Threads + Sync>(
         (λ outcome. MakesCalls S.Store store.old store.new (ReadsCode path.now (Err outcome))) }
 {
     let bytes = read_whole(store, path, CODE_LIMIT, Vec::new(alloc))?;
-    let code = parse(alloc, &bytes)?;
-    match check(rt, alloc, code, gate) {
-        Ok(checked) => Ok(checked),
-        Err(refused) => Err(unaccepted(&refused)),
-    }
+    accept(rt, alloc, &bytes, gate)
 }
