@@ -1,6 +1,8 @@
 //! Worked examples that are run, by subject.
 mod certificates;
+mod combinations;
 mod counting;
+mod demands;
 mod flows;
 mod networks;
 mod orders;

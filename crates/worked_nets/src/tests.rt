@@ -1,5 +1,6 @@
-//! How a command that takes a network ends, and what it says.
+//! How a command that takes or makes a network ends, and what it says.
 mod cuts;
+mod demos;
 mod orders;
 mod sizes;
 

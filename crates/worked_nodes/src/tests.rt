@@ -1,10 +1,13 @@
-//! Nodes and sinks that are fed by hand, with no runner: what they give, and what comes of it.
+//! Frames, rows and sums, and nodes and sinks that are fed by hand, with no runner: what they give, and what comes of it.
 mod codes;
 mod failed_links;
+mod frames;
 mod hands;
 mod links;
 mod many_links;
 mod repeats;
+mod rows;
 mod runs;
+mod sums;
 mod told;
 mod windows;

@@ -1,6 +1,6 @@
 use Rattle.std.proofs.Common.{◌≡◌, length}
 use Rattle.due_sums.specs.Waiting.{Waiting}
-use Rattle.worked_frames.proofs.tests.sums.sums_are_due_by_number_and_piece.Given as goal
+use Rattle.worked_nodes.proofs.tests.sums.sums_are_due_by_number_and_piece.Given as goal
 
 -- three inputs and two generations
 abbrev pub IsWork : Waiting → Type 0

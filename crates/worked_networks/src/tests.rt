@@ -1,3 +1,0 @@
-//! Worked examples that are run, by subject.
-mod combinations;
-mod demands;
