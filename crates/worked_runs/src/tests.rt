@@ -1,5 +1,6 @@
 //! The top call over objects in memory: how a run ends, what it says, and what stands at the paths then.
 mod coefficients;
+mod demos;
 mod faults;
 mod lengths;
 mod making;
@@ -7,6 +8,7 @@ mod many_demands;
 mod many_links;
 mod many_rows;
 mod many_sinks;
+mod networks;
 mod numbers;
 mod paths;
 mod patterns;

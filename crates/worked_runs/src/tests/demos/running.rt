@@ -1,10 +1,10 @@
 //! Runs of `demo`.
 ghost use Rattle.std.specs.Prelude.{◌≡◌, []};
 
+use crate::calls::ends_over;
 use lif_outside::{Call, Fail, Links, MemStore, SeedLinks};
 use std::alloc::Global;
 use std::thread::Threads;
-use worked_runs::calls::ends_over;
 
 // The first read, of which nothing is kept.
 const FIRST_READ: Fail = Fail {

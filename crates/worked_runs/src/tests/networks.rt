@@ -1,9 +1,9 @@
-//! How a command that takes or makes a network ends, and what it says.
+//! How a command that takes a network ends, and what it says.
 mod cuts;
-mod demos;
 mod orders;
 mod sizes;
 
+use crate::calls::call;
 use lif_outside::{Call, Fail, MemSink, MemStore};
 use lif_top::Status;
 use std::alloc::{AllocError, Global};
@@ -11,7 +11,6 @@ use std::process::Abort;
 use std::test;
 use std::thread::Threads;
 use worked_rows::runs::{reads_of, words_of};
-use worked_runs::calls::call;
 
 // A command on the text at the path `net`, and what it says.
 #[derive(Clone, Copy)]
