@@ -5,6 +5,7 @@ pub mod TextLaws
 pub mod Distinct
 pub mod EachLine
 pub mod Faults
+pub mod Listed
 pub mod Marked
 pub mod Numbers
 pub mod Pushes

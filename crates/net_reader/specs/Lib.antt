@@ -1,4 +1,5 @@
 pub mod Added
+pub mod Fresh
 pub mod Gives
 pub mod Lines
 pub mod Marks

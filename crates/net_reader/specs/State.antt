@@ -6,7 +6,7 @@ use Rattle.net_reader.specs.declared.state.State.{State}
 use Rattle.net_reader.specs.Gives.{Gives}
 use Rattle.net_reader.specs.Said.{statement_in}
 use Rattle.net_reader.specs.Statements.{Statement, Heard, field_bits, faults_of, link_names, nodes_of, pattern_names, refused_first, sink_names, source_names, read_line, read_words}
-use Rattle.net_reader.specs.Text.{and_then}
+use Rattle.net_reader.specs.Text.{and_then, read_lines}
 
 -- the statements of a state
 abbrev pub said_in : State → List Statement
@@ -63,3 +63,7 @@ AddsWords result old new line words =
 abbrev pub AddsLine : {X : Type 0} → Result X ReadRefusal → State → State → ℕ → List ℕ → Type 0
 AddsLine result old new line bytes =
     Gives (λ _. said_in new) result (with_line (said_in old) line bytes)
+
+-- the same of lines, the first of which has the number 1
+abbrev pub AddsLines : {X : Type 0} → Result X ReadRefusal → State → State → List (List ℕ) → Type 0
+AddsLines result old new lines = Gives (λ _. said_in new) result (read_lines (said_in old) 1 lines)

@@ -1,13 +1,12 @@
 //! The lines of a text, one after another.
-ghost use Rattle.std.specs.Prelude.{◌≡◌, [], OnOk, IfOk};
-ghost use Rattle.net_reader.specs.Gives.{Gives};
+ghost use Rattle.std.specs.Prelude.{◌≡◌, OnOk};
+ghost use Rattle.net_reader.specs.Lines.{lines_of};
 ghost use Rattle.net_reader.specs.Said.{statement_in};
-ghost use Rattle.net_reader.specs.State.{said_in, IsState, Checks, Notes, Adds, AddsWords, AddsLine};
-ghost use Rattle.net_reader.specs.Text.{read_lines};
+ghost use Rattle.net_reader.specs.State.{IsState, Checks, Notes, Adds, AddsWords, AddsLine, AddsLines};
 ghost use Rattle.net_reader.specs.Words.{texts_of};
 
 use crate::ReadRefusal;
-use crate::lines::{are_text, content_of, words_of};
+use crate::lines::{are_text, content_of, lines_of, words_of};
 use crate::state::{State, note_field, note_link, note_pattern, note_sink, note_source};
 use crate::statements::{Said, statement_of};
 use std::alloc::Global;
@@ -89,14 +88,32 @@ fn read_line<'a>(
     read_words(alloc, state, line, &words)
 }
 
-/// What lines say, the first of which has the number 1.
-pub(crate) fn read_lines<'a>(alloc: Global, lines: &[&'a [u8]]) -> Result<State<'a>, ReadRefusal>
-    ensures gives { Gives said_in result (read_lines [] 1 (texts_of lines.now)) }
-    ensures tables { IfOk result IsState }
+// Adds what lines say, the first of which has the number 1.
+fn add_lines<'a>(
+    alloc: Global,
+    state: &mut State<'a>,
+    lines: &[&'a [u8]],
+) -> Result<(), ReadRefusal>
+    requires { IsState state.old }
+    ensures gives { AddsLines result state.old state.new (texts_of lines.now) }
+    ensures tables { OnOk result (IsState state.new) }
 {
-    let mut state = State::new(alloc);
     for (i, line) in lines.iter().enumerate() {
-        read_line(alloc, &mut state, i as u64 + 1, line)?;
+        read_line(alloc, state, i as u64 + 1, line)?;
     }
-    Ok(state)
+    Ok(())
+}
+
+/// Adds what the lines of a text say.
+pub(crate) fn read_text<'a>(
+    alloc: Global,
+    state: &mut State<'a>,
+    text: &'a [u8],
+) -> Result<(), ReadRefusal>
+    requires { IsState state.old }
+    ensures gives { AddsLines result state.old state.new (lines_of text.now) }
+    ensures tables { OnOk result (IsState state.new) }
+{
+    let lines = lines_of(alloc, text)?;
+    add_lines(alloc, state, &lines)
 }

@@ -1,5 +1,5 @@
 //! All of a network text.
-ghost use Rattle.std.specs.Prelude.{◌≡◌, ◌≤◌, Ok, length, IfOk, IfErr, IsOkUnless};
+ghost use Rattle.std.specs.Prelude.{◌≡◌, ◌≤◌, [], Ok, length, IfOk, IfErr, IsOkUnless};
 ghost use Rattle.net_model.specs.Network.{IsNetwork};
 ghost use Rattle.net_reader.specs.Gives.{Fails, Gives, Makes};
 ghost use Rattle.net_reader.specs.Parts.{parts_seen};
@@ -8,9 +8,8 @@ ghost use Rattle.net_reader.specs.Text.{net_limit, network_of, parts_in, parts_o
 ghost use Rattle.net_reader.specs.declared.refusal.ReadRefusal.TheVariants.{OutOfMemory};
 
 use crate::ReadRefusal;
-use crate::lines::lines_of;
 use crate::parts::{Parts, choice_of, link_table, name_list, number, pattern_list, sink_list};
-use crate::reading::read_lines;
+use crate::reading::read_text;
 use crate::state::State;
 use net_model::Net;
 use std::alloc::Global;
@@ -54,13 +53,26 @@ fn whole_of(alloc: Global, state: &State) -> Result<Parts, ReadRefusal>
     parts_in(alloc, state, source)
 }
 
+// The parts that a text stands for, which is the first that the state reads.
+fn parts_read<'a>(
+    alloc: Global,
+    state: &mut State<'a>,
+    text: &'a [u8],
+) -> Result<Parts, ReadRefusal>
+    requires said { said_in state.old ≡ [] }
+    requires tables { IsState state.old }
+    ensures { Gives parts_seen result (network_of text.now) }
+{
+    read_text(alloc, state, text)?;
+    whole_of(alloc, state)
+}
+
 // The parts that a text stands for.
 fn read_parts(alloc: Global, text: &[u8]) -> Result<Parts, ReadRefusal>
     ensures { Gives parts_seen result (network_of text.now) }
 {
-    let lines = lines_of(alloc, text)?;
-    let state = read_lines(alloc, &lines)?;
-    whole_of(alloc, &state)
+    let mut state = State::new(alloc);
+    parts_read(alloc, &mut state, text)
 }
 
 // The network of its parts.

@@ -4,7 +4,7 @@ use Rattle.std.proofs.lemmas.Result.{err_from_is_err_and}
 use Rattle.net_reader.specs.State.{said_in}
 use Rattle.net_reader.specs.Text.{read_lines}
 use Rattle.net_reader.proofs.EachLine.{line_good, line_bad}
-use Rattle.net_reader.proofs.reading.read_lines.Goals as goal
+use Rattle.net_reader.proofs.reading.add_lines.Goals as goal
 
 abbrev texts : List (Bor (List ℕ)) → List (List ℕ)
 texts words = map (λ word. word.now) words
