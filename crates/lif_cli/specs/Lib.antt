@@ -1,5 +1,3 @@
 pub mod Disk
-pub mod Kept
-pub mod Reading
 pub mod Run
 pub mod Say

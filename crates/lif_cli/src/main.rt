@@ -1,18 +1,14 @@
 //! The program: the top call over its words, the files of the system and standard output.
 //!
-//! Begin with `run`, which `main` calls with `DiskStore`, `StdSay` and `SeedLinks`. Read `specs/Disk.antt` and
-//! `specs/Say.antt`: each call on the system's files and on standard output is the call that the store and the sink
-//! promise. Nothing is told of what the system holds; src/tests shows that the adapters work.
+//! Begin with `run`, which `main` calls with `DiskStore`, `StdSay` and `SeedLinks`. Read `specs/Run.antt`, what is
+//! promised of the words, and `specs/Disk.antt` and `specs/Say.antt`: each call on the system's files and on standard
+//! output is the call that the store and the sink promise. The adapters that both are made of stand in `system_files`.
 #![tactic(auto)]
 
 ghost use Rattle.std.specs.Prelude.{◌≡◌, ◌≢◌};
 ghost use Rattle.std.specs.IoError.{error_kind};
 
 mod disk;
-mod faults;
-mod files;
-mod kept;
-mod pieces;
 mod run;
 mod say;
 #[cfg(test)]

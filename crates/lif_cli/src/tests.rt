@@ -1,12 +1,8 @@
 //! A whole run over the files of the system, of which each call is logged: no other call is made, and no other
 //! file.
-ghost use Rattle.std.specs.Prelude.{◌≤◌, ◌^◌};
-
 mod failing;
-pub mod memory;
 mod words;
 
-use crate::disk::FileStore;
 use crate::run::{Words, run};
 use lif_outside::{MemSink, SeedLinks, Store};
 use logged_store::{Event, Logged};
@@ -15,6 +11,8 @@ use std::process::ExitCode;
 use std::test::Fail;
 use std::thread::Threads;
 use std::{fs, io};
+use system_files::FileStore;
+use worked_outside::varied::varied_bytes;
 
 // The file of the code of one link, from the node `s` to the sink `t`.
 const ONE_LINK: &[u8] = b"LIFC\x01\x08\x01\
@@ -40,17 +38,6 @@ const OUTPUT: &str = "logged-run-test/out.t";
 const WORDS: &[&str] = &["send", CODE, "none", "1", SOURCE, PREFIX];
 
 const SENT: &[u8] = b"sent 70000 bytes in 69 generations to 1 sinks\n";
-
-/// Bytes of which neighbours differ, and those at the same place of two pages.
-pub fn varied_bytes(alloc: Global, count: usize) -> Result<Vec<u8>, AllocError>
-    requires { count ≤ 2 ^ 32 }
-{
-    let mut bytes = Vec::with_capacity(alloc, count)?;
-    for place in 0..count {
-        bytes.push(((167 * place + 13 * (place / 256) + 5) % 256) as u8)?;
-    }
-    Ok(bytes)
-}
 
 // The bytes that a read of a path gave, where it was one from this place on with room for some.
 fn bytes_read<'a>(event: &'a Event, path: &str, place: usize) -> Option<&'a [u8]> {

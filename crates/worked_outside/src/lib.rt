@@ -1,8 +1,12 @@
-//! Worked examples of stores, sinks and links in memory, and of a store that keeps a log.
+//! Worked examples of stores, sinks and links in memory, of a store that keeps a log, and of the store over a system's
+//! files and the sink over a writer.
 //!
-//! The tests show what no clause says: that calls succeed while there is memory, and what comes of calls that are
-//! to fail, of frames that are kept, and of bytes that are changed.
+//! The tests show what no clause says: that calls succeed while there is memory, what comes of calls that are to fail,
+//! of frames that are kept, and of bytes that are changed, and what the files of a system hold. The tests of whole runs
+//! share what stands here: `memory`, a system whose files lie in memory; `varied`, bytes that differ by their places.
 #![tactic(auto)]
 
+pub mod memory;
 #[cfg(test)]
 mod tests;
+pub mod varied;

@@ -1,10 +1,13 @@
 //! Worked examples that are run, by subject. They show what no clause says: that calls succeed while there is memory.
 ghost use Rattle.std.specs.Prelude.{OnOk};
 
+mod file_stores;
 mod links;
 mod logs;
+mod pieces;
 mod sinks;
 mod stores;
+mod writers;
 
 use lif_outside::{Call, Fail, Failed, Store};
 

@@ -1,6 +1,0 @@
--- A read that was interrupted consumed nothing.
-use Rattle.std.specs.Io.KnownBytes.{Keeps}
-use Rattle.lif_cli.proofs.pieces.read_once.Given as goal
-
-abbrev pub invariant-loop : goal.invariant-loop
-invariant-loop g l = Keeps (g.F.Read.remaining l.initial.file) (g.F.Read.remaining l.file)

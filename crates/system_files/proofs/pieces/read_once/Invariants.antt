@@ -1,0 +1,6 @@
+-- A read that was interrupted consumed nothing.
+use Rattle.std.specs.Io.KnownBytes.{Keeps}
+use Rattle.system_files.proofs.pieces.read_once.Given as goal
+
+abbrev pub invariant-loop : goal.invariant-loop
+invariant-loop g l = Keeps (g.F.Read.remaining l.initial.file) (g.F.Read.remaining l.file)
