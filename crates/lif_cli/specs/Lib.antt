@@ -1,3 +1,2 @@
 pub mod Disk
-pub mod Run
 pub mod Say

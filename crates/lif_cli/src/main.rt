@@ -1,22 +1,21 @@
 //! The program: the top call over its words, the files of the system and standard output.
 //!
-//! Begin with `run`, which `main` calls with `DiskStore`, `StdSay` and `SeedLinks`. Read `specs/Run.antt`, what is
-//! promised of the words, and `specs/Disk.antt` and `specs/Say.antt`: each call on the system's files and on standard
-//! output is the call that the store and the sink promise. The adapters that both are made of stand in `system_files`.
+//! Begin with `main`, which calls `run` of `lif_top` with `DiskStore`, `StdSay` and `SeedLinks`. Read `specs/Disk.antt` and
+//! `specs/Say.antt`: each call on the system's files and on standard output is the call that the store and the sink
+//! promise. The adapters that both are made of stand in `system_files`.
 #![tactic(auto)]
 
 ghost use Rattle.std.specs.Prelude.{◌≡◌, ◌≢◌};
 ghost use Rattle.std.specs.IoError.{error_kind};
 
 mod disk;
-mod run;
 mod say;
 #[cfg(test)]
 mod tests;
 
 use disk::DiskStore;
 use lif_outside::SeedLinks;
-use run::{Words, run};
+use lif_top::{Words, run};
 use say::StdSay;
 use std::io::ErrorKind;
 use std::process::ExitCode;

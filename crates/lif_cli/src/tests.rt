@@ -1,228 +1,71 @@
-//! A whole run over the files of the system, of which each call is logged: no other call is made, and no other
-//! file.
-mod failing;
-mod words;
+//! The words that the system gives: each as it is, an empty one too, and one that isn't text.
+use crate::words_or_why;
+use lif_top::Words;
+use std::alloc::Global;
+use std::env::FillError;
+use std::rt::Env;
 
-use crate::run::{Words, run};
-use lif_outside::{MemSink, SeedLinks, Store};
-use logged_store::{Event, Logged};
-use std::alloc::{AllocError, Global};
-use std::process::ExitCode;
-use std::test::Fail;
-use std::thread::Threads;
-use std::{fs, io};
-use system_files::FileStore;
-use worked_outside::varied::varied_bytes;
+// A system that gives these words, the program's name first.
+#[derive(Drop)]
+struct Given(&'static [&'static [u8]]);
 
-// The file of the code of one link, from the node `s` to the sink `t`.
-const ONE_LINK: &[u8] = b"LIFC\x01\x08\x01\
-    \x00\x02\x01s\x01t\
-    \x00\x01\x01l\x00\x00\x00\x01\
-    \x00\x00\
-    \x00\x01\x00\x01\
-    \x00\x00\
-    \x00\x01\x00\x00\x01\
-    \x00\x00\x01";
+impl Env for Given {
+    fn arg(&self, i: usize, buf: &mut [u8]) -> Result<usize, FillError> {
+        let Some(word) = self.0.get(i) else {
+            return Err(FillError::NotPresent);
+        };
+        if word.len() > buf.len() {
+            return Err(FillError::TooLong);
+        }
+        buf[..word.len()].copy_from_slice(word);
+        Ok(word.len())
+    }
 
-// A folder of this test alone, and the paths in it.
-const FOLDER: &str = "logged-run-test";
+    fn var(&self, _name: &str, _buf: &mut [u8]) -> Result<usize, FillError> {
+        Err(FillError::NotPresent)
+    }
 
-const CODE: &str = "logged-run-test/code";
-
-const SOURCE: &str = "logged-run-test/source";
-
-const PREFIX: &str = "logged-run-test/out";
-
-const OUTPUT: &str = "logged-run-test/out.t";
-
-const WORDS: &[&str] = &["send", CODE, "none", "1", SOURCE, PREFIX];
-
-const SENT: &[u8] = b"sent 70000 bytes in 69 generations to 1 sinks\n";
-
-// The bytes that a read of a path gave, where it was one from this place on with room for some.
-fn bytes_read<'a>(event: &'a Event, path: &str, place: usize) -> Option<&'a [u8]> {
-    match event {
-        Event::Read {
-            path: other,
-            at,
-            room,
-            bytes,
-        } if other.as_str() == path && *at == place as u64 && *room > 0 => Some(bytes.as_slice()),
-        _ => None,
+    fn var_at(&self, _i: usize, _buf: &mut [u8]) -> Result<usize, FillError> {
+        Err(FillError::NotPresent)
     }
 }
 
-/// Where the log begins with reads of a file that holds these bytes, from its start on without a gap until one gave
-/// nothing, what follows them.
-pub fn behind_reads<'a>(log: &'a [Event], path: &str, held: &[u8]) -> Option<&'a [Event]> {
-    let mut place = 0usize;
-    for (index, event) in log.iter().enumerate() {
-        let rest = held.get(place..)?;
-        let bytes = bytes_read(event, path, place)?;
-        if bytes.is_empty() && rest.is_empty() {
-            return log.get(index + 1..);
-        }
-        if bytes.is_empty() || !rest.starts_with(bytes) {
-            return None;
-        }
-        place = place.saturating_add(bytes.len());
-    }
-    None
-}
-
-// Whether a path is one of these.
-fn is_among(path: &str, paths: &[&str]) -> bool {
-    for other in paths {
-        if *other == path {
-            return true;
-        }
-    }
-    false
-}
-
-// Whether a log has reads of a file that holds these bytes, from its start on without a gap until one gave nothing, and
-// appends to these outputs alone, of which those to the output add all that the file holds, and nothing before it was read.
-fn is_added(log: &[Event], path: &str, outputs: &[&str], output: &str, held: &[u8]) -> bool {
-    let (mut read, mut added, mut has_ended) = (0usize, 0usize, false);
-    for event in log {
-        match event {
-            Event::Appended { path: other, bytes } if other.as_str() == output => {
-                let Some(rest) = held.get(added..read) else {
-                    return false;
-                };
-                if !rest.starts_with(bytes) {
-                    return false;
-                }
-                added = added.saturating_add(bytes.len());
-            }
-            Event::Appended { path: other, .. } if is_among(other.as_str(), outputs) => {}
-            _ => {
-                let (Some(bytes), Some(rest)) = (bytes_read(event, path, read), held.get(read..))
-                else {
-                    return false;
-                };
-                if has_ended || !rest.starts_with(bytes) {
-                    return false;
-                }
-                read = read.saturating_add(bytes.len());
-                has_ended = bytes.is_empty();
-            }
-        }
-    }
-    has_ended && read == held.len() && added == held.len()
-}
-
-/// Whether a log streams a file that holds these bytes to these outputs: it is read once, from its start to its end, and
-/// what was read is added to each of them.
-pub fn is_stream(log: &[Event], path: &str, outputs: &[&str], held: &[u8]) -> bool {
-    for output in outputs {
-        if !is_added(log, path, outputs, output, held) {
+// Whether these are the words, exactly.
+fn are(words: &[String], want: &[&str]) -> bool {
+    for (place, word) in words.iter().enumerate() {
+        if want.get(place) != Some(&word.as_str()) {
             return false;
         }
     }
-    true
+    words.len() == want.len()
 }
 
-// Whether these are the calls of a source that was sent: the code was read to its end, the output made, and the source
-// read to its end, and streamed to the output.
-fn is_delivery(log: &[Event], code: &[u8], source: &[u8]) -> bool {
-    match behind_reads(log, CODE, code) {
-        Some([Event::Created { path }, log @ ..]) => {
-            path.as_str() == OUTPUT && is_stream(log, SOURCE, &[OUTPUT], source)
-        }
+// Whether the words behind the program's name are handed on exactly.
+fn gives(alloc: Global, given: &'static [&'static [u8]], want: &[&str]) -> bool {
+    match words_or_why(&(Given(given), alloc)) {
+        Words::Given(words) => are(&words, want),
         _ => false,
     }
 }
 
-// Whether the folder has these names and no other.
-fn has_names(rt: &HostRuntime, names: &[&str]) -> io::Result<bool> {
-    let mut count = 0usize;
-    for entry in fs::read_dir(rt, FOLDER)? {
-        if !names.contains(&entry?.file_name()) {
-            return Ok(false);
-        }
-        count = count.saturating_add(1);
-    }
-    Ok(count == names.len())
-}
+// An empty word, capitals, outer blanks, letters beyond ASCII, and a blank that isn't a space.
+const GIVEN: &[&[u8]] = &[b"lif", b"", b"SEND", b" a b ", b"\xc3\x84\xc3\x9f", b"\t"];
 
-// Makes the folder, and answers whether it has the code and the source alone.
-fn make_folder(rt: &HostRuntime, source: &[u8]) -> io::Result<bool> {
-    let _ = fs::remove_dir_all(rt, FOLDER);
-    fs::create_dir(rt, FOLDER)?;
-    fs::write(rt, CODE, ONE_LINK)?;
-    fs::write(rt, SOURCE, source)?;
-    has_names(rt, &["code", "source"])
-}
+const WANT: &[&str] = &["", "SEND", " a b ", "\u{c4}\u{df}", "\t"];
 
-// Whether the output is the source, and no other file was made.
-fn has_output(rt: &HostRuntime, source: &[u8]) -> io::Result<bool> {
-    let output = fs::read(rt, OUTPUT)?;
-    Ok(output.as_slice() == source && has_names(rt, &["code", "out.t", "source"])?)
-}
+// Words of which the last, or the first, isn't text.
+const LAST_NO_TEXT: &[&[u8]] = &[b"lif", b"order", b"\xff"];
 
-/// These words.
-pub fn words_of(alloc: Global, words: &[&str]) -> Result<Words, AllocError> {
-    let mut given = Vec::new(alloc);
-    for word in words {
-        given.push(String::from_str(alloc, word)?)?;
-    }
-    Ok(Words::Given(given))
-}
+const FIRST_NO_TEXT: &[&[u8]] = &[b"lif", b"\xc3", b"order"];
 
-// Whether the calls on the disk are those of the source that was sent.
-fn has_delivered(store: &Logged<FileStore<HostRuntime>>, source: &[u8]) -> bool {
-    store.is_whole() && is_delivery(store.log(), ONE_LINK, source)
-}
-
-/// Runs the words over a store, and answers the status. What it says goes to `say`.
-pub fn run_over<R: Threads + Sync, S: Store>(
-    rt: &R,
-    alloc: Global,
-    words: Words,
-    store: &mut S,
-    say: &mut MemSink,
-) -> ExitCode {
-    run(rt, alloc, words, store, say, &mut SeedLinks::new(alloc))
-}
-
-// Whether a run that ended so sent the source by the promised calls on the disk, and said so.
-fn has_sent(
-    status: ExitCode,
-    store: &Logged<FileStore<HostRuntime>>,
-    say: &MemSink,
-    source: &[u8],
-) -> bool {
-    status == ExitCode::SUCCESS && say.bytes() == SENT && has_delivered(store, source)
-}
-
-// Whether a run sends the source so.
-fn sends<R: Threads + Sync>(
-    rt: &R,
-    alloc: Global,
-    words: Words,
-    disk: FileStore<HostRuntime>,
-    source: &[u8],
-) -> bool {
-    let mut store = Logged::new(alloc, disk);
-    let mut say = MemSink::new(alloc, Vec::new(alloc));
-    let status = run_over(rt, alloc, words, &mut store, &mut say);
-    has_sent(status, &store, &say, source)
-}
-
-// Whether a source that lies in a folder of its own is sent so, and comes to the output alone.
-fn is_sent<R: Threads + Sync>(rt: &R, host: &HostRuntime, source: &[u8]) -> io::Result<bool> {
-    if !make_folder(host, source)? {
-        return Ok(false);
-    }
-    let words = words_of(host.alloc(), WORDS)?;
-    Ok(sends(rt, host.alloc(), words, FileStore::new(host), source) && has_output(host, source)?)
+// Whether words aren't handed on, since one isn't text.
+fn has_no_text(alloc: Global, given: &'static [&'static [u8]]) -> bool {
+    matches!(words_or_why(&(Given(given), alloc)), Words::NotText)
 }
 
 #[test]
-fn a_run_makes_the_promised_calls(rt: HostRuntime) -> Result<(), Fail> {
-    let source = varied_bytes(rt.alloc(), 70_000)?;
-    assert!(rt; is_sent(&rt, &rt, &source)?);
-    fs::remove_dir_all(&rt, FOLDER)?;
-    Ok(())
+fn words_are_handed_on(rt: HostRuntime) {
+    assert!(rt; gives(rt.alloc(), GIVEN, WANT));
+    assert!(rt; has_no_text(rt.alloc(), LAST_NO_TEXT));
+    assert!(rt; has_no_text(rt.alloc(), FIRST_NO_TEXT));
 }

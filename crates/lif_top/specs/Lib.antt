@@ -1,5 +1,6 @@
 pub mod Paths
 pub mod Promises
+pub mod Run
 pub mod Send
 pub mod Demo
 pub use Rattle.top_base.specs.Accepting

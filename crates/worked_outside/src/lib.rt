@@ -2,11 +2,8 @@
 //! files and the sink over a writer.
 //!
 //! The tests show what no clause says: that calls succeed while there is memory, what comes of calls that are to fail,
-//! of frames that are kept, and of bytes that are changed, and what the files of a system hold. The tests of whole runs
-//! share what stands here: `memory`, a system whose files lie in memory; `varied`, bytes that differ by their places.
+//! of frames that are kept, and of bytes that are changed, and what the files of a system hold.
 #![tactic(auto)]
 
-pub mod memory;
 #[cfg(test)]
 mod tests;
-pub mod varied;

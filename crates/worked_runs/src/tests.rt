@@ -14,6 +14,7 @@ mod paths;
 mod patterns;
 mod refusals;
 mod saying;
+mod systems;
 mod wide_field;
 mod words;
 

@@ -1,7 +1,6 @@
 //! What no clause says: what the files of the system hold, and which calls fail.
-use crate::memory::MemFiles;
-use crate::varied::varied_bytes;
 use lif_outside::{Failed, Store};
+use logged_store::{MemFiles, varied_bytes};
 use std::alloc::{AllocError, Global};
 use std::fs::{OpenFile, OpenOptions};
 use std::io::{Seek, SeekFrom, Write};

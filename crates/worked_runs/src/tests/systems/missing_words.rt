@@ -1,8 +1,11 @@
 //! What no clause says: the exit status as a value, and that nothing but the line comes of words that can't be had.
-use super::*;
-use crate::tests::run_over;
+use super::run_over;
 use lif_outside::{MemSink, MemStore};
+use lif_top::Words;
 use logged_store::Logged;
+use std::alloc::Global;
+use std::process::ExitCode;
+use std::thread::Threads;
 
 // Whether this line was said, and no call made on the store.
 fn said_alone(store: &Logged<MemStore>, say: &MemSink, line: &[u8]) -> bool {

@@ -1,17 +1,15 @@
 //! Whole runs over files in memory, of which each call fails in turn: the calls on the store are those of the run in
 //! which none fails, up to the one that failed, and nothing comes behind that.
 use super::{behind_reads, is_stream, run_over, words_of};
-use crate::run::Words;
 use lif_outside::MemSink;
-use logged_store::{Event, Logged};
+use lif_top::Words;
+use logged_store::{Event, Logged, MemFiles, varied_bytes};
 use std::alloc::Global;
 use std::io;
 use std::process::ExitCode;
 use std::test::Fail;
 use std::thread::Threads;
 use system_files::FileStore;
-use worked_outside::memory::MemFiles;
-use worked_outside::varied::varied_bytes;
 
 // A code for two sinks, each with two links from the source. The first of the second sink carries the sum of both rows.
 const TWO_SINKS: &[u8] = b"LIFC\x01\x08\x02\

@@ -1,8 +1,7 @@
-use Rattle.std.proofs.Common.{[], ◌∷◌, List, ℕ, refl, sym, subst, inl, inr}
+use Rattle.std.proofs.Common.{[], ◌∷◌, refl, sym, subst, inl, inr}
 use Rattle.std.specs.Prelude.{Result, Ok, Err}
 use Rattle.lif_outside.proofs.CallLaws.{calls_of}
 use Rattle.lif_outside.specs.Calls.{objects, store_calls}
-use Rattle.lif_outside.specs.Events.{Event}
 use Rattle.lif_outside.specs.Puts.{put_event}
 use Rattle.lif_outside.proofs.PutLaws.{says_all-once, says_part-once}
 use Rattle.lif_outside.specs.declared.Failed.{Failed}
@@ -11,8 +10,8 @@ use Rattle.top_base.specs.Outcome.{SaysOutcome}
 use Rattle.top_base.specs.Performs.{at_once}
 use Rattle.top_base.proofs.PerformingLaws.{at_once_known, performs_said}
 use Rattle.top_base.specs.declared.status.Status.TheVariants.{OutOfMemory}
-use Rattle.lif_cli.specs.Run.{RunsWords, no_memory}
-use Rattle.lif_cli.proofs.run.end_of.Goals as goal
+use Rattle.lif_top.specs.Run.{RunsWords, no_memory}
+use Rattle.lif_top.proofs.running.end_of.Goals as goal
 
 -- words that aren't text are no form, and come to what such words come to
 pub returns-in-NotText-clause-runs : goal.returns-in-NotText-clause-runs

@@ -4,16 +4,14 @@ ghost use Rattle.std.specs.Process.{exit_status};
 ghost use Rattle.lif_outside.specs.Calls.{KeepsStore, objects};
 ghost use Rattle.top_base.specs.Codes.{code_of};
 ghost use Rattle.top_base.specs.declared.status.Status.{Status};
-ghost use Rattle.lif_cli.specs.Run.{RunsWords};
+ghost use Rattle.lif_top.specs.Run.{RunsWords};
 
-#[cfg(test)]
-mod tests;
-
+use crate::program::lif;
 use lif_outside::{Links, NoGate, Sink, Store};
-use lif_top::{Status, lif};
 use std::alloc::Global;
 use std::process::ExitCode;
 use std::thread::Threads;
+use top_base::Status;
 
 /// The words after the program's name, as the system gave them.
 #[derive(Drop)]
