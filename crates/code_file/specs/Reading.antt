@@ -344,15 +344,20 @@ pub record Contents : Type 0 where
   pub operands : List (List Operand)
   pub decoders : List Decoder
 
+-- all that begins with a front, by what is left behind it
+abbrev pub contents_behind : Front → Rest → Refusable Contents
+contents_behind front rest = do
+  operands ← operand_table_at front rest
+  decoders ← decoder_table_at front operands.1
+  if length decoders.1.bytes == 0
+      then Ok (record { front = front; operands = operands.0; decoders = decoders.0 })
+      else Err (TrailingBytes decoders.1.at)
+
 -- all of a code file
 unfoldable pub contents_of : List ℕ → Result Contents CodeRefusal
 contents_of bytes = do
   front ← front_at code_mark code_version (record { at = 0; bytes = bytes })
-  operands ← operand_table_at front.0 front.1
-  decoders ← decoder_table_at front.0 operands.1
-  if length decoders.1.bytes == 0
-      then Ok (record { front = front.0; operands = operands.0; decoders = decoders.0 })
-      else Err (TrailingBytes decoders.1.at)
+  contents_behind front.0 front.1
 
 -- the refusal that a result is
 abbrev pub refusal_in : {X : Type 0} → Result X CodeRefusal → Option CodeRefusal

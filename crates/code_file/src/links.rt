@@ -64,6 +64,30 @@ fn link<'a>(
     Ok((Link { name, tail, head }, rest))
 }
 
+// So many links, with tables of their names and their tails.
+fn noted_links<'a>(
+    alloc: Global,
+    nodes: usize,
+    count: u16,
+    names: &mut Names<'a>,
+    tails: &mut [bool],
+    start: Rest<'a>,
+) -> Result<(Vec<Link>, Rest<'a>), CodeRefusal>
+    requires few_links { count ≤ most_links }
+    requires names { names.old ≡ [] }
+    requires tails { AreTailMarks nodes [] tails.old }
+    ensures { ReadsAll result (repeated_at (link_at nodes) count []) start.entry }
+{
+    let mut links = Vec::with_capacity(alloc, usize::from(count))?;
+    let mut rest = start;
+    for _ in 0..count {
+        let (one, after) = link(alloc, nodes, &links, names, tails, rest)?;
+        links.push(one)?;
+        rest = after;
+    }
+    Ok((links, rest))
+}
+
 // So many links.
 fn counted_links<'a>(
     alloc: Global,
@@ -74,16 +98,9 @@ fn counted_links<'a>(
     requires { count ≤ most_links }
     ensures { ReadsAll result (repeated_at (link_at nodes) count []) start.entry }
 {
-    let mut links = Vec::with_capacity(alloc, usize::from(count))?;
-    let mut names = Names::new(alloc);
     let mut tails = no_marks(alloc, nodes)?;
-    let mut rest = start;
-    for _ in 0..count {
-        let (one, after) = link(alloc, nodes, &links, &mut names, &mut tails, rest)?;
-        links.push(one)?;
-        rest = after;
-    }
-    Ok((links, rest))
+    let mut names = Names::new(alloc);
+    noted_links(alloc, nodes, count, &mut names, &mut tails, start)
 }
 
 /// The links, behind their number.

@@ -14,6 +14,26 @@ use name_index::Names;
 use net_model::{MOST_NODES, Name, NameList, NodeList};
 use std::alloc::Global;
 
+// So many names of nodes, which are added to the names.
+fn named_nodes<'a>(
+    alloc: Global,
+    count: u16,
+    names: &mut Names<'a>,
+    start: Rest<'a>,
+) -> Result<(Vec<Name>, Rest<'a>), CodeRefusal>
+    requires { names.old ≡ [] }
+    ensures { ReadsAll result (repeated_at other_name_at count []) start.entry }
+{
+    let mut nodes = Vec::with_capacity(alloc, usize::from(count))?;
+    let mut rest = start;
+    for _ in 0..count {
+        let (node, after) = name(alloc, rest, names)?;
+        nodes.push(node)?;
+        rest = after;
+    }
+    Ok((nodes, rest))
+}
+
 // So many names of nodes.
 fn counted_nodes<'a>(
     alloc: Global,
@@ -22,15 +42,8 @@ fn counted_nodes<'a>(
 ) -> Result<(Vec<Name>, Rest<'a>), CodeRefusal>
     ensures { ReadsAll result (repeated_at other_name_at count []) start.entry }
 {
-    let mut nodes = Vec::with_capacity(alloc, usize::from(count))?;
     let mut names = Names::new(alloc);
-    let mut rest = start;
-    for _ in 0..count {
-        let (node, after) = name(alloc, rest, &mut names)?;
-        nodes.push(node)?;
-        rest = after;
-    }
-    Ok((nodes, rest))
+    named_nodes(alloc, count, &mut names, start)
 }
 
 /// The nodes, behind their number.

@@ -85,6 +85,30 @@ fn no_links(alloc: Global) -> Result<Pattern, CodeRefusal>
     }
 }
 
+// The pattern `none`, and so many listed ones, whose names are added to the names.
+fn named_patterns<'a>(
+    alloc: Global,
+    links: usize,
+    count: u16,
+    names: &mut Names<'a>,
+    start: Rest<'a>,
+) -> Result<(Vec<Pattern>, Rest<'a>), CodeRefusal>
+    requires { names.old ≡ [] }
+    ensures gives { ReadsAll result (counted_patterns_at links count) start.entry }
+    ensures len { IfOk result (λ x. length x.0.items ≡ count + 1) }
+{
+    let mut patterns = Vec::with_capacity(alloc, usize::from(count) + 1)?;
+    patterns.push(no_links(alloc)?)?;
+    names.add(NONE)?;
+    let mut rest = start;
+    for _ in 0..count {
+        let (one, after) = pattern(alloc, links, names, rest)?;
+        patterns.push(one)?;
+        rest = after;
+    }
+    Ok((patterns, rest))
+}
+
 // The pattern `none`, and so many listed ones.
 fn counted_patterns<'a>(
     alloc: Global,
@@ -95,17 +119,8 @@ fn counted_patterns<'a>(
     ensures gives { ReadsAll result (counted_patterns_at links count) start.entry }
     ensures len { IfOk result (λ x. length x.0.items ≡ count + 1) }
 {
-    let mut patterns = Vec::with_capacity(alloc, usize::from(count) + 1)?;
-    patterns.push(no_links(alloc)?)?;
     let mut names = Names::new(alloc);
-    names.add(NONE)?;
-    let mut rest = start;
-    for _ in 0..count {
-        let (one, after) = pattern(alloc, links, &mut names, rest)?;
-        patterns.push(one)?;
-        rest = after;
-    }
-    Ok((patterns, rest))
+    named_patterns(alloc, links, count, &mut names, start)
 }
 
 // The number of the listed patterns.

@@ -3,9 +3,9 @@ ghost use Rattle.std.specs.Prelude.{◌≡◌, ◌≤◌, length, IfOk, IfErr, I
 ghost use Rattle.node_program.specs.declared.code.Code.{Code as SpecCode};
 ghost use Rattle.code_file.specs.Items.{IsFileOf};
 ghost use Rattle.code_file.specs.Limits.{code_limit};
-ghost use Rattle.code_file.specs.Reading.{contents_of};
-ghost use Rattle.code_file.specs.Gives.{Fails, Gives};
-ghost use Rattle.code_file.specs.Parts.{contents_seen};
+ghost use Rattle.code_file.specs.Reading.{contents_of, contents_behind};
+ghost use Rattle.code_file.specs.Gives.{Fails, Gives, left_of};
+ghost use Rattle.code_file.specs.Parts.{front_seen, contents_seen, contents_with};
 ghost use Rattle.code_file.specs.Spelling.{contents_in, AreContents};
 ghost use Rattle.code_file.specs.declared.refusal.CodeRefusal.TheVariants.{OutOfMemory};
 
@@ -28,6 +28,22 @@ pub(crate) const MARK: &[u8] = b"LIFC";
 /// The version behind it.
 pub(crate) const VERSION: u8 = 1;
 
+// All behind the front.
+fn tables(
+    alloc: Global,
+    front: &Front,
+    rest: Rest,
+) -> Result<(OperandTable, DecoderTable), CodeRefusal>
+    ensures { Gives (contents_with front.now) result (contents_behind (front_seen front.now) (left_of rest.entry)) }
+{
+    let (operands, rest) = operand_table(alloc, front, rest)?;
+    let (decoders, rest) = decoder_table(alloc, front, rest)?;
+    if !rest.bytes.is_empty() {
+        return Err(CodeRefusal::TrailingBytes { at: rest.at });
+    }
+    Ok((OperandTable::of(operands), DecoderTable::of(decoders)))
+}
+
 // All that the bytes say.
 #[tactic(auto, unfolding(crate::specs::Reading::contents_of))]
 fn read_parts(alloc: Global, bytes: &[u8]) -> Result<Parts, CodeRefusal>
@@ -35,15 +51,11 @@ fn read_parts(alloc: Global, bytes: &[u8]) -> Result<Parts, CodeRefusal>
     ensures { Gives contents_seen result (contents_of bytes.now) }
 {
     let (front, rest) = front(alloc, MARK, VERSION, Rest { at: 0, bytes })?;
-    let (operands, rest) = operand_table(alloc, &front, rest)?;
-    let (decoders, rest) = decoder_table(alloc, &front, rest)?;
-    if !rest.bytes.is_empty() {
-        return Err(CodeRefusal::TrailingBytes { at: rest.at });
-    }
+    let (operands, decoders) = tables(alloc, &front, rest)?;
     Ok(Parts {
         front,
-        operands: OperandTable::of(operands),
-        decoders: DecoderTable::of(decoders),
+        operands,
+        decoders,
     })
 }
 

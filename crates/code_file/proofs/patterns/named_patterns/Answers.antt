@@ -4,7 +4,7 @@ use Rattle.std.proofs.lemmas.List.{map_push, length_push}
 use Rattle.code_file.specs.Reading.{pattern_at}
 use Rattle.code_file.specs.Gives.{Fails, left_of}
 use Rattle.code_file.proofs.Loop.{goes_on, ends, is_done}
-use Rattle.code_file.proofs.patterns.counted_patterns.Goals as goal
+use Rattle.code_file.proofs.patterns.named_patterns.Goals as goal
 
 pub returns-in_err-one-clause-gives : goal.returns-in_err-one-clause-gives
 returns-in_err-one-clause-gives c =

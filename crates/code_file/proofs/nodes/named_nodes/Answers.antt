@@ -3,7 +3,7 @@ use Rattle.std.proofs.lemmas.Result.{err_from_is_err_and}
 use Rattle.code_file.specs.Reading.{Rest, Reading, other_name_at}
 use Rattle.code_file.specs.Gives.{Fails, left_of}
 use Rattle.code_file.proofs.Loop.{goes_on, ends, is_done}
-use Rattle.code_file.proofs.nodes.counted_nodes.Goals as goal
+use Rattle.code_file.proofs.nodes.named_nodes.Goals as goal
 
 pub returns-in_err-node : goal.returns-in_err-node
 returns-in_err-node c =

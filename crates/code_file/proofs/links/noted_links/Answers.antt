@@ -1,11 +1,10 @@
-use Rattle.std.proofs.Common.{◌≡◌, ◌+◌, ◌++◌, length, drop, take, Ok, ap, ◌∙◌, arith}
+use Rattle.std.proofs.Common.{◌≡◌, ◌+◌, Ok, ap, ◌∙◌}
 use Rattle.std.proofs.lemmas.Result.{err_from_is_err_and}
 use Rattle.std.proofs.lemmas.List.{length_push}
-use Rattle.list_laws.proofs.Writes.{written_back}
 use Rattle.code_file.specs.Reading.{link_at}
 use Rattle.code_file.specs.Gives.{Fails, left_of}
 use Rattle.code_file.proofs.Loop.{goes_on, ends, is_done}
-use Rattle.code_file.proofs.links.counted_links.Goals as goal
+use Rattle.code_file.proofs.links.noted_links.Goals as goal
 
 pub returns-in_err-one : goal.returns-in_err-one
 returns-in_err-one c =
@@ -16,12 +15,10 @@ returns-in_err-one c =
 pub loop-preserved : goal.loop-preserved
 loop-preserved c =
     let read : (link_at c.args.nodes) c.loop.links.items (left_of c.loop.rest) ≡ Ok (c.in_ok-one.one, left_of c.in_ok-one.after) = rw (← c.deref.ensures.value) (c.in_ok-one.ensures.gives) in
-    let kept : take c.loop.tails.len (c.link.new.tails ++ drop (length c.link.new.tails) c.loop.tails.items) ≡ c.link.new.tails =
-    written_back _ _ _ (omega (arith, c.loop.tails.ok.0)) (omega (arith, c.in_ok-one.ensures.marked.size, c.loop.invariant.tails.size)) in
     record {
       so_far = rw c.in_ok-push.ensures.items (goes_on (link_at c.args.nodes) c.args.count c.loop.counter c.loop.links.items (left_of c.loop.rest) _ c.in_ok-one.one (left_of c.in_ok-one.after) c.loop-test.true read c.loop.invariant.so_far);
       names = rw (c.in_ok-push.ensures.items, ← c.deref.ensures.value) c.in_ok-one.ensures.named;
-      tails = rw (c.in_ok-push.ensures.items, kept, ← c.deref.ensures.value) c.in_ok-one.ensures.marked;
+      tails = rw (c.in_ok-push.ensures.items, ← c.deref.ensures.value) c.in_ok-one.ensures.marked;
       placed = rw c.in_ok-push.ensures.items (length_push c.loop.links.items c.in_ok-one.one ∙ ap (λ n. n + 1) c.loop.invariant.placed);
     }
 
