@@ -1,8 +1,8 @@
 -- Steps of the vectors of a link under all patterns.
-use Rattle.std.specs.Prelude.{◌≡◌, ◌≢◌, ◌<◌, ◌≤◌, ◌+◌, ℕ, Bool, List, [], length, slice_index_or, slice_set}
-use Rattle.std.proofs.Common.{sym, ◌∙◌, arith, inl, inr, subst}
+use Rattle.std.specs.Prelude.{◌≡◌, ◌≢◌, ◌<◌, ◌≤◌, ◌+◌, ℕ, All, Bool, List, [], length, slice_index_or, slice_set}
+use Rattle.std.proofs.Common.{refl, sym, ◌∙◌, arith, inl, inr, subst}
 use Rattle.std.proofs.lemmas.Bool.{cases_eq}
-use Rattle.std.proofs.lemmas.List.{get_or-set_other, get_or-set_same, length-set}
+use Rattle.std.proofs.lemmas.List.{get_or_default, get_or-set_other, get_or-set_same, length-set}
 use Rattle.field_vectors.specs.Grid.{Grid}
 use Rattle.gf_tables.specs.declared.kind.FieldKind.{FieldKind}
 use Rattle.net_model.specs.Failed.{is_failed_in}
@@ -10,12 +10,27 @@ use Rattle.net_model.specs.declared.net.Net.{Net}
 use Rattle.node_program.specs.Value.{leaves_source}
 use Rattle.node_program.specs.declared.Operand.{Operand}
 use Rattle.lif_compiler.specs.Steps.{AreCarried, AreCarriedTo, IsCarriedUnless}
-use Rattle.lif_compiler.specs.Tables.{grid_at}
+use Rattle.lif_compiler.specs.Tables.{AreOfShape, grid_at}
 
 -- the matrices from a place on are as they were
 pub record HasShape {A : Type 0} (count : ℕ) (old new : List (Grid A)) : Type 0 where
   pub same_count : length new ≡ length old
   pub behind : (pattern : ℕ) → count ≤ pattern → grid_at new pattern ≡ grid_at old pattern
+
+-- at first all are
+pub shape_first : {A : Type 0} (old : List (Grid A)) → HasShape 0 old old
+shape_first old = record { same_count = refl; behind = λ pattern from. refl }
+
+-- what held of all matrices holds of the one that is next
+pub held_next : {A : Type 0} (P : Grid A → Type 0) (count : ℕ) (old now : List (Grid A)) (m : Grid A) → HasShape count old now → count < length now → All P old → P (slice_index_or now count m)
+held_next {A} P count old now m so_far within held =
+    let none : Grid A = record { columns = 0; rows = [] } in
+    subst P (sym (get_or_default now count m none within ∙ so_far.behind count (omega arith))) (held count none (omega (arith, so_far.same_count)))
+
+-- its shape
+pub shape_next : {A : Type 0} (count rows columns : ℕ) (old now : List (Grid A)) (m : Grid A) → HasShape count old now → count < length now → AreOfShape rows columns old
+    → (length (slice_index_or now count m).rows ≡ rows) × ((slice_index_or now count m).columns ≡ columns)
+shape_next {A} count rows columns old now m so_far within shape = held_next (λ (m : Grid A). (length m.rows ≡ rows) × (m.columns ≡ columns)) count old now m so_far within shape
 
 -- one more may be another
 pub shape_more : {A : Type 0} (count : ℕ) (old new : List (Grid A)) (m : Grid A) → HasShape count old new → HasShape (count + 1) old (slice_set new count m)
@@ -39,6 +54,10 @@ module _ {A : Type 0} (field : FieldKind) (number : A → ℕ) (operands : List 
   carried_same failed failed' leaves leaves' old old' new f l o is =
       subst (λ (failed : Bool). IsCarriedUnless failed field number leaves' operands link old' new) f
       (subst (λ (leaves : Bool). IsCarriedUnless failed field number leaves operands link old' new) l (subst (λ (old : Grid A). IsCarriedUnless failed field number leaves operands link old new) o is))
+
+  -- at first none is made
+  pub carried_first : (net : Net) (old : List (Grid A)) → AreCarriedTo field number net link operands 0 old old
+  carried_first net old = record { each_pattern = refl; made = λ pattern below inside. absurd (omega arith); others = λ pattern from. refl }
 
   -- one more matrix is made
   pub carried_more : (net : Net) (count : ℕ) (old new : List (Grid A)) (m : Grid A) → count < length old → AreCarriedTo field number net link operands count old new

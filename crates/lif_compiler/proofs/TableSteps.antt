@@ -3,9 +3,9 @@ use Rattle.std.specs.Prelude.{◌≡◌, ◌≢◌, ◌<◌, ◌+◌, ℕ, true,
 use Rattle.std.proofs.Common.{sym, ap, ◌∙◌, arith, below_more, inl, inr, subst}
 use Rattle.std.proofs.lemmas.Bool.{cases_eq}
 use Rattle.std.proofs.Math.Path.{ap₂}
-use Rattle.std.proofs.lemmas.List.{ext_get_or, get_or_default, get_or-map, get_or-set_other, get_or-set_same, length-map, length-set, map-set}
+use Rattle.std.proofs.lemmas.List.{ext_get_or, get_or_default, get_or-map, get_or-set_other, get_or-set_same, length-map, length-replicate, length-set, map-set}
 use Rattle.field_vectors.specs.Elements.{dot_of}
-use Rattle.field_vectors.specs.Grid.{Grid, IsMatrix, entry_of, row_of, with_row}
+use Rattle.field_vectors.specs.Grid.{Grid, IsMatrix, entry_of, grid_of, row_of, with_row}
 use Rattle.field_vectors.proofs.GridLaws.{length-row_of, row_of-elements, row_of-with_other, row_of-with_row}
 use Rattle.field_vectors.proofs.NumberLaws.{get_or-numbers, number-dot_of, numbers-IsRow}
 use Rattle.std.specs.declared.cmp.PartialEq.{Ghosts as EqualityWords}
@@ -70,6 +70,14 @@ pub record IsTableTo {A : Type 0} (number : A → ℕ) (Row : Hop → List ℕ �
   pub same_columns : table.columns ≡ columns
   pub height : length table.rows ≡ length hops
   pub rows : (k : ℕ) (hop : Hop) → k < count → slice_get hops k ≡ Some hop → Row hop (numbers_at number table k)
+
+-- at first none is made
+pub table_first : {A : Type 0} (number : A → ℕ) (Row : Hop → List ℕ → Type 0) (hops : List Hop) (columns : ℕ) (zero : A) (table : Grid A) → table ≡ grid_of (length hops) columns zero → IsTableTo number Row hops columns 0 table
+table_first {A} number Row hops columns zero table is = record {
+  same_columns = ap (λ (m : Grid A). m.columns) is;
+  height = ap (λ (m : Grid A). length m.rows) is ∙ length-replicate (length hops) _;
+  rows = λ k hop below there. absurd (omega arith);
+}
 
 -- one more row
 pub table_more : {A : Type 0} (number : A → ℕ) (Row : Hop → List ℕ → Type 0) (hops : List Hop) (columns k : ℕ) (hop : Hop) (old new : Grid A) → IsTableTo number Row hops columns k old → slice_get hops k ≡ Some hop

@@ -1,8 +1,8 @@
 -- How a search begins, goes on to a node that wasn't reached, and goes back.
-use Rattle.std.specs.Prelude.{◌≡◌, ◌≢◌, ◌<◌, ◌≤◌, ◌+◌, ◌-◌, ℕ, zero, suc, Bool, true, false, nat_eq, nat_lt, List, ◌∷◌, length, take, slice_index, slice_index_or, slice_set, replicate, Option, Some, None, IfSome, is_some}
+use Rattle.std.specs.Prelude.{◌≡◌, ◌≢◌, ◌<◌, ◌≤◌, ◌+◌, ◌-◌, ℕ, zero, suc, Bool, true, false, nat_eq, nat_lt, List, ◌∷◌, length, take, slice_index, slice_index_or, slice_set, replicate, Option, Some, None, IfNone, IfSome, is_some}
 use Rattle.std.proofs.Common.{refl, sym, ◌∙◌, ap, subst, arith, inl, inr}
 use Rattle.std.proofs.lemmas.Bool.{both_ways, cases_eq, lt-ltb, ne_eqb}
-use Rattle.std.proofs.lemmas.List.{length-set, length-replicate, length-take-le, get_or-set_other, get_or-set_same, get_or-take, get_or_default, get_or_read}
+use Rattle.std.proofs.lemmas.List.{length-set, length-replicate, length-take-le, get_or-set_other, get_or-set_same, get_or-take, get_or_default, get_or_read, set-get_or}
 use Rattle.std.proofs.lemmas.List.Sums.{list_all-from_AllPass}
 use Rattle.std.proofs.lemmas.Map.Keys.{IsDistinct-from_apart}
 use Rattle.std.proofs.lemmas.Map.Steps.{length-le_from_distinct_below}
@@ -164,6 +164,55 @@ counted_later (Some one) before between after early some = omega arith
 pub nothing : (entry : Option Entry) → is_some entry ≡ false → entry ≡ None
 nothing None none = refl
 nothing (Some entry) none = cc
+
+-- where there is one, nothing is said of none
+pub not_none : (P : Type 0) (entry : Option Entry) → is_some entry ≡ true → IfNone entry P
+not_none P None some = cc
+not_none P (Some entry) some = tt
+
+-- what holds where there is no entry
+pub where_none : {P : Type 0} (entry : Option Entry) → entry ≡ None → IfNone entry P → P
+where_none None none holds = holds
+where_none (Some entry) none holds = cc
+
+-- where there is no entry, one thing follows from another
+pub none_weaker : {P Q : Type 0} (entry : Option Entry) → (P → Q) → IfNone entry P → IfNone entry Q
+none_weaker None to holds = to holds
+none_weaker (Some entry) to holds = tt
+
+-- the last node of the way, which is read
+pub last_read : (network : FlowNetwork) (states : List LinkState) (search : Search) (node : ℕ) → IsSearching network states search → 0 < search.depth
+    → node ≡ slice_index_or search.way.items (search.depth - 1) node → node ≡ last_of search
+last_read network states search node is some read = get_or_read search.way.items (search.depth - 1) node (omega (arith, is.way.within, is.way.places.way)) read 0
+
+-- a list that is changed at a place alone
+pub changed_at : (old new : List ℕ) (node next : ℕ) → node < length old → new ≡ slice_set old node next → new ≡ slice_set old node (slice_index new node)
+changed_at old new node next inside is = is ∙ ap (slice_set old node) (sym (ap (λ xs. slice_index xs node) is ∙ get_or-set_same old node next 0 inside))
+
+-- the links out of a node were passed alone
+pub moves_out : (old new : Search) (node next : ℕ) → node ≡ last_of old → node < length old.from.items → new.from.items ≡ slice_set old.from.items node next → new.into.items ≡ old.into.items → MovesAt (last_of old) old new
+moves_out old new node next last inside from into =
+    let Moves : ℕ → Type 0 = λ node. MovesAt node old new in
+    subst Moves last (record {
+      from = changed_at old.from.items new.from.items node next inside from;
+      into = into ∙ sym (ap (λ xs. slice_set old.into.items node (slice_index xs node)) into ∙ set-get_or old.into.items node 0);
+    })
+
+-- or all links at it
+pub moves_both : (old new : Search) (node next other : ℕ) → node ≡ last_of old → node < length old.from.items → node < length old.into.items → new.from.items ≡ slice_set old.from.items node next
+    → new.into.items ≡ slice_set old.into.items node other → MovesAt (last_of old) old new
+moves_both old new node next other last inside inside_too from into =
+    let Moves : ℕ → Type 0 = λ node. MovesAt node old new in
+    subst Moves last (record { from = changed_at old.from.items new.from.items node next inside from; into = changed_at old.into.items new.into.items node other inside_too into })
+
+-- all of them were
+pub left_at : (count : ℕ) (old new : Search) (node next other : ℕ) → node ≡ last_of old → node < length old.from.items → node < length old.into.items → new.from.items ≡ slice_set old.from.items node next
+    → new.into.items ≡ slice_set old.into.items node other → count ≤ next → count ≤ other → IsLeft count new (last_of old)
+left_at count old new node next other last inside inside_too from into past past_too =
+    let out : slice_index new.from.items node ≡ next = ap (λ xs. slice_index xs node) from ∙ get_or-set_same old.from.items node next 0 inside in
+    let back : slice_index new.into.items node ≡ other = ap (λ xs. slice_index xs node) into ∙ get_or-set_same old.into.items node other 0 inside_too in
+    let Left : ℕ → Type 0 = λ node. IsLeft count new node in
+    subst Left last (record { from = omega (arith, out); into = omega (arith, back) })
 
 -- the links at the last node of the way are passed, and the way stays
 module _ (network : FlowNetwork) (states : List LinkState) (old mid : Search) (is : IsSearching network states old) (some : 0 < old.depth) (same : KeepsWay old mid) (moved : MovesAt (last_of old) old mid) where

@@ -9,6 +9,24 @@ use Rattle.lif_compiler.proofs.ChoosingSteps.{All-sources, chosen_by, few_either
 use Rattle.lif_compiler.proofs.WorkLaws.{choice_ticks, table_ticks}
 use Rattle.lif_compiler.proofs.partial_code.PartialCode.choose_operands.Goals as goal
 
+pub places_of-requires : goal.places_of-requires
+places_of-requires g c = subst (AreSources (befores c.args.hops.now)) (sym c.deref.ensures.value) c.in_ok-sources.ensures
+
+pub table_of-requires-clause-link : goal.table_of-requires-clause-link
+table_of-requires-clause-link g c = c.requires.link
+
+pub table_of-requires-clause-some_pattern : goal.table_of-requires-clause-some_pattern
+table_of-requires-clause-some_pattern g c = c.requires.some_pattern
+
+pub table_of-requires-clause-vectors : goal.table_of-requires-clause-vectors
+table_of-requires-clause-vectors g c = c.requires.vectors
+
+pub table_of-requires-clause-bases : goal.table_of-requires-clause-bases
+table_of-requires-clause-bases g c = c.requires.bases
+
+pub table_of-requires-clause-hops : goal.table_of-requires-clause-hops
+table_of-requires-clause-hops g c = c.requires.hops
+
 pub table_of-requires-clause-sources : goal.table_of-requires-clause-sources
 table_of-requires-clause-sources g c =
     let bound : ℕ = if leaves_source c.args.net.now c.args.link then c.args.self.now.rate else length c.args.net.now.links in
@@ -25,6 +43,11 @@ table_of-requires-clause-few_sources g c =
     let most : bound ≤ 8192 = few_either (leaves_source net c.args.link) c.args.self.now.rate (length net.links) 8192 (omega (arith, c.requires.low_rate)) net.network.few_links in
     omega (arith, few, most, ap length c.deref-2.ensures.value)
 
+pub choose-requires-clause-few_rows : goal.choose-requires-clause-few_rows
+choose-requires-clause-few_rows g c =
+    let table = c.in_ok-table.ensures.table (marked_kind g.F.Field.MARK) c.requires.field in
+    omega (arith, table.height, c.requires.few_hops)
+
 pub choose-requires-clause-nonzero : goal.choose-requires-clause-nonzero
 choose-requires-clause-nonzero g c =
     let F = g.F.Field in
@@ -34,6 +57,17 @@ choose-requires-clause-nonzero g c =
     let places = subst (λ sources. Places sources c.deref-3.result.now) (c.deref.ensures.value ∙ sym c.deref-2.ensures.value) (subst (Places c.deref.result.now) (sym c.deref-3.ensures.value) c.in_ok-places.ensures) in
     let laws : LawsOf F = record { field = L.field; numbering = L.numbering; of_kind = c.requires.field } in
     nonzero_at laws c.in_ok-table.table (c.in_ok-table.ensures.table (marked_kind F.MARK) c.requires.field) c.deref-3.result.now places c.requires.own
+
+pub operands_with-requires : goal.operands_with-requires
+operands_with-requires g c =
+    let table = c.in_ok-table.ensures.table (marked_kind g.F.Field.MARK) c.requires.field in
+    omega (arith, c.in_ok-coefficients.ensures.choice.each_column, table.columns, ap length c.deref-5.ensures.value, ap length (c.deref-4.ensures.value ∙ sym c.deref-2.ensures.value))
+
+pub returns-in_err-sources-clause-ticks : goal.returns-in_err-sources-clause-ticks
+returns-in_err-sources-clause-ticks g c = record { not_below = omega arith; not_above = omega arith }
+
+pub returns-in_err-places-clause-ticks : goal.returns-in_err-places-clause-ticks
+returns-in_err-places-clause-ticks g c = record { not_below = omega arith; not_above = omega arith }
 
 pub returns-clause-chosen : goal.returns-clause-chosen
 returns-clause-chosen g c =

@@ -1,16 +1,16 @@
-use Rattle.std.specs.Prelude.{◌≡◌, ◌<◌, ◌≤◌, ◌+◌, ℕ, List, Option, false, None, length, slice_index, slice_index_or, slice_set}
+use Rattle.std.specs.Prelude.{◌≡◌, ◌<◌, ◌≤◌, ◌+◌, ℕ, List, Option, IfSome, false, None, length, slice_index, slice_index_or, slice_set}
 use Rattle.std.proofs.Common.{refl, sym, ◌∙◌, subst, arith}
 use Rattle.std.proofs.lemmas.Bool.{both_ways}
-use Rattle.std.proofs.lemmas.List.{get_or_read}
+use Rattle.std.proofs.lemmas.List.{get_or_read, length-set}
 use Rattle.link_chains.specs.declared.chains.LinkEnd.TheVariants.{Head, Tail}
 use Rattle.net_model.proofs.EndLaws.{ends_apart}
 use Rattle.net_model.specs.Flows.{flow_network, is_on}
 use Rattle.net_model.specs.Walks.{head_of, tail_of}
-use Rattle.unit_flow.specs.Searching.{ArePassed, IsOnChain, passed_ends, with_entry}
+use Rattle.unit_flow.specs.Searching.{ArePassed, IsEntry, IsOnChain, last_of, passed_ends, with_entry}
 use Rattle.unit_flow.specs.declared.search.Entry.{Entry}
 use Rattle.unit_flow.proofs.PassingSteps.{passed_moved, chain_passed, chain_passed_over, is_on-with_entry, passed_kept, steps_kept}
 use Rattle.unit_flow.proofs.EnteredLaws.{nothing_entered}
-use Rattle.unit_flow.proofs.SearchSteps.{counted_later, counts_moved, last_below, more_moved, nothing}
+use Rattle.unit_flow.proofs.SearchSteps.{counted_later, counts_moved, last_below, last_read, left_at, more_moved, moves_both, moves_out, none_weaker, not_none, nothing, where_none}
 use Rattle.unit_flow.proofs.search.Search.next_entry.Goals as goal
 use Rattle.unit_flow.proofs.search.Search.next_entry.Goals.{After-pass_chain-passed}
 
@@ -24,6 +24,18 @@ module _ (g : _) (c : After-pass_chain-passed g) where
 
   inside_too : c.index-node.result.now < length c.args.self.now.into.items
   inside_too = omega (arith, below, c.requires.searching.way.places.into)
+
+  last : c.index-node.result.now ≡ last_of c.args.self.now
+  last = last_read (flow_network c.args.net.now c.args.residual.now.demand) c.args.residual.now.states c.args.self.now c.index-node.result.now c.requires.searching c.requires.on_way c.index-node.ensures
+
+  -- an entry from it is one from the last node
+  entered : (entry : Option Entry) → IfSome entry (IsEntry c.args.net.now c.args.residual.now.states c.index-node.result.now c.args.self.now.reached.items)
+      → IfSome entry (IsEntry c.args.net.now c.args.residual.now.states (last_of c.args.self.now) c.args.self.now.reached.items)
+  entered entry is = subst (λ node. IfSome entry (IsEntry c.args.net.now c.args.residual.now.states node c.args.self.now.reached.items)) last is
+
+  -- where the links out of the node led to nothing, all of them were passed
+  past : c.pass_chain-passed.result.entry ≡ None → length c.args.net.now.links ≤ c.pass_chain-passed.result.next
+  past none = where_none c.pass_chain-passed.result.entry none c.pass_chain-passed.ensures.all
 
   -- what is read there are the cursors
   first : c.index-first.result.now ≡ slice_index c.args.self.now.from.items c.index-node.result.now
@@ -55,6 +67,38 @@ module _ (g : _) (c : After-pass_chain-passed g) where
       counts_moved (tail_of c.args.net.now.links) (length c.args.net.now.links) c.index-node.result.now c.index-first.result.now c.pass_chain-passed.result.next c.args.self.now.from.items moved c.args.steps.now
       c.pass_chain-passed.new.steps inside refl first c.pass_chain-passed.ensures.passed.steps
 
+pub pass_chain-passed-requires-clause-first : goal.pass_chain-passed-requires-clause-first
+pass_chain-passed-requires-clause-first g c =
+    let net = c.args.net.now in
+    let old = c.args.self.now in
+    let node = c.index-node.result.now in
+    let below = last_below (flow_network net c.args.residual.now.demand) c.args.residual.now.states old node c.requires.searching c.requires.on_way c.index-node.ensures in
+    let first = get_or_read old.from.items node c.index-first.result.now (omega (arith, below, c.requires.searching.way.places.from)) c.index-first.ensures 0 in
+    let Chain : ℕ → Type 0 = λ link. IsOnChain (tail_of net.links) (length net.links) node link in
+    subst Chain (sym first) (c.requires.searching.from.on_chains node below)
+
+pub index_mut-requires : goal.index_mut-requires
+index_mut-requires g c =
+    let s = (goal.at.index_mut-requires g c).After-pass_chain-passed in
+    omega (arith, inside g s)
+
+pub returns-then-is_some-clause-way : goal.returns-then-is_some-clause-way
+returns-then-is_some-clause-way g c = record { way = refl; depth = refl; came = refl; reached = refl }
+
+pub returns-then-is_some-clause-moved : goal.returns-then-is_some-clause-moved
+returns-then-is_some-clause-moved g c =
+    let s = (goal.at.returns-then-is_some-clause-moved g c).After-pass_chain-passed in
+    moves_out c.args.self.now _ c.index-node.result.now c.pass_chain-passed.result.next (last g s) (inside g s) refl refl
+
+pub returns-then-is_some-clause-entry : goal.returns-then-is_some-clause-entry
+returns-then-is_some-clause-entry g c = entered g (goal.at.returns-then-is_some-clause-entry g c).After-pass_chain-passed c.pass_chain-passed.result.entry c.pass_chain-passed.ensures.entry
+
+pub returns-then-is_some-clause-left : goal.returns-then-is_some-clause-left
+returns-then-is_some-clause-left g c = not_none _ c.pass_chain-passed.result.entry (sym c.is_some.ensures ∙ c.if-is_some.true)
+
+pub returns-then-is_some-clause-looked : goal.returns-then-is_some-clause-looked
+returns-then-is_some-clause-looked g c = c.pass_chain-passed.ensures.looked
+
 pub returns-then-is_some-clause-led : goal.returns-then-is_some-clause-led
 returns-then-is_some-clause-led g c =
     let s = (goal.at.returns-then-is_some-clause-led g c).After-pass_chain-passed in
@@ -73,6 +117,30 @@ pub returns-then-is_some-clause-ticks : goal.returns-then-is_some-clause-ticks
 returns-then-is_some-clause-ticks g c =
     let s = (goal.at.returns-then-is_some-clause-ticks g c).After-pass_chain-passed in
     record { not_back = early g s; counted = omega (arith, tails g s) }
+
+pub bounds-entered-node : goal.bounds-entered-node
+bounds-entered-node g c =
+    let s = (goal.at.bounds-entered-node g c).After-pass_chain-passed in
+    omega (arith, below g s, c.requires.entered.each_node)
+
+pub index_mut-requires-then-not-entered-node : goal.index_mut-requires-then-not-entered-node
+index_mut-requires-then-not-entered-node g c =
+    let s = (goal.at.index_mut-requires-then-not-entered-node g c).After-pass_chain-passed in
+    omega (arith, inside_too g s)
+
+pub returns-then-not-entered-node-clause-way : goal.returns-then-not-entered-node-clause-way
+returns-then-not-entered-node-clause-way g c = record { way = refl; depth = refl; came = refl; reached = refl }
+
+pub returns-then-not-entered-node-clause-moved : goal.returns-then-not-entered-node-clause-moved
+returns-then-not-entered-node-clause-moved g c =
+    let s = (goal.at.returns-then-not-entered-node-clause-moved g c).After-pass_chain-passed in
+    moves_both c.args.self.now _ c.index-node.result.now c.pass_chain-passed.result.next _ (last g s) (inside g s) (inside_too g s) refl refl
+
+pub returns-then-not-entered-node-clause-left : goal.returns-then-not-entered-node-clause-left
+returns-then-not-entered-node-clause-left g c =
+    let s = (goal.at.returns-then-not-entered-node-clause-left g c).After-pass_chain-passed in
+    left_at (length c.args.net.now.links) c.args.self.now _ c.index-node.result.now c.pass_chain-passed.result.next _ (last g s) (inside g s) (inside_too g s) refl refl (past g s (nothing _ (sym c.is_some.ensures ∙ c.if-is_some.false)))
+    (omega (arith, c.len.ensures))
 
 pub returns-then-not-entered-node-clause-led : goal.returns-then-not-entered-node-clause-led
 returns-then-not-entered-node-clause-led g c =
@@ -101,6 +169,14 @@ returns-then-not-entered-node-clause-ticks g c =
     let heads = more_moved (head_of net.links) (length net.links) node c.len.result c.args.self.now.into.items _ (inside_too g s) refl (omega (arith, (c.requires.searching.into.on_chains node (below g s)).within, c.len.ensures)) in
     record { not_back = early g s; counted = omega (arith, tails g s, heads) }
 
+pub index-first-requires-2 : goal.index-first-requires-2
+index-first-requires-2 g c =
+    let s = (goal.at.index-first-requires-2 g c).After-pass_chain-passed in
+    omega (arith, inside_too g s)
+
+pub pass_chain-passed-requires-2-clause-wiring : goal.pass_chain-passed-requires-2-clause-wiring
+pass_chain-passed-requires-2-clause-wiring g c = c.requires.wiring
+
 pub pass_chain-passed-requires-2-clause-first : goal.pass_chain-passed-requires-2-clause-first
 pass_chain-passed-requires-2-clause-first g c =
     let s = (goal.at.pass_chain-passed-requires-2-clause-first g c).After-pass_chain-passed in
@@ -108,6 +184,41 @@ pass_chain-passed-requires-2-clause-first g c =
     let node = c.index-node.result.now in
     let Chain : ℕ → Type 0 = λ link. IsOnChain (head_of net.links) (length net.links) node link in
     subst Chain (sym (second g s c.index-first-2.result.now c.index-first-2.ensures)) (c.requires.searching.into.on_chains node (below g s))
+
+pub pass_chain-passed-requires-2-clause-places : goal.pass_chain-passed-requires-2-clause-places
+pass_chain-passed-requires-2-clause-places g c =
+    let places = c.requires.searching.way.places in
+    record {
+      way = places.way;
+      came = places.came;
+      reached = places.reached;
+      from = length-set c.args.self.now.from.items c.index-node.result.now c.pass_chain-passed.result.next ∙ places.from;
+      into = places.into;
+    }
+
+pub index_mut-requires-2 : goal.index_mut-requires-2
+index_mut-requires-2 g c =
+    let s = (goal.at.index_mut-requires-2 g c).After-pass_chain-passed in
+    omega (arith, inside_too g s)
+
+pub returns-clause-way : goal.returns-clause-way
+returns-clause-way g c = record { way = refl; depth = refl; came = refl; reached = refl }
+
+pub returns-clause-moved : goal.returns-clause-moved
+returns-clause-moved g c =
+    let s = (goal.at.returns-clause-moved g c).After-pass_chain-passed in
+    moves_both c.args.self.now _ c.index-node.result.now c.pass_chain-passed.result.next c.pass_chain-passed-2.result.next (last g s) (inside g s) (inside_too g s) refl refl
+
+pub returns-clause-entry : goal.returns-clause-entry
+returns-clause-entry g c = entered g (goal.at.returns-clause-entry g c).After-pass_chain-passed c.pass_chain-passed-2.result.entry c.pass_chain-passed-2.ensures.entry
+
+pub returns-clause-left : goal.returns-clause-left
+returns-clause-left g c =
+    let s = (goal.at.returns-clause-left g c).After-pass_chain-passed in
+    let two = c.pass_chain-passed-2.result in
+    none_weaker two.entry
+    (λ all. left_at (length c.args.net.now.links) c.args.self.now _ c.index-node.result.now c.pass_chain-passed.result.next two.next (last g s) (inside g s) (inside_too g s) refl refl (past g s (nothing _ (sym c.is_some.ensures ∙ c.if-is_some.false))) all)
+    c.pass_chain-passed-2.ensures.all
 
 pub returns-clause-led : goal.returns-clause-led
 returns-clause-led g c =
