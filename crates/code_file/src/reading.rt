@@ -34,7 +34,8 @@ fn tables(
     front: &Front,
     rest: Rest,
 ) -> Result<(OperandTable, DecoderTable), CodeRefusal>
-    ensures { Gives (contents_with front.now) result (contents_behind (front_seen front.now) (left_of rest.entry)) }
+    ensures { Gives (contents_with front.now) result
+        (contents_behind (front_seen front.now) (left_of rest.entry)) }
 {
     let (operands, rest) = operand_table(alloc, front, rest)?;
     let (decoders, rest) = decoder_table(alloc, front, rest)?;
