@@ -12,9 +12,15 @@ use std::io::Write;
 pub const MOST_OPEN: usize = 512;
 
 /// The files that are kept open for bytes at their ends, by their paths.
-#[derive(Drop)]
 pub struct KeptFiles<F> {
     files: IndexMap<String, F>,
+}
+
+// Whoever lets them go makes this one call, in place of going through all that a map is made of.
+impl<F: Drop> Drop for KeptFiles<F> {
+    fn drop(self) {
+        let KeptFiles { files: _files } = self;
+    }
 }
 
 impl<F: Drop> KeptFiles<F> {
