@@ -8,7 +8,7 @@ use Rattle.std.proofs.lemmas.List.FromFn.{get_or-map-range_with_len, length-map-
 use Rattle.generation_frame.specs.Blocks.{block_of, capacity, piece_of}
 use Rattle.lif_outside.specs.Moves.{Move}
 use Rattle.node_program.specs.declared.code.Code.{Code}
-use Rattle.node_states.specs.Decoded.{decoded_of}
+use Rattle.node_stations.specs.Decoded.{decoded_of}
 use Rattle.node_stations.specs.Opening.{demand_of}
 use Rattle.relay_runner.proofs.JoinLaws.{carried-join, decoded-back, decoded-front, range-append}
 use Rattle.relay_runner.specs.Carried.{IsCarried, packets_given}

@@ -12,13 +12,13 @@ use Rattle.generation_frame.specs.Blocks.{block_count, capacity, most_blocks, pi
 use Rattle.lif_outside.proofs.SequenceLaws.{stops_behind}
 use Rattle.lif_outside.specs.Calls.{Calls}
 use Rattle.lif_outside.specs.Events.{Event}
-use Rattle.lif_outside.specs.Moves.{FollowMoves, InFlight, Move, opened}
 use Rattle.lif_outside.specs.FileCalls.{StopsWithin, appends_of}
+use Rattle.lif_outside.specs.Moves.{FollowMoves, InFlight, Move, opened}
 use Rattle.lif_outside.specs.Sequences.{Are}
 use Rattle.node_program.specs.declared.code.Code.{Code}
+use Rattle.node_stations.specs.Fed.{window_of}
 use Rattle.relay_runner.specs.Carried.{packets_given}
 use Rattle.relay_runner.specs.Running.{AreBlocks, Running, count_in, window_from}
-use Rattle.station_table.specs.Fed.{window_of}
 use Rattle.lif_top.proofs.CarriedLaws.{blocks_from-append, carried-then, decoded-next, decoded-still, length-blocks_from}
 use Rattle.lif_top.proofs.TurnLaws.{turns-alike, turns-append}
 use Rattle.lif_top.specs.Send.Carried.{blocks_from}

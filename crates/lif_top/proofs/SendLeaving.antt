@@ -9,42 +9,42 @@ use Rattle.std.proofs.lemmas.List.{append-nil, length-map, length-take, take_all
 use Rattle.std.proofs.lemmas.List.Folds.{list_any-append}
 use Rattle.std.proofs.lemmas.Slice.Eq.{bytes_eq-Decides}
 use Rattle.coded_traffic.specs.Traffic.{room_for}
-use Rattle.generation_frame.specs.Blocks.{block_count, capacity, counted_bytes, piece_of, pieces_before}
 use Rattle.generation_frame.proofs.BlockLaws.{counted-block}
 use Rattle.generation_frame.proofs.PieceLaws.{concat-pieces_before, concat-pieces_of, length-piece_of}
+use Rattle.generation_frame.specs.Blocks.{block_count, capacity, counted_bytes, piece_of, pieces_before}
 use Rattle.generation_frame.specs.declared.frame.Packet.{Packet}
-use Rattle.lif_outside.specs.Calls.{Calls, Deeds, Outside}
 use Rattle.lif_outside.proofs.DeedLaws.{Accounted}
-use Rattle.lif_outside.specs.Events.{Event, Follow, HappenAt, append_failed}
+use Rattle.lif_outside.proofs.FileCallLaws.{appends_held, appends_keep, fault_there, long_held, reads_begin, whole_held}
+use Rattle.lif_outside.proofs.OpenLaws.{quiet-after, seed-after}
+use Rattle.lif_outside.proofs.StreamLaws.{fault_begins, reads_among, reads_happen, stream_keeps, whole_begins, whole_ended, whole_gave, writes_among, writes_happen}
+use Rattle.lif_outside.proofs.TurnLaws.{appends-fault, appends-front, appends-stopped, bytes_appended-appends_to, creates_of-empty, creates_of-fault, creates_of-keep, creates_of-stopped, front_keeps, stops_keep}
+use Rattle.lif_outside.specs.Calls.{Calls, Deeds, Outside}
 use Rattle.lif_outside.specs.EventLaws.{KeepsPath, happen_keeping}
+use Rattle.lif_outside.specs.Events.{Event, Follow, HappenAt, append_failed}
+use Rattle.lif_outside.specs.FileCalls.{AreAppendsTo, ReadsPastLimit, ReadsToFault, ReadsWhole, StopsWithin, bytes_appended, bytes_read, creates_of}
 use Rattle.lif_outside.specs.Files.{AreDistinct, ChangesOnly, Files, Holds, HoldsPrefix, IsSameOrEmpty}
 use Rattle.lif_outside.specs.Moves.{FollowMoves, InFlight, Move, is_fault, opened}
-use Rattle.lif_outside.proofs.OpenLaws.{quiet-after, seed-after}
-use Rattle.lif_outside.specs.FileCalls.{AreAppendsTo, ReadsPastLimit, ReadsToFault, ReadsWhole, StopsWithin, bytes_appended, bytes_read, creates_of}
-use Rattle.lif_outside.proofs.FileCallLaws.{appends_held, appends_keep, fault_there, long_held, reads_begin, whole_held}
 use Rattle.lif_outside.specs.Sequences.{Are, IsFrontOf}
-use Rattle.lif_outside.proofs.StreamLaws.{fault_begins, reads_among, reads_happen, stream_keeps, whole_begins, whole_ended, whole_gave, writes_among, writes_happen}
 use Rattle.lif_outside.specs.Streams.{reads_in, writes_in}
 use Rattle.lif_outside.specs.Told.{Becomes, Told}
 use Rattle.lif_outside.specs.ToldLaws.{becomes_weaker}
-use Rattle.lif_outside.proofs.TurnLaws.{appends-fault, appends-front, appends-stopped, bytes_appended-appends_to, creates_of-empty, creates_of-fault, creates_of-keep, creates_of-stopped, front_keeps, stops_keep}
+use Rattle.name_texts.specs.Names.{node_name}
 use Rattle.node_program.specs.declared.code.Code.{Code}
+use Rattle.node_stations.specs.Decoded.{decoded_of}
+use Rattle.node_stations.specs.Opening.{demand_of}
 use Rattle.relay_runner.specs.Carried.{IsCarried, packets_given}
-use Rattle.top_base.specs.Accepting.{HoldsCode}
-use Rattle.top_base.specs.Inputs.{HoldsLong, HoldsShort, ReadsAny}
 use Rattle.top_base.proofs.LeavingLaws.{happen_later, happen_parts, keep_files, later_among, none_keep, told_at}
 use Rattle.top_base.proofs.PathLaws.{clear_apart, clear_distinct}
+use Rattle.top_base.specs.Accepting.{HoldsCode}
+use Rattle.top_base.specs.Inputs.{HoldsLong, HoldsShort, ReadsAny}
 use Rattle.top_base.specs.Performs.{LeavesAll}
 use Rattle.top_base.specs.Words.{Send, source_limit}
 use Rattle.top_base.specs.declared.status.Status.{Status}
 use Rattle.top_base.specs.declared.status.Status.TheVariants.{Done, LinkFault, OutOfMemory, ReadFault, SamePath, TooLong, UnknownPattern, WriteFault}
-use Rattle.name_texts.specs.Names.{node_name}
-use Rattle.node_states.specs.Decoded.{decoded_of}
-use Rattle.node_stations.specs.Opening.{demand_of}
 use Rattle.lif_top.proofs.CarriedLaws.{carried-decoded, carried-some, length-blocks_from}
 use Rattle.lif_top.proofs.TurnLaws.{turns-are, turns-of_pieces}
-use Rattle.lif_top.specs.Send.Carried.{blocks_from}
 use Rattle.lif_top.specs.Paths.{output_path}
+use Rattle.lif_top.specs.Send.Carried.{blocks_from}
 use Rattle.lif_top.specs.Send.Changes.{ChangesTo, HasCode, LeavesPart, LeavesSource, LeavesUnwritten}
 use Rattle.lif_top.specs.Send.Given.{IsClear, outputs_of, pattern_in}
 use Rattle.lif_top.specs.Send.Runs.{AfterCreates, AtRest, Broken, Carries, RunsCode, Sent, StopsAtCreate, blocks_brought, deliveries}

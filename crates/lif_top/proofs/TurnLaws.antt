@@ -5,7 +5,6 @@ use Rattle.std.proofs.Common.{refl, sym, ap, ◌∙◌, subst, arith}
 use Rattle.std.proofs.lemmas.List.{append-nil, append_assoc, get_or-map, length-map, map-append}
 use Rattle.std.proofs.lemmas.List.Elements.{Contains-get_or}
 use Rattle.std.proofs.lemmas.List.FromFn.{fill_by_all, filter_of_map_range_with_len_more, map-range_with_len_more}
-use Rattle.list_laws.proofs.Maps.{same_made}
 use Rattle.generation_frame.proofs.PieceLaws.{pieces_before-more}
 use Rattle.generation_frame.specs.Blocks.{counted_bytes, piece_of, pieces_before}
 use Rattle.generation_frame.specs.declared.frame.Packet.{Packet}
@@ -15,12 +14,13 @@ use Rattle.lif_outside.proofs.SequenceLaws.{stops_behind, stops_first, stops_her
 use Rattle.lif_outside.proofs.TurnLaws.{appends_of-append, appends_to-append}
 use Rattle.lif_outside.specs.Calls.{ByCalls}
 use Rattle.lif_outside.specs.Events.{Event, append_event, append_failed, appended}
-use Rattle.lif_outside.specs.Moves.{Move}
 use Rattle.lif_outside.specs.FileCalls.{AreAppendsTo, StopsWithin, Written, appends_of, appends_to, turn_of}
+use Rattle.lif_outside.specs.Moves.{Move}
 use Rattle.lif_outside.specs.Sequences.{Are}
 use Rattle.lif_outside.specs.declared.Failed.{Failed}
+use Rattle.list_laws.proofs.Maps.{same_made}
 use Rattle.node_program.specs.declared.code.Code.{Code}
-use Rattle.node_states.specs.Decoded.{decoded_of}
+use Rattle.node_stations.specs.Decoded.{decoded_of}
 use Rattle.node_stations.specs.Opening.{demand_of}
 use Rattle.relay_runner.proofs.JoinLaws.{range-append}
 use Rattle.lif_top.specs.Send.Turns.{has_bytes, part_at, parts_from, turn_at, turns_before, turns_from}

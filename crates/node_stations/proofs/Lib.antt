@@ -1,1 +1,11 @@
+pub mod DecodedLaws
+pub mod DeliveryLaws
+pub mod FeedingLaws
+pub mod GivingLaws
 pub mod PuttingLaws
+pub mod ReadyLaws
+pub mod SendingLaws
+pub mod SinkLaws
+pub mod SourceLaws
+pub mod StateLaws
+pub mod TableLaws

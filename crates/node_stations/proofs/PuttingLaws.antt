@@ -7,9 +7,9 @@ use Rattle.std.proofs.lemmas.List.Sorted.{length_permutation}
 use Rattle.generation_frame.specs.Frames.{frame_of}
 use Rattle.generation_frame.specs.declared.frame.Packet.{Packet}
 use Rattle.lif_outside.specs.Moves.{FollowMoves, InFlight, Move, is_open, put, put_failed}
-use Rattle.node_states.specs.Shown.{GivesEach}
-use Rattle.node_stations.specs.Putting.{flight_of, puts_of}
 use Rattle.relay_node.specs.Relay.{Gives, Relay}
+use Rattle.node_stations.specs.Putting.{flight_of, puts_of}
+use Rattle.node_stations.specs.Shown.{GivesEach}
 
 -- packets given, and then one more
 pub gives_more : (packets : List Packet) (packet : Packet) (old mid new : Relay) → GivesEach old packets mid → Gives packet mid new

@@ -1,5 +1,9 @@
+pub mod Shown
+pub mod Decoded
 pub mod Delivering
 pub mod Given
 pub mod Opening
 pub mod Passing
 pub mod Putting
+pub mod Table
+pub mod Fed

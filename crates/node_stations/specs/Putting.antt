@@ -6,8 +6,8 @@ use Rattle.generation_frame.specs.declared.frame.Packet.{Packet}
 use Rattle.lif_outside.specs.Moves.{Move, put, put_failed}
 use Rattle.lif_outside.specs.declared.links.Flight.{Flight}
 use Rattle.lif_outside.specs.declared.links.Links.{Ghosts as LinksGhosts}
-use Rattle.node_states.specs.Shown.{GivesEach}
 use Rattle.relay_node.specs.Relay.{IsDue, Relay}
+use Rattle.node_stations.specs.Shown.{GivesEach}
 
 -- the pair of a packet: its link and its frame
 abbrev pub flight_of : Packet → Flight

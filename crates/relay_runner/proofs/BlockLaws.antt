@@ -18,19 +18,19 @@ use Rattle.net_model.specs.Network.{is_sink_among}
 use Rattle.node_plans.specs.Plans.{place_of}
 use Rattle.node_program.specs.Decoding.{IsAccepted}
 use Rattle.node_program.specs.declared.code.Code.{Code}
-use Rattle.node_states.proofs.DecodedLaws.{decoded-same}
-use Rattle.node_states.specs.Decoded.{decoded_of}
-use Rattle.node_states.specs.Shown.{ShowsSink}
+use Rattle.node_stations.proofs.DecodedLaws.{decoded-same}
+use Rattle.node_stations.specs.Decoded.{decoded_of}
 use Rattle.node_stations.specs.Opening.{IsAt, demand_of}
+use Rattle.node_stations.specs.Shown.{ShowsSink}
 use Rattle.relay_core.specs.Core.{Delivery, IsFaithful, RelayState, payload_of}
 use Rattle.relay_node.specs.Relay.{Relay}
+use Rattle.sink_decoder.specs.Receiving.{IsBegun, Receiver, SinkPlan, decoded, is_whole}
 use Rattle.relay_runner.proofs.FaithfulLaws.{decodes-of, held-of, quiet}
+use Rattle.relay_runner.proofs.GivenLaws.{payload-flights}
+use Rattle.relay_runner.proofs.WholeLaws.{sink-decoded, sink-whole}
 use Rattle.relay_runner.specs.Carried.{HasCarriedBy, packets_given}
 use Rattle.relay_runner.specs.Decoding.{CanDecode, HasAll, HasDecoded, StandsAt, block_in}
 use Rattle.relay_runner.specs.Running.{HasCarried, IsRunning, Running}
-use Rattle.run_states.proofs.GivenLaws.{payload-flights}
-use Rattle.run_states.proofs.WholeLaws.{sink-decoded, sink-whole}
-use Rattle.sink_decoder.specs.Receiving.{IsBegun, Receiver, SinkPlan, decoded, is_whole}
 
 -- of distinct numbers, one is found first at its place
 position-distinct : (xs : List ℕ) (place x : ℕ) → are_distinct nat_eq xs ≡ true → slice_get xs place ≡ Some x → position (λ one. one == x) xs ≡ Some place

@@ -7,8 +7,8 @@ use Rattle.node_program.specs.declared.code.Code.{Code}
 use Rattle.relay_core.proofs.RelayedLaws.{first-held, run-relayed}
 use Rattle.relay_core.specs.Core.{Delivery, IsRun, RelayState, held_after, held_of, key_on, opening, payload_of, summed}
 use Rattle.relay_core.specs.Runs.{AreRelayed}
-use Rattle.run_states.proofs.GivenLaws.{payload-given}
-use Rattle.run_states.specs.Delivered.{packet_given}
+use Rattle.relay_runner.proofs.GivenLaws.{payload-given}
+use Rattle.relay_runner.specs.Delivered.{packet_given}
 
 -- what is held after deliveries, and then more
 held_of-append : (run later : List Delivery) (held : List Packet) → held_of (run ++ later) held ≡ held_of later (held_of run held)

@@ -9,24 +9,24 @@ use Rattle.lif_outside.specs.declared.links.Flight.{Flight}
 use Rattle.lif_outside.specs.declared.links.Links.{Ghosts as LinksGhosts}
 use Rattle.node_program.specs.Decoding.{IsAccepted}
 use Rattle.node_program.specs.declared.code.Code.{Code}
-use Rattle.node_states.specs.Decoded.{decoded_of}
+use Rattle.node_stations.specs.Decoded.{decoded_of}
 use Rattle.node_stations.specs.Opening.{demand_of}
 use Rattle.node_stations.specs.Putting.{flight_of}
 use Rattle.relay_core.proofs.PacketLaws.{has_key-held_after}
 use Rattle.relay_core.specs.Core.{Delivery, IsFaithful, RelayState, has_key, held_after, held_of, payload_of}
 use Rattle.relay_core.specs.Runs.{AreRelayed, Reaches}
 use Rattle.relay_node.specs.Relay.{Relay}
+use Rattle.sink_decoder.specs.Receiving.{Receiver}
 use Rattle.relay_runner.proofs.CameLaws.{relayed-told}
 use Rattle.relay_runner.proofs.FaithfulLaws.{decodes-of, held-of, held-sent, quiet}
+use Rattle.relay_runner.proofs.GivenLaws.{packets_in-given, payload-flights, run-fit}
 use Rattle.relay_runner.specs.Carried.{CarriesWindow, HasCarriedBy}
 use Rattle.relay_runner.specs.Carrying.{Carries}
 use Rattle.relay_runner.specs.Decoding.{with_decoded}
+use Rattle.relay_runner.specs.Delivered.{packet_given}
 use Rattle.relay_runner.specs.Runner.{IsSameWork}
 use Rattle.relay_runner.specs.Running.{IsRunning, Running}
-use Rattle.run_states.proofs.GivenLaws.{packets_in-given, payload-flights, run-fit}
-use Rattle.run_states.specs.Delivered.{packet_given}
-use Rattle.run_states.specs.Showing.{packets_in}
-use Rattle.sink_decoder.specs.Receiving.{Receiver}
+use Rattle.relay_runner.specs.Showing.{packets_in}
 
 -- one of three tests, the second before the first
 or_second : (first second third : Bool) → ((first || second) || third) ≡ (second || (first || third))

@@ -22,7 +22,7 @@ use Rattle.node_program.specs.CodeValue.{is_live_in, value_in}
 use Rattle.node_program.specs.Decoding.{IsAccepted, decoding_of}
 use Rattle.node_program.specs.Value.{width_of}
 use Rattle.node_program.specs.declared.code.Code.{Code}
-use Rattle.node_states.specs.Decoded.{decoded_of, row_of, value_of}
+use Rattle.node_stations.specs.Decoded.{decoded_of, row_of, value_of}
 use Rattle.relay_core.specs.Core.{payload_of}
 use Rattle.sink_decoder.proofs.TrafficLaws.{length-value}
 use Rattle.sink_decoder.specs.Receiving.{entries_of, links_of}

@@ -8,10 +8,10 @@ use Rattle.std.proofs.lemmas.List.{length-map}
 use Rattle.std.proofs.lemmas.Option.{none-some, same_Some, slice_get-map, slice_get_read, slice_get_within}
 use Rattle.std.proofs.lemmas.Slice.{between-put_mid, between_is, take-put_mid_below}
 use Rattle.node_program.specs.declared.code.Code.{Code}
+use Rattle.node_stations.specs.Table.{sinks_of}
 use Rattle.node_stations.specs.declared.station.Station.{Station}
-use Rattle.relay_runner.specs.Decoding.{CanDecode, StandsAt, block_in}
 use Rattle.sink_decoder.specs.Receiving.{Receiver}
-use Rattle.station_table.specs.Table.{sinks_of}
+use Rattle.relay_runner.specs.Decoding.{CanDecode, StandsAt, block_in}
 use borrow.Rule.Slice.PartMut.{put_mid}
 
 -- a place below a count ends before as many blocks

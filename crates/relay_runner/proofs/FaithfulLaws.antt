@@ -11,17 +11,17 @@ use Rattle.net_model.specs.declared.Demand.{Demand}
 use Rattle.node_plans.proofs.OrderLaws.{live-below}
 use Rattle.node_program.specs.Decoding.{IsAccepted}
 use Rattle.node_program.specs.declared.code.Code.{Code}
-use Rattle.node_states.specs.Decoded.{decoded_of}
+use Rattle.node_stations.specs.Decoded.{decoded_of}
 use Rattle.node_stations.specs.Opening.{demand_of}
 use Rattle.relay_core.proofs.PacketLaws.{payload_of-known}
 use Rattle.relay_core.proofs.RunLaws.{run-reaches}
 use Rattle.relay_core.specs.Core.{Delivery, IsFaithful, RelayState, has_key}
 use Rattle.relay_core.specs.Runs.{Reaches}
 use Rattle.relay_node.specs.Relay.{Relay}
+use Rattle.sink_decoder.specs.Receiving.{Receiver}
 use Rattle.relay_runner.proofs.DecodedBlockLaws.{CameOf, decoded-block}
 use Rattle.relay_runner.proofs.MeasureLaws.{flying-none}
 use Rattle.relay_runner.specs.Running.{IsRunning}
-use Rattle.sink_decoder.specs.Receiving.{Receiver}
 
 module _ (code : Code) (pattern : ℕ) (window : Window) (run : List Delivery) (relays : List Relay) (sinks : List (Option Receiver)) (state : RelayState)
     (running : IsRunning code pattern window run relays sinks [] state) where

@@ -9,33 +9,33 @@ use Rattle.std.proofs.lemmas.List.Elements.{All-append}
 use Rattle.std.proofs.lemmas.List.Folds.{list_any-append, list_any_at}
 use Rattle.std.proofs.lemmas.List.Sorted.{IsPermutation-append}
 use Rattle.std.proofs.lemmas.List.Sums.{sum_by-append}
-use Rattle.list_laws.proofs.Maps.{map-agree}
+use Rattle.coded_traffic.proofs.KeyLaws.{keys-are}
+use Rattle.coded_traffic.specs.Traffic.{IsKey, Key, Window, block_at, is_same_key, key_of, keys_of, live_links_of, live_operands, packet_of, pair_of, payload_in, traffic_of}
+use Rattle.failure_patterns.proofs.DemandLaws.{demand_of_number}
 use Rattle.generation_frame.specs.Blocks.{pieces}
 use Rattle.generation_frame.specs.declared.frame.Packet.{Packet}
-use Rattle.failure_patterns.proofs.DemandLaws.{demand_of_number}
 use Rattle.lif_outside.proofs.OpenLaws.{still-closed}
 use Rattle.lif_outside.specs.MoveLaws.{flights_given-append, pairs_put-append}
 use Rattle.lif_outside.specs.Moves.{Move, flights_given, is_fault, pairs_put, took_none}
 use Rattle.lif_outside.specs.declared.links.Flight.{Flight}
+use Rattle.list_laws.proofs.Maps.{map-agree}
 use Rattle.net_model.specs.Demands.{pattern_of_demand}
-use Rattle.net_model.specs.declared.Demand.{Demand}
 use Rattle.net_model.specs.Walks.{leaves_source}
+use Rattle.net_model.specs.declared.Demand.{Demand}
 use Rattle.node_program.specs.CodeValue.{is_live_in}
 use Rattle.node_program.specs.declared.code.Code.{Code}
-use Rattle.coded_traffic.proofs.KeyLaws.{keys-are}
-use Rattle.coded_traffic.specs.Traffic.{IsKey, Key, Window, block_at, is_same_key, key_of, keys_of, live_links_of, live_operands, packet_of, pair_of, payload_in, traffic_of}
+use Rattle.node_stations.proofs.DecodedLaws.{decoded-same}
+use Rattle.node_stations.specs.Decoded.{decoded_of}
+use Rattle.node_stations.specs.Opening.{demand_of}
+use Rattle.node_stations.specs.Putting.{flight_of}
 use Rattle.relay_core.proofs.FaithfulLaws.{sum_of-agree}
 use Rattle.relay_core.proofs.LinkLaws.{live-within}
 use Rattle.relay_core.proofs.PacketLaws.{itself, times-none}
 use Rattle.relay_core.specs.Core.{has_key, key_on, payload_of, summed, times_of}
 use Rattle.relay_core.specs.Runs.{AreRelayed}
-use Rattle.node_states.proofs.DecodedLaws.{decoded-same}
-use Rattle.node_states.specs.Decoded.{decoded_of}
-use Rattle.node_stations.specs.Opening.{demand_of}
-use Rattle.node_stations.specs.Putting.{flight_of}
-use Rattle.run_states.proofs.GivenLaws.{payload-none}
-use Rattle.run_states.specs.Showing.{packets_in}
+use Rattle.relay_runner.proofs.GivenLaws.{payload-none}
 use Rattle.relay_runner.specs.Carried.{IsCarried, packets_given}
+use Rattle.relay_runner.specs.Showing.{packets_in}
 
 -- a range, and then what follows it
 pub range-append : (a n m : ℕ) → range_with_len a (n + m) ≡ range_with_len a n ++ range_with_len (a + n) m

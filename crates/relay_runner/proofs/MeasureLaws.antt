@@ -14,13 +14,13 @@ use Rattle.node_stations.proofs.PuttingLaws.{puts-fly}
 use Rattle.node_stations.specs.Putting.{flight_of, puts_of}
 use Rattle.relay_core.specs.Core.{Delivery, RelayState}
 use Rattle.relay_node.specs.Relay.{Relay}
-use Rattle.relay_runner.specs.Running.{IsRunning}
-use Rattle.relay_runner.specs.Stepping.{Steps}
-use Rattle.run_states.proofs.UnsentLaws.{unsent-sent}
-use Rattle.run_states.specs.Delivered.{packet_given}
-use Rattle.run_states.specs.Showing.{packets_in}
-use Rattle.run_states.specs.Unsent.{unsent}
 use Rattle.sink_decoder.specs.Receiving.{Receiver}
+use Rattle.relay_runner.proofs.UnsentLaws.{unsent-sent}
+use Rattle.relay_runner.specs.Delivered.{packet_given}
+use Rattle.relay_runner.specs.Running.{IsRunning}
+use Rattle.relay_runner.specs.Showing.{packets_in}
+use Rattle.relay_runner.specs.Stepping.{Steps}
+use Rattle.relay_runner.specs.Unsent.{unsent}
 
 -- What is left to be done: the repeats, the pairs that fly, and twice the keys that weren't given, since each comes to fly.
 abbrev pub left : {L : Type 0} → LinksGhosts L → Code → ℕ → ℕ → ℕ → L → List Relay → ℕ

@@ -7,15 +7,15 @@ use Rattle.lif_outside.specs.declared.links.Links.{Ghosts as LinksGhosts}
 use Rattle.node_plans.specs.Plans.{place_of}
 use Rattle.node_program.specs.declared.code.Code.{Code}
 use Rattle.node_stations.specs.Opening.{IsAt}
+use Rattle.node_stations.specs.Table.{ArePlanned, relays_of, sinks_of}
 use Rattle.node_stations.specs.declared.station.Station.{Station}
 use Rattle.relay_core.specs.Core.{Delivery, RelayState}
 use Rattle.relay_node.specs.Relay.{Relay}
+use Rattle.sink_decoder.specs.Receiving.{Receiver}
 use Rattle.relay_runner.specs.Running.{IsRunning, StandAt}
 use Rattle.relay_runner.specs.Stepping.{Steps}
 use Rattle.relay_runner.specs.declared.Turn.{Turn}
 use Rattle.relay_runner.specs.declared.Turn.TheVariants.{Moved, Quiet}
-use Rattle.sink_decoder.specs.Receiving.{Receiver}
-use Rattle.station_table.specs.Table.{ArePlanned, relays_of, sinks_of}
 
 -- what holds of the sink at a place where something else does
 pub at_place : (P Q : ℕ → Receiver → Type 0) → ((place : ℕ) (sink : Receiver) → P place sink → Q place sink)

@@ -8,12 +8,15 @@ use Rattle.lif_outside.specs.LinksAccounts.{holding}
 use Rattle.lif_outside.specs.Moves.{InFlight, Move, took_none}
 use Rattle.lif_outside.specs.declared.links.Links.{Ghosts as LinksGhosts}
 use Rattle.node_program.specs.declared.code.Code.{Code}
-use Rattle.node_states.specs.Shown.{IsFedAll, IsReplaced}
 use Rattle.node_stations.proofs.PuttingLaws.{puts-fly}
 use Rattle.node_stations.specs.Putting.{HasRoom, PutsDue, StopsPutting, puts_of}
+use Rattle.node_stations.specs.Shown.{IsFedAll, IsReplaced}
+use Rattle.node_stations.specs.Table.{ArePlanned, relays_of, sinks_of}
 use Rattle.node_stations.specs.declared.station.Station.{Station}
 use Rattle.relay_core.specs.Core.{Delivery, RelayState}
 use Rattle.relay_node.specs.Relay.{Relay}
+use Rattle.sink_decoder.specs.Receiving.{Receiver}
+use Rattle.relay_runner.proofs.CountLaws.{room-first}
 use Rattle.relay_runner.proofs.MeasureLaws.{Account, left, steps-less, steps-room}
 use Rattle.relay_runner.proofs.PlannedLaws.{planned}
 use Rattle.relay_runner.proofs.StationLaws.{node-at, node-replaced, same-sinks, with_node}
@@ -24,9 +27,6 @@ use Rattle.relay_runner.specs.Carrying.{Carries, IsUnderway}
 use Rattle.relay_runner.specs.Runner.{IsSameWork}
 use Rattle.relay_runner.specs.Running.{CanStart, HasCarried, IsRunning, Running, Starts}
 use Rattle.relay_runner.specs.Stepping.{Steps, StopsStepping}
-use Rattle.run_states.proofs.CountLaws.{room-first}
-use Rattle.sink_decoder.specs.Receiving.{Receiver}
-use Rattle.station_table.specs.Table.{ArePlanned, relays_of, sinks_of}
 
 -- A runner that is carrying a window over links that have room for it: whatever window it has begun, the calls are a run of it.
 pub record IsOnWay {L : Type 0} (g : LinksGhosts L) (start now : Running) (before after : L) : Type 0 where

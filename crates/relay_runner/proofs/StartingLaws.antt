@@ -11,21 +11,21 @@ use Rattle.linear_algebra.specs.Elements.{AreBytes}
 use Rattle.node_plans.specs.Plans.{place_of}
 use Rattle.node_plans.specs.declared.plan.Plan.{Plan}
 use Rattle.node_program.specs.declared.code.Code.{Code}
-use Rattle.node_states.specs.Shown.{IsFedAll, IsReplaced, WorksOn}
+use Rattle.node_stations.proofs.FeedingLaws.{block_of}
+use Rattle.node_stations.proofs.ReadyLaws.{are_blocks, fed_all}
 use Rattle.node_stations.specs.Delivering.{AtSink}
+use Rattle.node_stations.specs.Fed.{AreFed}
 use Rattle.node_stations.specs.Opening.{AreSinks, IsAt, IsBegunAt, demand_of}
+use Rattle.node_stations.specs.Shown.{IsFedAll, IsReplaced, WorksOn}
+use Rattle.node_stations.specs.Table.{ArePlanned, HaveBegun, relays_of, sinks_of}
 use Rattle.node_stations.specs.declared.station.Station.{Station}
 use Rattle.relay_node.specs.Relay as nodes
 use Rattle.relay_node.specs.Relay.{Relay}
+use Rattle.sink_decoder.specs.Receiving.{Receiver, sink_plan_of}
 use Rattle.relay_runner.proofs.PlannedLaws.{at_place}
 use Rattle.relay_runner.proofs.StationLaws.{node-at, node-replaced, same-sinks, with_node}
+use Rattle.relay_runner.specs.Ready.{IsReadySink}
 use Rattle.relay_runner.specs.Running.{AreBlocks, IsWindow, Starts, count_in, window_from}
-use Rattle.run_states.specs.Ready.{IsReadySink}
-use Rattle.sink_decoder.specs.Receiving.{Receiver, sink_plan_of}
-use Rattle.station_table.proofs.FeedingLaws.{block_of}
-use Rattle.station_table.proofs.ReadyLaws.{are_blocks, fed_all}
-use Rattle.station_table.specs.Fed.{AreFed}
-use Rattle.station_table.specs.Table.{ArePlanned, HaveBegun, relays_of, sinks_of}
 
 -- a source that can be fed so many blocks of a code from a number on
 pub record IsReadySource (code : Code) (from many : ℕ) (relay : Relay) : Type 0 where

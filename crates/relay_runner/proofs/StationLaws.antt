@@ -2,11 +2,11 @@
 use Rattle.std.specs.Prelude.{◌≡◌, ◌<◌, ℕ, List, Some, get_or, length, slice_get, slice_set}
 use Rattle.std.proofs.Common.{ap, sym, ◌∙◌}
 use Rattle.std.proofs.Math.Seq.{map-set_same}
-use Rattle.node_states.specs.Shown.{IsReplaced}
+use Rattle.node_stations.proofs.TableLaws.{made_at, replaced_at}
+use Rattle.node_stations.specs.Shown.{IsReplaced}
+use Rattle.node_stations.specs.Table.{relays_of, sinks_of}
 use Rattle.node_stations.specs.declared.station.Station.{Station}
 use Rattle.relay_node.specs.Relay.{Relay}
-use Rattle.station_table.proofs.TableLaws.{made_at, replaced_at}
-use Rattle.station_table.specs.Table.{relays_of, sinks_of}
 
 module _ {F : Type 0} (stations : List (Station F)) (place : ℕ) (station : Station F) (is : station ≡ get_or stations place station) where
   -- the stations where that node is another

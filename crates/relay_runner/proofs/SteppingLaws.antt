@@ -13,20 +13,20 @@ use Rattle.net_model.proofs.EndLaws.{ends_below}
 use Rattle.net_model.specs.Walks.{head_of}
 use Rattle.net_model.specs.declared.Link.{Link}
 use Rattle.node_program.specs.declared.code.Code.{Code}
-use Rattle.node_states.specs.Shown.{IsReplaced}
+use Rattle.node_stations.proofs.TableLaws.{made_at, replaced_at}
 use Rattle.node_stations.specs.Delivering.{AtSink, SinkTakes}
 use Rattle.node_stations.specs.Given.{IsGivenOf}
 use Rattle.node_stations.specs.Passing.{FailsPassing, HasRoomAfter, Passes}
+use Rattle.node_stations.specs.Shown.{IsReplaced}
+use Rattle.node_stations.specs.Table.{relays_of, sinks_of}
 use Rattle.node_stations.specs.declared.station.Station.{Station}
 use Rattle.relay_core.specs.Core.{Delivery, RelayState}
 use Rattle.relay_node.specs.Relay.{IsBegun}
+use Rattle.sink_decoder.specs.Receiving as receiving
 use Rattle.relay_runner.proofs.TurningLaws as turning
+use Rattle.relay_runner.specs.Delivered.{packet_given}
 use Rattle.relay_runner.specs.Running.{IsRunning}
 use Rattle.relay_runner.specs.Stepping.{Steps, StopsStepping}
-use Rattle.run_states.specs.Delivered.{packet_given}
-use Rattle.sink_decoder.specs.Receiving as receiving
-use Rattle.station_table.proofs.TableLaws.{made_at, replaced_at}
-use Rattle.station_table.specs.Table.{relays_of, sinks_of}
 
 module _ {L : Type 0} (g : LinksGhosts L)
     (accounts : (made : List Move) (old new : L) → g.moves made old new

@@ -17,11 +17,11 @@ use Rattle.lif_outside.specs.declared.links.Flight.{Flight}
 use Rattle.lif_outside.specs.declared.links.Links.{Ghosts as LinksGhosts}
 use Rattle.net_model.specs.Walks.{head_of, leaves_source}
 use Rattle.node_program.specs.declared.code.Code.{Code}
-use Rattle.node_states.proofs.GivingLaws.{has_key-append}
-use Rattle.node_states.proofs.SourceLaws.{given, given-key}
-use Rattle.node_states.specs.Shown.{GivesEach, IsFedAll}
+use Rattle.node_stations.proofs.GivingLaws.{has_key-append}
 use Rattle.node_stations.proofs.PuttingLaws.{puts-closed}
+use Rattle.node_stations.proofs.SourceLaws.{given, given-key}
 use Rattle.node_stations.specs.Putting.{flight_of, puts_of}
+use Rattle.node_stations.specs.Shown.{GivesEach, IsFedAll}
 use Rattle.relay_core.proofs.FaithfulLaws.{summed-is}
 use Rattle.relay_core.proofs.Kept.{Kept}
 use Rattle.relay_core.proofs.PacketLaws.{has_key-held_after, itself, same_key, times-none}
@@ -31,17 +31,17 @@ use Rattle.relay_core.proofs.StepLaws.{operands-are}
 use Rattle.relay_core.specs.Core.{Delivery, IsFaithful, MaySend, RelayState, has_key, held_after, summed, times_of}
 use Rattle.relay_core.specs.Runs.{AreOfTraffic, AreRelayed, IsOfTraffic}
 use Rattle.relay_node.specs.Relay.{Relay}
+use Rattle.sink_decoder.specs.Receiving.{Receiver}
 use Rattle.relay_runner.proofs.CameLaws.{after-came, relayed-told, sent-told}
+use Rattle.relay_runner.proofs.FlyingLaws.{fits-key, packet_in-frame_of}
+use Rattle.relay_runner.proofs.StepLaws.{has_key-at}
 use Rattle.relay_runner.proofs.WellLaws.{puts-well}
 use Rattle.relay_runner.specs.Carried.{IsStopped, packets_given}
+use Rattle.relay_runner.specs.Delivered.{packet_given}
+use Rattle.relay_runner.specs.Passing.{StopsPassing}
 use Rattle.relay_runner.specs.Running.{IsRunning, Starts}
+use Rattle.relay_runner.specs.Showing.{packets_in}
 use Rattle.relay_runner.specs.Stepping.{ArePut, StopsStepping}
-use Rattle.run_states.proofs.FlyingLaws.{fits-key, packet_in-frame_of}
-use Rattle.run_states.proofs.StepLaws.{has_key-at}
-use Rattle.run_states.specs.Delivered.{packet_given}
-use Rattle.run_states.specs.Passing.{StopsPassing}
-use Rattle.run_states.specs.Showing.{packets_in}
-use Rattle.sink_decoder.specs.Receiving.{Receiver}
 
 -- what holds of all items of two lists holds of those of the first
 All-first : {X : Type 0} (P : X → Type 0) (xs ys : List X) → All P (xs ++ ys) → All P xs

@@ -13,30 +13,30 @@ use Rattle.lif_outside.specs.declared.links.Links.{Ghosts as LinksGhosts}
 use Rattle.net_model.specs.Walks.{head_of}
 use Rattle.node_plans.specs.Plans.{place_of}
 use Rattle.node_program.specs.declared.code.Code.{Code}
-use Rattle.node_states.proofs.DeliveryLaws as deliveries
-use Rattle.node_states.specs.Shown.{IsReplaced, ShowsSink}
+use Rattle.node_stations.proofs.DeliveryLaws as deliveries
 use Rattle.node_stations.specs.Delivering.{AtSink, SinkTakes}
 use Rattle.node_stations.specs.Given.{IsGivenOf, IsOfPut}
 use Rattle.node_stations.specs.Opening.{IsAt, demand_of}
 use Rattle.node_stations.specs.Passing.{FailsPassing, HasRoomAfter, Passes}
 use Rattle.node_stations.specs.Putting.{flight_of, puts_of}
+use Rattle.node_stations.specs.Shown.{IsReplaced, ShowsSink}
 use Rattle.relay_core.proofs.Kept.{Kept}
 use Rattle.relay_core.proofs.RunLaws.{reached-kept, run-more}
 use Rattle.relay_core.specs.Core.{Delivery, RelayState}
 use Rattle.relay_node.specs.Relay.{IsBegun, Relay}
-use Rattle.relay_runner.proofs.StoppingLaws.{stops-put}
-use Rattle.relay_runner.specs.Running.{IsRunning}
-use Rattle.relay_runner.specs.Stepping.{Steps, StopsStepping}
-use Rattle.run_states.proofs.CountLaws.{room-after}
-use Rattle.run_states.proofs.FlyingLaws.{fits-key, taken-delivers}
-use Rattle.run_states.proofs.PassingLaws.{comes-into, passes_on, stops_passing}
-use Rattle.run_states.proofs.StepLaws as laws
-use Rattle.run_states.proofs.StepLaws.{delivered-comes, delivered-key, flying-fit, stepped}
-use Rattle.run_states.specs.Delivered.{IsDelivered, packet_given}
-use Rattle.run_states.specs.Passing.{Comes}
-use Rattle.run_states.specs.Showing.{packets_in}
 use Rattle.sink_decoder.specs.Receiving as receiving
 use Rattle.sink_decoder.specs.Receiving.{Receiver}
+use Rattle.relay_runner.proofs.CountLaws.{room-after}
+use Rattle.relay_runner.proofs.FlyingLaws.{fits-key, taken-delivers}
+use Rattle.relay_runner.proofs.PassingLaws.{comes-into, passes_on, stops_passing}
+use Rattle.relay_runner.proofs.StepLaws as laws
+use Rattle.relay_runner.proofs.StepLaws.{delivered-comes, delivered-key, flying-fit, stepped}
+use Rattle.relay_runner.proofs.StoppingLaws.{stops-put}
+use Rattle.relay_runner.specs.Delivered.{IsDelivered, packet_given}
+use Rattle.relay_runner.specs.Passing.{Comes}
+use Rattle.relay_runner.specs.Running.{IsRunning}
+use Rattle.relay_runner.specs.Showing.{packets_in}
+use Rattle.relay_runner.specs.Stepping.{Steps, StopsStepping}
 
 module _ {L : Type 0} (g : LinksGhosts L)
     (accounts : (made : List Move) (old new : L) → g.moves made old new

@@ -16,25 +16,25 @@ use Rattle.lif_outside.specs.Moves.{InFlight, IsOpenAsBefore, Move, flights_give
 use Rattle.lif_outside.specs.declared.links.Flight.{Flight}
 use Rattle.lif_outside.specs.declared.links.Links.{Ghosts as LinksGhosts}
 use Rattle.node_program.specs.declared.code.Code.{Code}
-use Rattle.node_states.proofs.SourceLaws.{source-gives}
-use Rattle.node_states.specs.Shown.{GivesEach, IsReplaced}
 use Rattle.node_stations.proofs.PuttingLaws.{puts-closed}
+use Rattle.node_stations.proofs.SourceLaws.{source-gives}
 use Rattle.node_stations.specs.Putting.{flight_of, puts_of}
+use Rattle.node_stations.specs.Shown.{GivesEach, IsReplaced}
 use Rattle.relay_core.proofs.RelayedLaws.{first-held, run-relayed}
 use Rattle.relay_core.proofs.RunLaws.{run-reaches}
 use Rattle.relay_core.specs.Core.{Delivery, opening, packets_of}
 use Rattle.relay_core.specs.Runs.{AreRelayed}
 use Rattle.relay_node.specs.Relay.{IsDue, Relay}
+use Rattle.sink_decoder.specs.Receiving.{Receiver}
+use Rattle.relay_runner.proofs.GivenLaws.{packets_in-given, run-fit}
+use Rattle.relay_runner.proofs.OpeningLaws.{opened}
 use Rattle.relay_runner.proofs.WellLaws.{puts-well, still-well}
 use Rattle.relay_runner.specs.Carried.{IsStopped, packets_given}
 use Rattle.relay_runner.specs.Carrying.{Carries, IsUnderway}
+use Rattle.relay_runner.specs.Delivered.{packet_given}
 use Rattle.relay_runner.specs.Running.{HasCarried, IsRunning, Running, Starts}
+use Rattle.relay_runner.specs.Showing.{packets_in}
 use Rattle.relay_runner.specs.Stepping.{Steps, StopsStepping}
-use Rattle.run_states.proofs.GivenLaws.{packets_in-given, run-fit}
-use Rattle.run_states.proofs.OpeningLaws.{opened}
-use Rattle.run_states.specs.Delivered.{packet_given}
-use Rattle.run_states.specs.Showing.{packets_in}
-use Rattle.sink_decoder.specs.Receiving.{Receiver}
 
 -- puts of packets put their pairs
 pub pairs_put-puts_of : (packets : List Packet) → pairs_put (puts_of packets) ≡ map flight_of packets

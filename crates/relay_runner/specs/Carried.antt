@@ -6,15 +6,15 @@ use Rattle.generation_frame.specs.declared.frame.Packet.{Packet}
 use Rattle.lif_outside.specs.Moves.{Move, flights_given, is_fault, is_open, pairs_put, took_none}
 use Rattle.lif_outside.specs.declared.links.Links.{Ghosts as LinksGhosts}
 use Rattle.node_program.specs.declared.code.Code.{Code}
-use Rattle.node_states.specs.Decoded.{decoded_of}
+use Rattle.node_stations.specs.Decoded.{decoded_of}
 use Rattle.node_stations.specs.Opening.{demand_of}
 use Rattle.node_stations.specs.Putting.{flight_of}
 use Rattle.relay_core.specs.Core.{Delivery, RelayState, has_key, held_of, times_of}
 use Rattle.relay_core.specs.Runs.{AreRelayed}
+use Rattle.relay_runner.specs.Delivered.{packet_given}
 use Rattle.relay_runner.specs.Running.{IsRunning, Running}
+use Rattle.relay_runner.specs.Showing.{packets_in}
 use Rattle.relay_runner.specs.Stepping.{ArePut}
-use Rattle.run_states.specs.Delivered.{packet_given}
-use Rattle.run_states.specs.Showing.{packets_in}
 
 -- the packets that links gave, in order; of each key the first one counts
 abbrev pub packets_given : List Move → List Packet

@@ -9,9 +9,9 @@ use Rattle.node_stations.specs.Putting.{flight_of}
 use Rattle.relay_core.specs.Core.{Delivery, IsFaithful, RelayState, held_of}
 use Rattle.relay_core.specs.Runs.{AreRelayed, Reaches}
 use Rattle.relay_node.specs.Relay.{Relay}
-use Rattle.relay_runner.specs.Running.{IsRunning}
-use Rattle.run_states.specs.Delivered.{packet_given}
 use Rattle.sink_decoder.specs.Receiving.{Receiver}
+use Rattle.relay_runner.specs.Delivered.{packet_given}
+use Rattle.relay_runner.specs.Running.{IsRunning}
 
 -- Calls on links that are a run of a window: they weren't opened and no call failed, all that was sent was put, and what was given
 -- are its deliveries, by faithful links with the payloads that were put.

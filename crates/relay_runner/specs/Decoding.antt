@@ -2,8 +2,8 @@
 use Rattle.std.specs.Prelude.{◌≡◌, ◌<◌, ◌≤◌, ◌+◌, ◌*◌, ◌^◌, ℕ, true, All, List, [], Option, Some, drop, length, slice_get, slice_index_or, take}
 use Rattle.generation_frame.specs.Blocks.{most_blocks, row_bytes}
 use Rattle.node_program.specs.declared.code.Code.{Code}
-use Rattle.relay_runner.specs.Running.{HasCarried, Running}
 use Rattle.sink_decoder.specs.Receiving.{IsBegun, Receiver, decoded, is_whole}
+use Rattle.relay_runner.specs.Running.{HasCarried, Running}
 
 -- room for the most blocks of a window, for each of some sinks
 abbrev pub AreRooms : Code → List (List ℕ) → Type 0

@@ -1,3 +1,8 @@
+pub mod Showing
+pub mod Ready
+pub mod Delivered
+pub mod Passing
+pub mod Unsent
 pub mod Running
 pub mod Decoding
 pub mod Stepping

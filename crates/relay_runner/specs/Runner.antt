@@ -2,11 +2,11 @@
 use Rattle.std.specs.Prelude.{◌≡◌, ◌⊎◌, ◌<◌, ◌∷◌, ℕ, Bool, false, List, [], Option, length}
 use Rattle.lif_outside.specs.Moves.{Move, open_refused}
 use Rattle.node_program.specs.declared.code.Code.{Code}
+use Rattle.node_stations.specs.Table.{ArePlanned}
 use Rattle.relay_node.specs.Relay.{Relay}
+use Rattle.sink_decoder.specs.Receiving.{Receiver}
 use Rattle.relay_runner.specs.Decoding.{AreRooms}
 use Rattle.relay_runner.specs.Running.{Running}
-use Rattle.sink_decoder.specs.Receiving.{Receiver}
-use Rattle.station_table.specs.Table.{ArePlanned}
 
 -- The pattern is one of the code's, as long as no call has failed the nodes and sinks have their plans, and there is room for what
 -- each sink decodes.

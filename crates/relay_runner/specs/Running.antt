@@ -5,12 +5,12 @@ use Rattle.coded_traffic.specs.Traffic.{Window}
 use Rattle.generation_frame.specs.Blocks.{most_blocks, row_bytes}
 use Rattle.lif_outside.specs.declared.links.Flight.{Flight}
 use Rattle.node_program.specs.declared.code.Code.{Code}
+use Rattle.node_stations.specs.Fed.{window_of}
 use Rattle.relay_core.specs.Core.{Delivery, IsRun, RelayState, opening}
 use Rattle.relay_node.specs.Relay.{Relay}
-use Rattle.run_states.specs.Ready.{AreReady}
-use Rattle.run_states.specs.Showing.{IsShown}
 use Rattle.sink_decoder.specs.Receiving.{Receiver}
-use Rattle.station_table.specs.Fed.{window_of}
+use Rattle.relay_runner.specs.Ready.{AreReady}
+use Rattle.relay_runner.specs.Showing.{IsShown}
 
 -- A runner: its code and pattern, the nodes and the sinks at them, the window that it carried last, by its first number and its
 -- count, the number of the next generation, what each of the code's sinks decoded, and whether a call has failed.

@@ -10,10 +10,10 @@ use Rattle.node_stations.specs.Putting.{flight_of, puts_of}
 use Rattle.relay_core.specs.Core.{Delivery, IsFaithful, IsStep, RelayState, has_key, times_of}
 use Rattle.relay_core.specs.Runs.{AreOfTraffic, AreRelayed}
 use Rattle.relay_node.specs.Relay.{Relay}
-use Rattle.relay_runner.specs.Running.{IsRunning}
-use Rattle.run_states.specs.Delivered.{packet_given}
-use Rattle.run_states.specs.Showing.{packets_in}
 use Rattle.sink_decoder.specs.Receiving.{Receiver}
+use Rattle.relay_runner.specs.Delivered.{packet_given}
+use Rattle.relay_runner.specs.Running.{IsRunning}
+use Rattle.relay_runner.specs.Showing.{packets_in}
 
 -- A step was made, with the payload that the links gave, which by faithful links is that of the pair. What was taken and put
 -- is what the step says.

@@ -1,9 +1,9 @@
 //! What the sinks of a code decode of a window.
 ghost use Rattle.std.specs.Prelude.{◌≡◌, ◌<◌, ◌≤◌, ◌+◌, ◌*◌, ◌^◌, [], ℕ, List, IfOk, length, slice_index_or};
 ghost use Rattle.generation_frame.specs.Blocks.{most_blocks, row_bytes};
-ghost use Rattle.relay_runner.specs.Decoding.{AreDecoded, AreRooms, CanDecode, HasAll, block_in};
+ghost use Rattle.node_stations.specs.Table.{sinks_of};
 ghost use Rattle.sink_decoder.specs.Receiving.{decoded};
-ghost use Rattle.station_table.specs.Table.{sinks_of};
+ghost use Rattle.relay_runner.specs.Decoding.{AreDecoded, AreRooms, CanDecode, HasAll, block_in};
 
 use generation_frame::{MOST_BLOCKS, ROW};
 use gf_tables::Field;

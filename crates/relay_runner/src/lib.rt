@@ -5,6 +5,11 @@
 //! them at all sinks, side by side, and `block` writes what a sink decoded. Read `specs/Carrying.antt`. The clause that matters
 //! is `carried` of `carry`: it is a run of the core, from its opening state to one where nothing flies, so all of the traffic was
 //! put, nothing twice.
+//!
+//! How a run at work shows a state of the core, by its nodes, the sinks at them and what flies, is in `specs/Showing.antt`; its
+//! laws are in proofs/: what the source gives of its blocks is the opening state (`OpeningLaws`), a pair that links gave and what
+//! is put then are a step (`StepLaws`), there is room for all that is put (`CountLaws`), and where nothing flies each sink has all
+//! that it decodes (`WholeLaws`).
 #![tactic(auto)]
 
 mod decoding;

@@ -5,7 +5,7 @@ ghost use Rattle.generation_frame.specs.Blocks.{row_bytes};
 ghost use Rattle.gf_tables.specs.Kind.{IsOfKind};
 ghost use Rattle.lif_outside.specs.Calls.{MakesMoves};
 ghost use Rattle.lif_outside.specs.Moves.{Move, open_refused, opened, took_none};
-ghost use Rattle.node_states.specs.Decoded.{decoded_of};
+ghost use Rattle.node_stations.specs.Decoded.{decoded_of};
 ghost use Rattle.node_stations.specs.Opening.{demand_of};
 ghost use Rattle.relay_core.specs.Core.{Delivery, IsFaithful, RelayState};
 
@@ -17,8 +17,7 @@ use code_checker::Checked;
 use generation_frame::{MOST_BLOCKS, PIECES, ROW};
 use gf_tables::Field;
 use lif_outside::{Gate, Links};
-use node_stations::{Station, put_due};
-use station_table::open_stations;
+use node_stations::{Station, open_stations, put_due};
 use std::alloc::{AllocError, Global};
 use std::marker::Model;
 use std::thread::Threads;
@@ -47,7 +46,7 @@ impl<'c, F> Model for Runner<'c, F> {
     ghost Value = { Running };
 
     ghost use Rattle.relay_runner.specs.Runner.{IsRunner};
-    ghost use Rattle.station_table.specs.Table.{relays_of, sinks_of};
+    ghost use Rattle.node_stations.specs.Table.{relays_of, sinks_of};
 
     ghost view = { λ r. record {
       code = r.code.now;

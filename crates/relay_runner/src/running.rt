@@ -2,10 +2,10 @@
 ghost use Rattle.std.specs.Prelude.{◌≡◌, ◌*◌, ◌≤◌, ◌∷◌, ℕ, [], List, OnErr, Ok, length};
 ghost use Rattle.coded_traffic.specs.Traffic.{Window, room_for};
 ghost use Rattle.lif_outside.specs.Moves.{took_none};
+ghost use Rattle.node_stations.specs.Table.{relays_of, sinks_of};
 ghost use Rattle.relay_core.specs.Core.{Delivery, RelayState};
 ghost use Rattle.relay_runner.specs.Running.{IsRunning, StandAt};
 ghost use Rattle.relay_runner.specs.Stepping.{Steps, StopsStepping};
-ghost use Rattle.station_table.specs.Table.{relays_of, sinks_of};
 
 use crate::Turn;
 use gf_tables::Field;

@@ -1,13 +1,12 @@
 //! The start of a window.
 ghost use Rattle.std.specs.Prelude.{◌≡◌, ◌<◌, ℕ, length};
+ghost use Rattle.node_stations.specs.Table.{ArePlanned, relays_of, sinks_of};
 ghost use Rattle.relay_runner.specs.Running.{AreBlocks, Starts, count_in, window_from};
-ghost use Rattle.station_table.specs.Table.{ArePlanned, relays_of, sinks_of};
 
 use generation_frame::ROW;
 use gf_tables::Field;
 use node_program::Code;
-use node_stations::Station;
-use station_table::{begin_stations, feed_blocks};
+use node_stations::{Station, begin_stations, feed_blocks};
 
 /// Lets the stations of a code begin the window of these blocks from a number on, feeds the source its blocks, and says how
 /// many they are.

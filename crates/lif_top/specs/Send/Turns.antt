@@ -5,7 +5,7 @@ use Rattle.generation_frame.specs.Blocks.{counted_bytes}
 use Rattle.generation_frame.specs.declared.frame.Packet.{Packet}
 use Rattle.lif_outside.specs.FileCalls.{Written}
 use Rattle.node_program.specs.declared.code.Code.{Code}
-use Rattle.node_states.specs.Decoded.{decoded_of}
+use Rattle.node_stations.specs.Decoded.{decoded_of}
 use Rattle.node_stations.specs.Opening.{demand_of}
 
 -- what a sink gets of a generation: the bytes that the block counts which the sink decodes of the packets that came

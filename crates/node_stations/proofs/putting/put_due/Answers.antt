@@ -1,8 +1,8 @@
 use Rattle.std.proofs.Common.{[], ◌∷◌, ◌++◌, List, refl, subst}
 use Rattle.lif_outside.specs.Moves.{Move, put_failed}
-use Rattle.node_stations.specs.Putting.{StopsPutting, flight_of, puts_of}
 use Rattle.node_stations.proofs.PuttingLaws.{failed_of, gives_more, has_room, less_room, on_err, put_of, puts_more}
 use Rattle.node_stations.proofs.putting.put_due.Goals as goal
+use Rattle.node_stations.specs.Putting.{StopsPutting, flight_of, puts_of}
 
 pub due-init : goal.due-init
 due-init g c = record { packets = []; given = refl; calls = g.met.K.Links.no_moves c.args.links.now }

@@ -1,6 +1,6 @@
 use Rattle.std.proofs.Common.{◌-◌, length}
-use Rattle.node_stations.specs.Putting.{Puts}
 use Rattle.node_stations.proofs.putting.put_due.Given as goal
+use Rattle.node_stations.specs.Putting.{Puts}
 
 abbrev pub invariant-due : goal.invariant-due
 invariant-due g l = Puts g.K.Links l.initial.links l.links l.initial.node l.node

@@ -1,7 +1,7 @@
 use Rattle.std.specs.Prelude.{◌<◌, ◌+◌, ℕ, [], slice_index_or}
+use Rattle.node_stations.specs.Table.{sinks_of}
 use Rattle.relay_runner.proofs.decoding.decode_batch.Given as goal
 use Rattle.relay_runner.specs.Decoding.{AreDecoded, AreRooms}
-use Rattle.station_table.specs.Table.{sinks_of}
 
 -- the sinks so far have decoded
 abbrev pub invariant-loop-place : goal.invariant-loop-place

@@ -1,10 +1,10 @@
 use Rattle.std.specs.Prelude.{◌≡◌, ◌≤◌, ◌+◌, ◌-◌, ◌*◌, length}
 use Rattle.std.proofs.Common.{◌∙◌, ap, arith, sym}
 use Rattle.generation_frame.specs.Blocks.{row_bytes}
+use Rattle.sink_decoder.specs.Receiving.{decoded}
 use Rattle.relay_runner.proofs.DecodingLaws.{block-end, blocks-more}
 use Rattle.relay_runner.proofs.decoding.decode_blocks.Goals as goal
 use Rattle.relay_runner.proofs.decoding.decode_blocks.Goals.{In-loop-place}
-use Rattle.sink_decoder.specs.Receiving.{decoded}
 use borrow.Rule.Slice.PartMut.{mid_len}
 
 pub block-requires-clause-begun : goal.block-requires-clause-begun

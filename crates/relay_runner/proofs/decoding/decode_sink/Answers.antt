@@ -1,12 +1,12 @@
 use Rattle.std.specs.Prelude.{◌+◌}
 use Rattle.std.proofs.Common.{◌∙◌, ap}
+use Rattle.node_stations.specs.Table.{sinks_of}
 use Rattle.node_stations.specs.declared.station.Station.{Station}
+use Rattle.sink_decoder.specs.Receiving.{Receiver, decoded}
 use Rattle.relay_runner.proofs.DecodingLaws.{has-sink, node-station, one-stands, stands-there}
 use Rattle.relay_runner.proofs.decoding.decode_sink.Goals as goal
 use Rattle.relay_runner.proofs.decoding.decode_sink.Goals.{In-Some}
 use Rattle.relay_runner.specs.Decoding.{StandsAt}
-use Rattle.sink_decoder.specs.Receiving.{Receiver, decoded}
-use Rattle.station_table.specs.Table.{sinks_of}
 
 pub bounds-stations-node : goal.bounds-stations-node
 bounds-stations-node g c =

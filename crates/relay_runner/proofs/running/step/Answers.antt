@@ -2,11 +2,11 @@ use Rattle.std.proofs.Common.{[], ◌∷◌, Ok, Option, subst}
 use Rattle.lif_outside.specs.Moves.{take_move}
 use Rattle.lif_outside.specs.declared.links.Flight.{Flight}
 use Rattle.node_stations.proofs.PuttingLaws.{on_err}
+use Rattle.node_stations.specs.Table.{relays_of, sinks_of}
 use Rattle.relay_runner.proofs.SteppingLaws as stepping
 use Rattle.relay_runner.proofs.StoppingLaws.{stops-take}
 use Rattle.relay_runner.proofs.TurningLaws.{is_of_put}
 use Rattle.relay_runner.proofs.running.step.Goals as goal
-use Rattle.station_table.specs.Table.{relays_of, sinks_of}
 
 pub packet_given-packet-requires : goal.packet_given-packet-requires
 packet_given-packet-requires g c =

@@ -5,20 +5,20 @@ use Rattle.failure_patterns.proofs.DemandLaws.{few_sinks}
 use Rattle.generation_frame.specs.Blocks.{counted_bytes}
 use Rattle.lif_outside.proofs.CallLaws.{calls_of}
 use Rattle.lif_outside.specs.Events.{Event, appended}
-use Rattle.lif_outside.specs.Moves.{Move}
 use Rattle.lif_outside.specs.FileCalls.{appends_of}
+use Rattle.lif_outside.specs.Moves.{Move}
 use Rattle.lif_outside.specs.Sequences.{Are}
-use Rattle.node_states.specs.Decoded.{decoded_of}
+use Rattle.node_stations.specs.Decoded.{decoded_of}
 use Rattle.node_stations.specs.Opening.{demand_of}
 use Rattle.relay_runner.specs.Carried.{HasCarriedBy, packets_given}
 use Rattle.relay_runner.specs.Running.{Running}
-use Rattle.lif_top.proofs.Turning.{mapped_at, no_length, some_length}
 use Rattle.lif_top.proofs.TurnLaws.{appends-err, appends-ok, part-none, part-some}
-use Rattle.lif_top.specs.Send.Ready.{paths_of}
-use Rattle.lif_top.specs.Send.Turns.{parts_from}
+use Rattle.lif_top.proofs.Turning.{mapped_at, no_length, some_length}
 use Rattle.lif_top.proofs.delivery.Delivery.append_decoded.Given as given
 use Rattle.lif_top.proofs.delivery.Delivery.append_decoded.Goals as goal
 use Rattle.lif_top.proofs.delivery.Delivery.append_decoded.Goals.{After-as_str, After-counted-received}
+use Rattle.lif_top.specs.Send.Ready.{paths_of}
+use Rattle.lif_top.specs.Send.Turns.{parts_from}
 
 -- the appends of the part of a sink, by the calls that carried the window
 abbrev due : Running → ℕ → List (List ℕ) → ℕ → List Move → List Event

@@ -4,18 +4,18 @@ use Rattle.std.proofs.lemmas.List.{take_at}
 use Rattle.lif_outside.specs.Calls.{MakesMoves}
 use Rattle.node_program.specs.Decoding.{IsAccepted}
 use Rattle.node_stations.proofs.PuttingLaws.{on_err-then, on_ok-then}
+use Rattle.node_stations.specs.Table.{relays_of, sinks_of}
 use Rattle.node_stations.specs.declared.station.Station.{Station}
 use Rattle.relay_runner.proofs.CarriedLaws.{has-sent}
 use Rattle.relay_runner.proofs.RunningLaws.{has-carried}
 use Rattle.relay_runner.proofs.StartingLaws.{made-start, seen-count, start-planned}
 use Rattle.relay_runner.proofs.UnderwayLaws.{still-open}
-use Rattle.relay_runner.specs.Carried.{CarriesWindow, IsStopped}
-use Rattle.relay_runner.specs.Carrying.{Carries}
-use Rattle.relay_runner.specs.Running.{Running, Starts, window_from}
-use Rattle.station_table.specs.Table.{relays_of, sinks_of}
 use Rattle.relay_runner.proofs.runner.Runner.carry.Given as given
 use Rattle.relay_runner.proofs.runner.Runner.carry.Goals as goal
 use Rattle.relay_runner.proofs.runner.Runner.carry.Goals.{After-start_window-count}
+use Rattle.relay_runner.specs.Carried.{CarriesWindow, IsStopped}
+use Rattle.relay_runner.specs.Carrying.{Carries}
+use Rattle.relay_runner.specs.Running.{Running, Starts, window_from}
 
 -- the stations once they have begun the window, as the runner has them
 abbrev begun : (g : given.Over) → After-start_window-count g → List (Station g.row.F.Denot)

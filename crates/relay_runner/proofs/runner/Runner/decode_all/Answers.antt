@@ -2,12 +2,12 @@
 use Rattle.std.specs.Prelude.{List}
 use Rattle.std.proofs.Common.{subst, sym}
 use Rattle.node_program.specs.declared.code.Code.{Code}
+use Rattle.node_stations.specs.Table.{sinks_of}
 use Rattle.node_stations.specs.declared.station.Station.{Station}
 use Rattle.relay_runner.proofs.BlockLaws.{can-decode}
 use Rattle.relay_runner.proofs.runner.Runner.decode_all.Goals as goal
 use Rattle.relay_runner.specs.Decoding.{CanDecode}
 use Rattle.relay_runner.specs.Running.{Running}
-use Rattle.station_table.specs.Table.{sinks_of}
 
 pub decode_sinks-requires-clause-can : goal.decode_sinks-requires-clause-can
 decode_sinks-requires-clause-can g c κs within =

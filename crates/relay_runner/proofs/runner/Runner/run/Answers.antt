@@ -4,12 +4,12 @@ use Rattle.coded_traffic.specs.Traffic.{Window, room_for}
 use Rattle.lif_outside.specs.Calls.{MakesMoves}
 use Rattle.node_program.specs.declared.code.Code.{Code}
 use Rattle.node_stations.proofs.PuttingLaws.{on_err}
+use Rattle.relay_runner.proofs.RunningLaws.{first-planned, first-room, first-stops, first-way, nearer, onward, way-ends, way-stops}
+use Rattle.relay_runner.proofs.runner.Runner.run.Goals as goal
 use Rattle.relay_runner.specs.Carried.{IsStopped}
 use Rattle.relay_runner.specs.Running.{CanStart, Running, Starts}
 use Rattle.relay_runner.specs.declared.Turn.{Turn}
 use Rattle.relay_runner.specs.declared.Turn.TheVariants.{Moved, Quiet}
-use Rattle.relay_runner.proofs.RunningLaws.{first-planned, first-room, first-stops, first-way, nearer, onward, way-ends, way-stops}
-use Rattle.relay_runner.proofs.runner.Runner.run.Goals as goal
 
 pub put_due-requires : goal.put_due-requires
 put_due-requires g c =

@@ -1,11 +1,11 @@
 use Rattle.std.specs.Prelude.{◌≡◌, ◌++◌, List, Ok, drop, length, take}
 use Rattle.std.proofs.Common.{◌∙◌, ap, subst, sym}
 use Rattle.std.proofs.lemmas.List.{take_at}
+use Rattle.node_stations.specs.Table.{ArePlanned, relays_of, sinks_of}
 use Rattle.node_stations.specs.declared.station.Station.{Station}
 use Rattle.relay_runner.proofs.PlannedLaws.{planned-after}
 use Rattle.relay_runner.proofs.runner.Runner.turn.Goals as goal
 use Rattle.relay_runner.specs.Running.{Running, StandAt}
-use Rattle.station_table.specs.Table.{ArePlanned, relays_of, sinks_of}
 
 pub invariant_of-self : goal.invariant_of-self
 invariant_of-self g c =

@@ -1,3 +1,0 @@
-pub mod FeedingLaws
-pub mod ReadyLaws
-pub mod TableLaws
