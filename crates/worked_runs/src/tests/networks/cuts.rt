@@ -1,9 +1,10 @@
 //! The least cuts of networks, and what is said of networks that have none.
-use super::{check, check_puts, check_reads, joined, well};
+use super::{ends, is_done, is_done_where_read, is_refused, joined, well};
 use lif_top::{NetWhy, Status};
 use net_model::LinkList;
 use std::alloc::{AllocError, Global};
 use std::test;
+use std::thread::Threads;
 use worked_rows::texts::{BUTTERFLY_TEXT, ONE_LINK_TEXT, TWO_LINKS_TEXT};
 
 /// The report of the butterfly.
@@ -55,29 +56,31 @@ const REPORTS: &[(&[u8], &[u8])] = &[
 ];
 
 #[test]
-fn least_cuts_are_reported(rt: HostRuntime) -> Result<(), test::Fail> {
-    for &(text, line) in REPORTS {
-        let run = well("cuts", text, line);
-        check(&rt, rt.alloc(), &run, &Status::Done)?;
-        check_puts(&rt, rt.alloc(), &run, &Status::Done, &Status::WriteFault)?;
+fn least_cuts_are_reported(rt: HostRuntime) {
+    for (row, &(text, line)) in REPORTS.iter().enumerate() {
+        let is_said = is_done(&rt, rt.alloc(), &well("cuts", text, line));
+        assert!(rt; is_said, "{row}");
     }
-    Ok(())
 }
 
 #[test]
-fn each_read_fails_in_turn(rt: HostRuntime) -> Result<(), test::Fail> {
+fn each_read_fails_in_turn(rt: HostRuntime) {
     let run = well("cuts", BUTTERFLY_TEXT, BUTTERFLY_REPORT);
-    check_reads(&rt, rt.alloc(), &run, BUTTERFLY_TEXT.len(), &Status::Done)
+    assert!(rt; is_done_where_read(&rt, rt.alloc(), &run, BUTTERFLY_TEXT.len()));
+}
+
+// Whether a network of two links that lead back to each other is refused for them.
+fn refuses_cycle<R: Threads + Sync>(rt: &R, alloc: Global) -> Option<bool> {
+    let text = joined(alloc, ONE_LINK_TEXT, b"link a-b a b\nlink b-a b a\n").ok()?;
+    let links = Vec::from_slice(alloc, &[1, 2]).ok()?;
+    let status = Status::NetRefused(NetWhy::Cycle(LinkList::of(links)));
+    let run = well("cuts", &text, b"net refused: cycle a-b b-a\n");
+    Some(ends(rt, alloc, &run, &status))
 }
 
 #[test]
-fn a_network_with_a_cycle_has_no_report(rt: HostRuntime) -> Result<(), test::Fail> {
-    let alloc = rt.alloc();
-    let text = joined(alloc, ONE_LINK_TEXT, b"link a-b a b\nlink b-a b a\n")?;
-    let cycle = LinkList::of(Vec::from_slice(alloc, &[1, 2])?);
-    let status = Status::NetRefused(NetWhy::Cycle(cycle));
-    let run = well("cuts", &text, b"net refused: cycle a-b b-a\n");
-    check(&rt, alloc, &run, &status)
+fn a_network_with_a_cycle_has_no_report(rt: HostRuntime) {
+    assert!(rt; refuses_cycle(&rt, rt.alloc()) == Some(true));
 }
 
 // A text with so many sinks and one listed pattern, over the field of 256 elements.
@@ -92,12 +95,14 @@ fn crowded(alloc: Global, sinks: u32) -> Result<Vec<u8>, AllocError> {
     Ok(text)
 }
 
-#[test]
-fn the_field_serves_so_many_demands(rt: HostRuntime) -> Result<(), test::Fail> {
-    let alloc = rt.alloc();
-    let text = crowded(alloc, 129)?;
+// Whether 129 sinks with two patterns are too many.
+fn refuses_crowd<R: Threads + Sync>(rt: &R, alloc: Global) -> Option<bool> {
+    let text = crowded(alloc, 129).ok()?;
     let run = well("cuts", &text, b"too many demands: 258\n");
-    let status = Status::TooManyDemands { count: 258 };
-    check(&rt, alloc, &run, &status)?;
-    check_puts(&rt, alloc, &run, &status, &status)
+    Some(is_refused(rt, alloc, &run, &Status::TooManyDemands { count: 258 }))
+}
+
+#[test]
+fn the_field_serves_so_many_demands(rt: HostRuntime) {
+    assert!(rt; refuses_crowd(&rt, rt.alloc()) == Some(true));
 }

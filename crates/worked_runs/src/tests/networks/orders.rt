@@ -1,5 +1,5 @@
 //! The links of a network in order, and what is said of texts that have none.
-use super::{Run, check, check_puts, check_reads, joined, well};
+use super::{Run, ends, ends_at_length, is_done, is_done_where_read, is_refused, joined, well};
 use lif_top::{NetWhy, Status};
 use net_model::LinkList;
 use net_reader::ReadRefusal::{
@@ -8,7 +8,6 @@ use net_reader::ReadRefusal::{
 };
 use net_reader::{ReadRefusal, What};
 use std::alloc::{AllocError, Global};
-use std::process::Abort;
 use std::test;
 use std::thread::Threads;
 use worked_rows::texts::{BUTTERFLY_TEXT, ONE_LINK_TEXT, THREE_CORES_TEXT, numbered};
@@ -39,97 +38,92 @@ const ORDERS: &[(&[u8], &[u8])] = &[
 ];
 
 #[test]
-fn links_are_said_in_order(rt: HostRuntime) -> Result<(), test::Fail> {
-    for &(text, line) in ORDERS {
-        let run = well("order", text, line);
-        check(&rt, rt.alloc(), &run, &Status::Done)?;
-        check_puts(&rt, rt.alloc(), &run, &Status::Done, &Status::WriteFault)?;
+fn links_are_said_in_order(rt: HostRuntime) {
+    for (row, &(text, line)) in ORDERS.iter().enumerate() {
+        let is_said = is_done(&rt, rt.alloc(), &well("order", text, line));
+        assert!(rt; is_said, "{row}");
     }
-    Ok(())
 }
 
 #[test]
-fn each_read_fails_in_turn(rt: HostRuntime) -> Result<(), test::Fail> {
+fn each_read_fails_in_turn(rt: HostRuntime) {
     let run = well("order", BUTTERFLY_TEXT, BUTTERFLY_ORDER);
-    check_reads(&rt, rt.alloc(), &run, BUTTERFLY_TEXT.len(), &Status::Done)
+    assert!(rt; is_done_where_read(&rt, rt.alloc(), &run, BUTTERFLY_TEXT.len()));
 }
 
 #[test]
-fn a_missing_text_is_a_fault(rt: HostRuntime) -> Result<(), test::Fail> {
+fn a_missing_text_is_a_fault(rt: HostRuntime) {
     let run = Run {
         text: None,
         ..well("order", b"", b"read fault\n")
     };
-    check(&rt, rt.alloc(), &run, &Status::ReadFault)
+    assert!(rt; ends(&rt, rt.alloc(), &run, &Status::ReadFault));
 }
 
-// What stands behind the text of the one link, the links of the cycle, and how they are said.
+// What stands behind the text of the one link, the links of the cycle, and how it is said.
 const CYCLES: &[(&[u8], &[u32], &str)] = &[
     (
         b"link a-b a b\nlink b-c b c\nlink c-a c a\n",
         &[1, 2, 3],
-        "a-b b-c c-a",
+        "cycle a-b b-c c-a",
     ),
     (
         b"link c-a c a\nlink b-c b c\nlink a-b a b\n",
         &[1, 3, 2],
-        "c-a a-b b-c",
+        "cycle c-a a-b b-c",
     ),
-    (b"link back t s\n", &[0, 1], "l back"),
+    (b"link back t s\n", &[0, 1], "cycle l back"),
     (
         b"link on t a\nlink b-a b a\nlink a-b a b\nlink off b c\n",
         &[2, 3],
-        "b-a a-b",
+        "cycle b-a a-b",
     ),
 ];
 
-// A run is refused for a cycle, also where its line can't be said.
-fn check_cycle<R: Abort + Threads + Sync>(
+// Whether a text is refused with the number 3, and it is said why.
+fn refuses<R: Threads + Sync>(
     rt: &R,
     alloc: Global,
-    run: &Run<'_>,
+    text: &[u8],
     status: &Status,
-) -> Result<(), test::Fail> {
-    assert_eq!(rt; status.code(), 3);
-    check(rt, alloc, run, status)?;
-    check_puts(rt, alloc, run, status, status)
+    said: &str,
+) -> Option<bool> {
+    let line = format!(in alloc; "net refused: {said}\n").ok()?;
+    let run = well("order", text, line.as_bytes());
+    Some(status.code() == 3 && is_refused(rt, alloc, &run, status))
 }
 
-// A cycle of these links is said, where these lines follow those of one link.
-fn check_said<R: Abort + Threads + Sync>(
+// Whether the text of the one link is, with this behind it.
+fn refuses_behind<R: Threads + Sync>(
+    rt: &R,
+    alloc: Global,
+    rest: &[u8],
+    status: &Status,
+    said: &str,
+) -> Option<bool> {
+    let text = joined(alloc, ONE_LINK_TEXT, rest).ok()?;
+    refuses(rt, alloc, &text, status, said)
+}
+
+// Whether it is for a cycle of these links.
+fn refuses_cycle<R: Threads + Sync>(
     rt: &R,
     alloc: Global,
     rest: &[u8],
     links: &[u32],
     said: &str,
-) -> Result<(), test::Fail> {
-    let text = joined(alloc, ONE_LINK_TEXT, rest)?;
-    let line = format!(in alloc; "net refused: cycle {said}\n")?;
-    let status = Status::NetRefused(NetWhy::Cycle(LinkList::of(Vec::from_slice(alloc, links)?)));
-    check_cycle(rt, alloc, &well("order", &text, line.as_bytes()), &status)
+) -> Option<bool> {
+    let links = Vec::from_slice(alloc, links).ok()?;
+    let status = Status::NetRefused(NetWhy::Cycle(LinkList::of(links)));
+    refuses_behind(rt, alloc, rest, &status, said)
 }
 
 #[test]
-fn a_cycle_is_said(rt: HostRuntime) -> Result<(), test::Fail> {
+fn a_cycle_is_said(rt: HostRuntime) {
     for &(rest, links, said) in CYCLES {
-        check_said(&rt, rt.alloc(), rest, links, said)?;
+        let is_said = refuses_cycle(&rt, rt.alloc(), rest, links, said);
+        assert!(rt; is_said == Some(true), "{said}");
     }
-    Ok(())
-}
-
-// A text is refused, and it is said why.
-fn refuse_text<R: Abort + Threads + Sync>(
-    rt: &R,
-    alloc: Global,
-    text: &[u8],
-    why: ReadRefusal,
-    said: &str,
-) -> Result<(), test::Fail> {
-    let line = format!(in alloc; "net refused: {said}\n")?;
-    let status = Status::NetRefused(NetWhy::Text(why));
-    let run = well("order", text, line.as_bytes());
-    check(rt, alloc, &run, &status)?;
-    check_puts(rt, alloc, &run, &status, &status)
 }
 
 // A text, or what stands behind that of the one link, with its refusal and how it is said.
@@ -209,16 +203,21 @@ const TEXTS: &[Refused] = &[
 ];
 
 #[test]
-fn texts_of_no_network_are_refused(rt: HostRuntime) -> Result<(), test::Fail> {
-    let alloc = rt.alloc();
+fn lines_that_are_none_are_refused(rt: HostRuntime) {
     for &(rest, why, said) in BEHIND_ONE_LINK {
-        let text = joined(alloc, ONE_LINK_TEXT, rest)?;
-        refuse_text(&rt, alloc, &text, why, said)?;
+        let status = Status::NetRefused(NetWhy::Text(why));
+        let refused = refuses_behind(&rt, rt.alloc(), rest, &status, said);
+        assert!(rt; refused == Some(true), "{said}");
     }
+}
+
+#[test]
+fn texts_of_no_network_are_refused(rt: HostRuntime) {
     for &(text, why, said) in TEXTS {
-        refuse_text(&rt, alloc, text, why, said)?;
+        let status = Status::NetRefused(NetWhy::Text(why));
+        let refused = refuses(&rt, rt.alloc(), text, &status, said);
+        assert!(rt; refused == Some(true), "{said}");
     }
-    Ok(())
 }
 
 // A text of many lines: what it begins with, what stands in each line before and behind its number, how many there
@@ -277,50 +276,46 @@ fn text_with(alloc: Global, many: &Many, lines: u64) -> Result<String, AllocErro
     numbered(alloc, many.front, many.before, many.behind, lines)
 }
 
-// As many lines as there may be are a network's.
-fn check_most<R: Abort + Threads + Sync>(
-    rt: &R,
-    alloc: Global,
-    many: &Many,
-) -> Result<(), test::Fail> {
-    let text = text_with(alloc, many, many.most)?;
-    let line = numbered(alloc, "", "l", "\n", many.links)?;
+// Whether as many lines as there may be are a network's.
+fn takes_most<R: Threads + Sync>(rt: &R, alloc: Global, many: &Many) -> Option<bool> {
+    let text = text_with(alloc, many, many.most).ok()?;
+    let line = numbered(alloc, "", "l", "\n", many.links).ok()?;
     let run = well("order", text.as_bytes(), line.as_bytes());
-    check(rt, alloc, &run, &Status::Done)
+    Some(ends(rt, alloc, &run, &Status::Done))
 }
 
-// And one more is refused.
-fn check_more<R: Abort + Threads + Sync>(
-    rt: &R,
-    alloc: Global,
-    many: &Many,
-) -> Result<(), test::Fail> {
-    let text = text_with(alloc, many, many.most.saturating_add(1))?;
-    refuse_text(rt, alloc, text.as_bytes(), many.why, many.said)
+// Whether one more is refused.
+fn refuses_more<R: Threads + Sync>(rt: &R, alloc: Global, many: &Many) -> Option<bool> {
+    let text = text_with(alloc, many, many.most.saturating_add(1)).ok()?;
+    let status = Status::NetRefused(NetWhy::Text(many.why));
+    refuses(rt, alloc, text.as_bytes(), &status, many.said)
 }
 
 #[test]
-fn one_too_many_is_refused(rt: HostRuntime) -> Result<(), test::Fail> {
+fn as_many_as_there_may_be_are_taken(rt: HostRuntime) {
     for many in MANY {
-        check_most(&rt, rt.alloc(), many)?;
-        check_more(&rt, rt.alloc(), many)?;
+        assert!(rt;
+            takes_most(&rt, rt.alloc(), many) == Some(true),
+            "{}",
+            many.before
+        );
     }
-    Ok(())
 }
 
 #[test]
-fn a_text_has_a_limit(rt: HostRuntime) -> Result<(), test::Fail> {
-    let alloc = rt.alloc();
-    let mut text = joined(alloc, ONE_LINK_TEXT, b"#")?;
-    for _ in text.len()..LIMIT {
-        text.push(b'x')?;
+fn one_too_many_is_refused(rt: HostRuntime) {
+    for many in MANY {
+        assert!(rt;
+            refuses_more(&rt, rt.alloc(), many) == Some(true),
+            "{}",
+            many.said
+        );
     }
-    check(&rt, alloc, &well("order", &text, b"l\n"), &Status::Done)?;
-    text.push(b'x')?;
-    check(
-        &rt,
-        alloc,
-        &well("order", &text, b"too long\n"),
-        &Status::TooLong,
-    )
+}
+
+#[test]
+fn a_text_has_a_limit(rt: HostRuntime) {
+    let is_taken = ends_at_length(&rt, rt.alloc(), LIMIT, &Status::Done, b"l\n");
+    let is_too_long = ends_at_length(&rt, rt.alloc(), LIMIT + 1, &Status::TooLong, b"too long\n");
+    assert!(rt; is_taken && is_too_long);
 }
