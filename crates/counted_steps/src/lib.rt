@@ -29,9 +29,6 @@ ghost use Rattle.counted_steps.specs.Steps.{RoseBy};
 use std::marker::Model;
 use std::sync::ledger::{Blank, Book, Ledger, Share};
 
-#[cfg(test)]
-mod tests;
-
 /// How many steps were counted. It takes no bytes, and only ticks change it.
 #[derive(Drop)]
 pub struct Steps<L: Ledger> {

@@ -1,9 +1,7 @@
 -- A block gives back its bytes, has the length of its rows, and is of bytes.
-use Rattle.std.specs.Prelude.{◌≡◌, ℕ, ◌≤◌, ◌<◌, ◌^◌, ◌-◌, ◌*◌, ◌/◌, ◌%◌, List, ◌∷◌, ◌++◌, length, take, replicate}
-use Rattle.std.specs.List.{All}
+use Rattle.std.specs.Prelude.{◌≡◌, ℕ, ◌≤◌, ◌<◌, ◌^◌, ◌-◌, ◌*◌, List, ◌++◌, length, take, replicate}
 use Rattle.std.proofs.Common.{refl, ap, ◌∙◌, arith}
 use Rattle.std.proofs.lemmas.List.{take_at, length-append, length-replicate}
-use Rattle.std.proofs.lemmas.List.Elements.{All-cons, All-append, All-replicate}
 use Rattle.std.proofs.lemmas.Nat.{from_be_bytes-to_be_bytes_4}
 use Rattle.generation_frame.specs.Blocks.{capacity, block_of, counted_bytes}
 

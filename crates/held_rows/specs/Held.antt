@@ -1,5 +1,5 @@
 -- Rows of eight pieces each, as far as their pieces have come.
-use Rattle.std.specs.Prelude.{◌≡◌, ◌≢◌, ◌+◌, ◌*◌, ◌/◌, ℕ, Bool, true, false, List, [], length, take, drop, slice_index_or, IsTrue}
+use Rattle.std.specs.Prelude.{◌≡◌, ◌≢◌, ◌+◌, ◌*◌, ◌/◌, ℕ, Bool, true, false, List, [], length, take, drop, slice_index_or}
 use Rattle.std.specs.List.{concat, list_all}
 
 -- the payloads of all pieces, row after row, and which of them have come

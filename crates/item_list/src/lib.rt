@@ -8,9 +8,6 @@ ghost use Rattle.std.specs.Prelude.{◌≡◌, ◌<◌, ℕ, List, length, slice
 
 use std::marker::Model;
 
-#[cfg(test)]
-mod tests;
-
 /// Items in order, which a contract sees as their list.
 #[derive(Drop, Debug)]
 pub struct ItemList<T> {

@@ -1,5 +1,5 @@
 -- A run of a window at work: how it begins, goes on and ends.
-use Rattle.std.specs.Prelude.{◌≡◌, ◌<◌, ◌≤◌, ◌*◌, ◌∷◌, ◌++◌, ℕ, Bool, false, List, [], Option, Some, get_or, length, slice_get}
+use Rattle.std.specs.Prelude.{◌≡◌, ◌<◌, ◌≤◌, ◌∷◌, ◌++◌, ℕ, Bool, false, List, [], Option, Some, get_or, length, slice_get}
 use Rattle.std.proofs.Common.{arith, ap, refl, subst, sym, ◌∙◌}
 use Rattle.std.proofs.lemmas.List.{length-map}
 use Rattle.coded_traffic.specs.Traffic.{Window, room_for}

@@ -1,5 +1,5 @@
 -- The calls of `send`, by its outcome. This holds of every store and of all links.
-use Rattle.std.specs.Prelude.{◌≡◌, ◌⊎◌, ◌*◌, ◌/◌, ℕ, Bool, if◌then◌else◌, min, length, List, [], ◌∷◌, Some, IsSome, IsNone}
+use Rattle.std.specs.Prelude.{◌≡◌, ◌⊎◌, ◌/◌, ℕ, Bool, if◌then◌else◌, min, length, List, [], ◌∷◌, Some, IsSome, IsNone}
 use Rattle.coded_traffic.specs.Traffic.{room_for}
 use Rattle.generation_frame.specs.Blocks.{block_count, capacity}
 use Rattle.generation_frame.specs.declared.frame.Packet.{Packet}

@@ -1,8 +1,7 @@
-use Rattle.std.proofs.Common.{◌≡◌, ◌∙◌, ◌++◌, Bool, List, ap, arith, drop, false, length, nat_lt, replicate, slice_index_or, subst, sym, true}
+use Rattle.std.proofs.Common.{◌≡◌, ◌∙◌, Bool, List, ap, arith, drop, false, length, nat_lt, replicate, slice_index_or, subst, sym, true}
 use Rattle.std.specs.List.{list_all}
 use Rattle.std.proofs.lemmas.List.{length-replicate, take_at}
 use Rattle.net_model.proofs.FailedLaws.{failed_below, failed_links-at, marked-from_none}
-use Rattle.net_model.specs.Failed.{failed_links}
 use Rattle.net_model.specs.Lists.{is_among}
 use Rattle.net_model.specs.Renumbering.{AreMarked}
 use Rattle.net_model.proofs.net.Net.failed_table.Goals as goal

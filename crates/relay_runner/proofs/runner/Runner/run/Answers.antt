@@ -1,5 +1,5 @@
 -- The source's packets are put, and then turn follows turn.
-use Rattle.std.proofs.Common.{Ok, refl, ◌≡◌, ◌≤◌, ◌*◌, length, subst, sym, ap}
+use Rattle.std.proofs.Common.{Ok, refl, ◌≡◌, ◌≤◌, subst, sym, ap}
 use Rattle.coded_traffic.specs.Traffic.{Window, room_for}
 use Rattle.lif_outside.specs.Calls.{MakesMoves}
 use Rattle.node_program.specs.declared.code.Code.{Code}

@@ -1,5 +1,0 @@
-use Rattle.counted_steps.proofs.tests.find_uncounted.Given as goal
-
--- the ledger of the blank that is passed
-abbrev pub ghosts-find_from : goal.ghosts-find_from
-ghosts-find_from a = record { name = a.blank.name; parts = a.blank.parts }
