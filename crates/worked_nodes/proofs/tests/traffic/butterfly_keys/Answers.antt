@@ -2,7 +2,7 @@ use Rattle.std.proofs.Common.{refl}
 use Rattle.node_program.specs.Value.{is_live_within}
 use Rattle.worked_rows.specs.Butterfly.{butterfly}
 use Rattle.worked_rows.specs.CutButterfly.{cut_butterfly}
-use Rattle.worked_traffic.proofs.butterfly_keys.Goals as goal
+use Rattle.worked_nodes.proofs.tests.traffic.butterfly_keys.Goals as goal
 
 pub returns-clause-all : goal.returns-clause-all
 unfolding butterfly is_live_within
