@@ -24,6 +24,43 @@ fn read(alloc: Global, text: &[u8]) -> Option<Net> {
     }
 }
 
+fn add_sinks(text: &mut String, sinks: &[u32]) -> Result<(), AllocError> {
+    for sink in sinks {
+        writeln!(text, "sink n{sink}")?;
+    }
+    Ok(())
+}
+
+fn add_links(text: &mut String, ends: &[(u32, u32)]) -> Result<(), AllocError> {
+    for (number, &(tail, head)) in ends.iter().enumerate() {
+        writeln!(text, "link l{number} n{tail} n{head}")?;
+    }
+    Ok(())
+}
+
+fn add_pattern(text: &mut String, number: usize, links: &[u32]) -> Result<(), AllocError> {
+    write!(text, "pattern p{number}")?;
+    for link in links {
+        write!(text, " l{link}")?;
+    }
+    writeln!(text)
+}
+
+fn add_all(
+    text: &mut String,
+    ends: &[(u32, u32)],
+    sinks: &[u32],
+    patterns: &[&[u32]],
+) -> Result<(), AllocError> {
+    text.push_str("source n0\n")?;
+    add_sinks(text, sinks)?;
+    add_links(text, ends)?;
+    for (number, &links) in patterns.iter().enumerate() {
+        add_pattern(text, number, links)?;
+    }
+    Ok(())
+}
+
 // The text of a network with these links, from node 0 to these sinks, and with these patterns: node 3 is named
 // `n3`, and link 5 `l5`.
 fn text_of(
@@ -33,21 +70,7 @@ fn text_of(
     patterns: &[&[u32]],
 ) -> Result<String, AllocError> {
     let mut text = String::new(alloc);
-    text.push_str("source n0\n")?;
-    for sink in sinks {
-        writeln!(text, "sink n{sink}")?;
-    }
-    for (number, ends) in ends.iter().enumerate() {
-        let (tail, head) = *ends;
-        writeln!(text, "link l{number} n{tail} n{head}")?;
-    }
-    for (number, links) in patterns.iter().enumerate() {
-        write!(text, "pattern p{number}")?;
-        for link in *links {
-            write!(text, " l{link}")?;
-        }
-        writeln!(text)?;
-    }
+    add_all(&mut text, ends, sinks, patterns)?;
     Ok(text)
 }
 

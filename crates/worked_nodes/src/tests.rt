@@ -10,4 +10,5 @@ mod rows;
 mod runs;
 mod sums;
 mod told;
+mod traffic;
 mod windows;

@@ -1,9 +1,4 @@
 //! Code files of the examples.
-ghost use Rattle.std.specs.Prelude.{◌≡◌, slice_set};
-ghost use Rattle.code_file.specs.Items.{bytes_of};
-ghost use Rattle.worked_rows.specs.OneLink.{one_link, wide_one_link, doubled_one_link};
-ghost use Rattle.worked_rows.specs.Butterfly.{butterfly, changed_butterfly};
-ghost use Rattle.worked_rows.specs.CutButterfly.{cut_butterfly};
 
 /// One link, over the field of 256 elements.
 pub const ONE_LINK: &[u8] = b"LIFC\x01\x08\x01\
@@ -111,33 +106,3 @@ pub const TWO_WAYS: &[u8] = b"LIFC\x01\x08\x01\
     \x00\x02\x00\x01\x01\x00\x02\x02\
     \x00\x03\xf4\
     \x00\x03\x01";
-
-/// The file of the code of one link.
-pub fn one_link_is_spelled()
-    ensures { bytes_of one_link ≡ ONE_LINK.now }
-{}
-
-/// The file of the same code over the field of 65,536 elements.
-pub fn wide_one_link_is_spelled()
-    ensures { bytes_of wide_one_link ≡ WIDE_ONE_LINK.now }
-{}
-
-/// The file of the code of one link with the coefficient 2.
-pub fn doubled_one_link_is_spelled()
-    ensures { bytes_of doubled_one_link ≡ DOUBLED_ONE_LINK.now }
-{}
-
-/// The file of the butterfly.
-pub fn butterfly_is_spelled()
-    ensures { bytes_of butterfly ≡ BUTTERFLY.now }
-{}
-
-/// The file of the butterfly with the first entry of the second decoder changed differs in that byte.
-pub fn changed_butterfly_is_spelled()
-    ensures { bytes_of changed_butterfly ≡ slice_set BUTTERFLY.now 173 2 }
-{}
-
-/// The file of the butterfly with the pattern `cut` of the link 0.
-pub fn cut_butterfly_is_spelled()
-    ensures { bytes_of cut_butterfly ≡ CUT_BUTTERFLY.now }
-{}

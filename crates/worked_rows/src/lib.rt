@@ -6,16 +6,12 @@
 //! `orders`, orders in which links give what flies.
 #![tactic(auto)]
 
-pub mod accepting;
-pub mod blocks;
 pub mod codes;
 pub mod draws;
 pub mod files;
 pub mod gates;
-pub mod links;
 pub mod networks;
 pub mod orders;
-pub mod products;
 pub mod runs;
 #[cfg(test)]
 mod tests;

@@ -1,12 +1,18 @@
-//! Worked examples that are run.
+//! Worked examples: what the definitions give, and what calls give that are run.
+mod accepting;
 mod beginnings;
+mod blocks;
 mod checks;
 mod code_files;
 mod codes;
+mod links;
 mod live_links;
 mod many_lines;
 mod network_texts;
 mod networks;
+mod products;
+mod spelled;
+mod texts;
 mod vectors;
 
 use net_model::{Name, NameFault};

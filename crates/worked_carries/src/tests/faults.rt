@@ -82,12 +82,20 @@ fn carries_with<R: Threads + Sync>(rt: &R, alloc: Global, put: u64, take: u64) -
     }
 }
 
+// The first number of a put or a take that isn't carried, or is, as it should be where it is to fail: 72 frames are put
+// and taken, and the last take finds nothing.
+fn wrong_number<R: Threads + Sync>(rt: &R, alloc: Global) -> Option<u64> {
+    for nth in 1..=75 {
+        let put = carries_with(rt, alloc, nth, 0);
+        let take = carries_with(rt, alloc, 0, nth);
+        if put != Some(nth > 72) || take != Some(nth > 73) {
+            return Some(nth);
+        }
+    }
+    None
+}
+
 #[test]
 fn each_put_and_each_take_can_fail(rt: HostRuntime) {
-    // 72 frames are put and taken, and the last take finds nothing.
-    for nth in 1..=75 {
-        let put = carries_with(&rt, rt.alloc(), nth, 0);
-        let take = carries_with(&rt, rt.alloc(), 0, nth);
-        assert_eq!(rt; (put, take), (Some(nth > 72), Some(nth > 73)), "{nth}");
-    }
+    assert_eq!(rt; wrong_number(&rt, rt.alloc()), None);
 }

@@ -127,9 +127,17 @@ fn by_repeats<R: Threads + Sync>(rt: &R, alloc: Global, file: &[u8], pattern: u3
     }
 }
 
+// The first code of which not all comes so.
+fn lost_by_repeats<R: Threads + Sync>(rt: &R, alloc: Global) -> Option<&'static str> {
+    for &(name, file, pattern) in CODES {
+        if !by_repeats(rt, alloc, file, pattern) {
+            return Some(name);
+        }
+    }
+    None
+}
+
 #[test]
 fn pairs_may_come_again(rt: HostRuntime) {
-    for &(name, file, pattern) in CODES {
-        assert!(rt; by_repeats(&rt, rt.alloc(), file, pattern), "{name}");
-    }
+    assert_eq!(rt; lost_by_repeats(&rt, rt.alloc()), None);
 }

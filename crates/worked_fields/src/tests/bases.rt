@@ -1,5 +1,6 @@
 //! Bases on a frontier: the vectors and inverses after vectors were replaced, by both ways.
-ghost use Rattle.std.specs.Prelude.{◌<◌};
+ghost use Rattle.std.specs.Prelude.{◌<◌, ◌≤◌};
+ghost use Rattle.net_model.specs.Limits.{highest_rate};
 
 use super::counting::{Counted, run_over};
 use super::numbered::{element, row, two_by_two};
@@ -50,7 +51,7 @@ fn are_same<F: Field>(a: &Matrix<F>, b: &Matrix<F>) -> bool {
 }
 
 // How the inverse vectors are found: by one pass over the old ones, or as the inverse of the vectors.
-#[derive(Clone, Copy, Debug)]
+#[derive(Clone, Copy)]
 enum Way {
     Advance,
     Renew,
@@ -81,6 +82,7 @@ fn replace<F: Field, L: Ledger>(
 }
 
 // The unit vectors of length 2 with the vector of one path replaced.
+#[derive(Clone, Copy)]
 struct FirstReplaced {
     way: Way,
     path: u32,
@@ -113,31 +115,54 @@ fn paths_after<F: Field, L: Ledger>(
     two_paths(basis)
 }
 
+// The same of the unit vectors of length 2.
+fn first_replaced<F: Field, L: Ledger>(
+    alloc: Global,
+    way: Way,
+    path: u32,
+    vector: &[F],
+    steps: &mut Steps<L>,
+) -> Option<TwoPaths> {
+    match Basis::<F>::start(alloc, 2) {
+        Ok(mut basis) => paths_after(alloc, way, &mut basis, path, vector, steps),
+        Err(_) => None,
+    }
+}
+
 impl Counted for FirstReplaced {
     type Found = Option<TwoPaths>;
 
     fn run<F: Field, L: Ledger>(self, alloc: Global, mut steps: Steps<L>) -> Option<TwoPaths> {
-        let FirstReplaced { way, path, vector } = self;
-        let vector = row::<F>(alloc, &vector).ok()?;
-        let mut basis = Basis::<F>::start(alloc, 2).ok()?;
-        paths_after(alloc, way, &mut basis, path, vector.as_slice(), &mut steps)
+        match row::<F>(alloc, &self.vector) {
+            Ok(vector) => first_replaced(alloc, self.way, self.path, &vector, &mut steps),
+            Err(_) => None,
+        }
     }
+}
+
+// Paths, vectors, and what is on the frontier then.
+const REPLACED: &[(u32, [u32; 2], TwoPaths)] = &[
+    (0, [1, 1], ([Some(7), None], [1, 1, 0, 1], [1, 0, 1, 1])),
+    (1, [0, 2], ([None, Some(7)], [1, 0, 0, 2], [1, 0, 0, 0x8E])),
+    (1, [1, 0], ([None, None], [1, 0, 0, 1], [1, 0, 0, 1])),
+];
+
+// The first row of those in which another thing comes of a way.
+fn wrong_row(alloc: Global, way: Way) -> Option<usize> {
+    for (row, &(path, vector, right)) in REPLACED.iter().enumerate() {
+        let first = FirstReplaced { way, path, vector };
+        if run_over::<Gf8, FirstReplaced>(alloc, first) != Some(right) {
+            return Some(row);
+        }
+    }
+    None
 }
 
 #[test]
 fn the_first_vector_is_replaced(rt: HostRuntime) {
-    let cases = [
-        (0, [1, 1], ([Some(7), None], [1, 1, 0, 1], [1, 0, 1, 1])),
-        (1, [0, 2], ([None, Some(7)], [1, 0, 0, 2], [1, 0, 0, 0x8E])),
-        (1, [1, 0], ([None, None], [1, 0, 0, 1], [1, 0, 0, 1])),
-    ];
-    for (path, vector, right) in cases {
-        for way in [Way::Advance, Way::Renew] {
-            let first = FirstReplaced { way, path, vector };
-            let found = run_over::<Gf8, FirstReplaced>(rt.alloc(), first);
-            assert!(rt; found == Some(right), "{way:?}, {path}, {vector:?}");
-        }
-    }
+    let are_right = wrong_row(rt.alloc(), Way::Advance).is_none()
+        && wrong_row(rt.alloc(), Way::Renew).is_none();
+    assert!(rt; are_right);
 }
 
 // The number at a place of the vector of a round, by a rule.
@@ -169,94 +194,97 @@ fn vector_of<F: Field>(
     Ok(vector)
 }
 
-// Two bases that begin with the unit vectors: one is advanced, and the other renewed.
-#[derive(Drop)]
-struct Twins<F: Field> {
-    advanced: Basis<F>,
-    renewed: Basis<F>,
+// Whether two bases have the same vectors and inverses, and the products of these are right.
+fn are_right<F: Field>(advanced: &Basis<F>, renewed: &Basis<F>) -> bool {
+    is_dual(advanced)
+        && are_same(&advanced.vectors, &renewed.vectors)
+        && are_same(&advanced.inverses, &renewed.inverses)
 }
 
-impl<F: Field> Twins<F> {
-    // Whether both have the same vectors and inverses, and the products of these are right.
-    fn are_right(&self) -> bool {
-        let Twins { advanced, renewed } = self;
-        is_dual(advanced)
-            && are_same(&advanced.vectors, &renewed.vectors)
-            && are_same(&advanced.inverses, &renewed.inverses)
-    }
+// Replaces the vector of a path in two bases, of which one is advanced and the other renewed, and tells whether both did.
+fn replace_both<F: Field, L: Ledger>(
+    alloc: Global,
+    advanced: &mut Basis<F>,
+    renewed: &mut Basis<F>,
+    path: u32,
+    round: u32,
+    vector: &[F],
+    steps: &mut Steps<L>,
+) -> Result<bool, AllocError> {
+    let is_advanced = replace(alloc, Way::Advance, advanced, path, round, vector, steps)?;
+    let is_renewed = replace(alloc, Way::Renew, renewed, path, round, vector, steps)?;
+    Ok(is_advanced && is_renewed)
+}
 
-    // One round for both, and whether a vector was replaced.
-    fn go_on<L: Ledger>(
-        &mut self,
-        alloc: Global,
-        round: u32,
-        path: u32,
-        steps: &mut Steps<L>,
-    ) -> Result<bool, AllocError> {
-        let vector = vector_of(alloc, &self.advanced, round, path)?;
-        let vector = vector.as_slice();
-        let advanced = replace(
-            alloc,
-            Way::Advance,
-            &mut self.advanced,
-            path,
-            round,
-            vector,
-            steps,
-        )?;
-        let renewed = replace(
-            alloc,
-            Way::Renew,
-            &mut self.renewed,
-            path,
-            round,
-            vector,
-            steps,
-        )?;
-        Ok(advanced && renewed)
-    }
-
-    // In how many of so many rounds a vector was replaced, and whether both were right after each.
-    fn go_round<L: Ledger>(
-        &mut self,
-        alloc: Global,
-        h: u32,
-        rounds: u32,
-        steps: &mut Steps<L>,
-    ) -> Option<(u32, bool)>
-        requires some_paths { 0 < h }
-    {
-        let mut right = self.are_right();
-        let mut made = 0u32;
-        for round in 0..rounds {
-            if self.go_on(alloc, round, round % h, steps).ok()? {
-                made = made.wrapping_add(1);
-            }
-            right = right && self.are_right();
-        }
-        Some((made, right))
-    }
+// One round for both, and whether a vector was replaced.
+fn go_on<F: Field, L: Ledger>(
+    alloc: Global,
+    advanced: &mut Basis<F>,
+    renewed: &mut Basis<F>,
+    round: u32,
+    path: u32,
+    steps: &mut Steps<L>,
+) -> Result<bool, AllocError> {
+    let vector = vector_of(alloc, advanced, round, path)?;
+    replace_both(alloc, advanced, renewed, path, round, &vector, steps)
 }
 
 // So many rounds from the unit vectors of a length.
+#[derive(Clone, Copy)]
 struct Rounds {
     h: u32,
     rounds: u32,
+}
+
+// In how many of so many rounds a vector was replaced, and whether both were right after each.
+fn go_round<F: Field, L: Ledger>(
+    alloc: Global,
+    advanced: &mut Basis<F>,
+    renewed: &mut Basis<F>,
+    rounds: Rounds,
+    steps: &mut Steps<L>,
+) -> Option<(u32, bool)>
+    requires some_paths { 0 < rounds.h }
+{
+    let mut right = are_right(advanced, renewed);
+    let mut made = 0u32;
+    for round in 0..rounds.rounds {
+        match go_on(alloc, advanced, renewed, round, round % rounds.h, steps) {
+            Ok(is_made) => made = made.wrapping_add(is_made as u32),
+            Err(_) => return None,
+        }
+        right = right && are_right(advanced, renewed);
+    }
+    Some((made, right))
+}
+
+// The same from the unit vectors for the basis that is renewed.
+fn go_round_beside<F: Field, L: Ledger>(
+    alloc: Global,
+    advanced: &mut Basis<F>,
+    rounds: Rounds,
+    steps: &mut Steps<L>,
+) -> Option<(u32, bool)>
+    requires some_paths { 0 < rounds.h }
+    requires few_paths { rounds.h ≤ highest_rate }
+{
+    match Basis::<F>::start(alloc, rounds.h) {
+        Ok(mut renewed) => go_round(alloc, advanced, &mut renewed, rounds, steps),
+        Err(_) => None,
+    }
 }
 
 impl Counted for Rounds {
     type Found = Option<(u32, bool)>;
 
     fn run<F: Field, L: Ledger>(self, alloc: Global, mut steps: Steps<L>) -> Option<(u32, bool)> {
-        let Rounds { h, rounds } = self;
-        if h < 1 || h > HIGHEST_RATE {
+        if self.h < 1 || self.h > HIGHEST_RATE {
             return None;
         }
-        let mut twins = Twins {
-            advanced: Basis::<F>::start(alloc, h).ok()?,
-            renewed: Basis::<F>::start(alloc, h).ok()?,
-        };
-        twins.go_round(alloc, h, rounds, &mut steps)
+        match Basis::<F>::start(alloc, self.h) {
+            Ok(mut advanced) => go_round_beside(alloc, &mut advanced, self, &mut steps),
+            Err(_) => None,
+        }
     }
 }
 
@@ -267,12 +295,9 @@ fn replaced<F: Field>(alloc: Global, h: u32, rounds: u32) -> Option<(u32, bool)>
 
 #[test]
 fn both_ways_agree(rt: HostRuntime) {
-    let eight = replaced::<Gf8>(rt.alloc(), 2, 10);
-    let some = replaced::<Gf16>(rt.alloc(), 4, 50);
-    let one = replaced::<Gf8>(rt.alloc(), 1, 3);
-    let most = replaced::<Gf16>(rt.alloc(), HIGHEST_RATE, 3);
-    assert!(rt; eight == Some((8, true)), "{eight:?}");
-    assert!(rt; some == Some((40, true)), "{some:?}");
-    assert!(rt; one == Some((3, true)), "{one:?}");
-    assert!(rt; most == Some((3, true)), "{most:?}");
+    let are_right = replaced::<Gf8>(rt.alloc(), 2, 10) == Some((8, true))
+        && replaced::<Gf16>(rt.alloc(), 4, 50) == Some((40, true))
+        && replaced::<Gf8>(rt.alloc(), 1, 3) == Some((3, true))
+        && replaced::<Gf16>(rt.alloc(), HIGHEST_RATE, 3) == Some((3, true));
+    assert!(rt; are_right);
 }

@@ -104,21 +104,19 @@ fn is_nonzero_at<F: Field>(matrix: &Matrix<F>, places: &[u32]) -> bool
     true
 }
 
-// A choice, and the counter at its end.
+// A choice, with a counter at which no step was counted.
 fn choose_counted<F: Field, L: Ledger>(
     alloc: Global,
     matrix: &Matrix<F>,
     places: &[u32],
-    steps: Steps<L>,
-) -> (Result<Vec<F>, AllocError>, Steps<L>)
-    requires none { steps ≡ 0 }
+    steps: &mut Steps<L>,
+) -> Result<Vec<F>, AllocError>
+    requires none { steps.old ≡ 0 }
     requires nonzero { HasNonzeroAt F.zero matrix.now places.now }
     requires few_rows { length matrix.now.rows ≤ F.SIZE }
-    ensures { result.1 ≤ choice_steps (length matrix.now.rows) matrix.now.columns }
+    ensures { steps.new ≤ choice_steps (length matrix.now.rows) matrix.now.columns }
 {
-    let mut steps = steps;
-    let choice = choose(alloc, matrix, places, &mut steps);
-    (choice, steps)
+    choose(alloc, matrix, places, steps)
 }
 
 // Whether no product of a row with the coefficients is zero.
@@ -144,51 +142,81 @@ fn summary<F: Field>(elements: &[F]) -> (usize, [u32; 2]) {
     }
 }
 
+// The summary of coefficients, where no product of a row with them is zero.
+fn summary_of<F: Field, L: Ledger>(
+    matrix: &Matrix<F>,
+    coefficients: &[F],
+    steps: &mut Steps<L>,
+) -> Option<(usize, [u32; 2])> {
+    if are_nonzero(matrix, coefficients, steps) {
+        Some(summary(coefficients))
+    } else {
+        None
+    }
+}
+
 // The summary of chosen coefficients, where the rows aren't zero at their places, and no product is.
 fn chosen<F: Field, L: Ledger>(
     alloc: Global,
     matrix: &Matrix<F>,
     places: &[u32],
-    steps: Steps<L>,
+    steps: &mut Steps<L>,
 ) -> Option<(usize, [u32; 2])>
-    requires { steps ≡ 0 }
+    requires { steps.old ≡ 0 }
 {
     if matrix.rows() > F::SIZE || !is_nonzero_at(matrix, places) {
         return None;
     }
-    let (choice, mut steps) = choose_counted(alloc, matrix, places, steps);
-    match choice {
-        Ok(choice) if are_nonzero(matrix, choice.as_slice(), &mut steps) => {
-            Some(summary(choice.as_slice()))
-        }
-        _ => None,
+    match choose_counted(alloc, matrix, places, steps) {
+        Ok(choice) => summary_of(matrix, &choice, steps),
+        Err(_) => None,
+    }
+}
+
+// The same of the matrix of a table.
+fn chosen_of<F: Field, L: Ledger>(
+    alloc: Global,
+    table: Table,
+    matrix: &Matrix<F>,
+    steps: &mut Steps<L>,
+) -> Option<(usize, [u32; 2])>
+    requires { steps.old ≡ 0 }
+{
+    match places_of(alloc, table) {
+        Ok(places) => chosen(alloc, matrix, &places, steps),
+        Err(_) => None,
     }
 }
 
 impl Counted for Table {
     type Found = Option<(usize, [u32; 2])>;
 
-    fn run<F: Field, L: Ledger>(self, alloc: Global, steps: Steps<L>) -> Self::Found {
-        let matrix = matrix_of::<F>(alloc, self).ok()?;
-        let places = places_of(alloc, self).ok()?;
-        chosen(alloc, &matrix, places.as_slice(), steps)
+    fn run<F: Field, L: Ledger>(self, alloc: Global, mut steps: Steps<L>) -> Self::Found {
+        match matrix_of::<F>(alloc, self) {
+            Ok(matrix) => chosen_of(alloc, self, &matrix, &mut steps),
+            Err(_) => None,
+        }
     }
 }
 
 #[test]
 fn as_many_rows_as_elements_leave_one_choice(rt: HostRuntime) {
     let found = run_over::<Gf8, Table>(rt.alloc(), Table::Slopes);
-    assert!(rt;
-        found.is_some_and(|(count, [first, second])| count == 2 && first == 0 && second != 0)
-    );
+    assert!(rt; matches!(found, Some((2, [0, second])) if second != 0));
+}
+
+// How many coefficients are chosen for a table.
+fn count_of<F: Field>(alloc: Global, table: Table) -> Option<usize> {
+    match run_over::<F, Table>(alloc, table) {
+        Some((count, _)) => Some(count),
+        None => None,
+    }
 }
 
 #[test]
 fn each_column_has_a_coefficient(rt: HostRuntime) {
-    let many = run_over::<Gf16, Table>(rt.alloc(), Table::Many);
-    let one = run_over::<Gf8, Table>(rt.alloc(), Table::One);
-    let none = run_over::<Gf16, Table>(rt.alloc(), Table::Empty);
-    assert!(rt; matches!(many, Some((7, _))), "{many:?}");
-    assert!(rt; matches!(one, Some((3, _))), "{one:?}");
-    assert!(rt; matches!(none, Some((3, _))), "{none:?}");
+    let have_one = count_of::<Gf16>(rt.alloc(), Table::Many) == Some(7)
+        && count_of::<Gf8>(rt.alloc(), Table::One) == Some(3)
+        && count_of::<Gf16>(rt.alloc(), Table::Empty) == Some(3);
+    assert!(rt; have_one);
 }

@@ -1,7 +1,9 @@
 //! Elements of both fields: their products beside those of the definition, and each call through the bound.
+ghost use Rattle.std.specs.Prelude.{◌<◌};
+
 use super::numbered::element;
 use gf_tables::{Field, FieldKind, Gf8, Gf16, product};
-use std::thread::join;
+use std::thread::{Threads, join};
 
 // The product of bytes by its definition: a is doubled for each bit of b, and reduced where it has nine bits.
 fn product_by_shifts(a: u32, b: u32) -> u32 {
@@ -47,45 +49,63 @@ fn each_call<F: Field>(n: u32, m: u32) -> [u32; 7] {
 
 #[test]
 fn each_call_answers_through_the_bound(rt: HostRuntime) {
-    let cases = [
-        (each_call::<Gf8>(2, 0x80), [0x82, 0x1D, 0x1B, 1, 256, 1, 8]),
-        (each_call::<Gf8>(3, 2), [1, 6, 0x8E, 1, 256, 1, 8]),
-        (each_call::<Gf8>(2, 3), [1, 6, 0xF4, 1, 256, 1, 8]),
-        (
-            each_call::<Gf16>(3, 0x0100),
-            [0x0103, 0x0300, 0x6C6C, 1, 65536, 2, 16],
-        ),
-    ];
-    for (answers, right) in cases {
-        assert_eq!(rt; answers, right);
+    let are_right = each_call::<Gf8>(2, 0x80) == [0x82, 0x1D, 0x1B, 1, 256, 1, 8]
+        && each_call::<Gf8>(3, 2) == [1, 6, 0x8E, 1, 256, 1, 8]
+        && each_call::<Gf8>(2, 3) == [1, 6, 0xF4, 1, 256, 1, 8]
+        && each_call::<Gf16>(3, 0x0100) == [0x0103, 0x0300, 0x6C6C, 1, 65536, 2, 16];
+    assert!(rt; are_right);
+}
+
+// The first byte whose product with this one isn't that of the definition.
+fn wrong_factor(a: u32) -> Option<u32>
+    requires { a < 256 }
+{
+    for b in 0..Gf8::SIZE {
+        if Gf8::of_number(a).mul(Gf8::of_number(b)).number() != product_by_shifts(a, b) {
+            return Some(b);
+        }
     }
+    None
+}
+
+// The first two bytes whose product isn't that of the definition.
+fn wrong_bytes() -> Option<(u32, u32)> {
+    for a in 0..Gf8::SIZE {
+        if let Some(b) = wrong_factor(a) {
+            return Some((a, b));
+        }
+    }
+    None
 }
 
 #[test]
 fn all_products_of_bytes_are_those_of_the_definition(rt: HostRuntime) {
-    for a in 0..Gf8::SIZE {
-        for b in 0..Gf8::SIZE {
-            let product = Gf8::of_number(a).mul(Gf8::of_number(b)).number();
-            assert_eq!(rt; product, product_by_shifts(a, b), "{a} times {b}");
-        }
-    }
+    assert_eq!(rt; wrong_bytes(), None);
 }
 
-#[test]
-fn many_products_of_pairs_are_those_of_the_definition(rt: HostRuntime) {
+// The first two of many pairs of bytes whose product isn't that of the definition.
+fn wrong_pairs() -> Option<(u32, u32)> {
     let mut random = 1u32;
     for _ in 0..100_000u32 {
         random = random.wrapping_mul(1_664_525).wrapping_add(1_013_904_223);
         let (n, m) = (random >> 16, random & 0xFFFF);
-        let product = Gf16::of_number(n).mul(Gf16::of_number(m)).number();
-        assert_eq!(rt; product, product_by_parts(n, m), "{n} times {m}");
+        if Gf16::of_number(n).mul(Gf16::of_number(m)).number() != product_by_parts(n, m) {
+            return Some((n, m));
+        }
     }
+    None
+}
+
+#[test]
+fn many_products_of_pairs_are_those_of_the_definition(rt: HostRuntime) {
+    assert_eq!(rt; wrong_pairs(), None);
 }
 
 #[test]
 fn a_kind_has_the_products_of_its_field(rt: HostRuntime) {
-    assert_eq!(rt; product(FieldKind::Eight, 2, 0x80), 0x1D);
-    assert_eq!(rt; product(FieldKind::Sixteen, 0x0100, 0x0100), 0x0120);
+    let octets = product(FieldKind::Eight, 2, 0x80);
+    let pairs = product(FieldKind::Sixteen, 0x0100, 0x0100);
+    assert!(rt; octets == 0x1D && pairs == 0x0120);
 }
 
 // The numbers of the first powers of an element.
@@ -104,15 +124,14 @@ fn products_of(octet: &Gf8, pair: &Gf16) -> [[u32; 100]; 2] {
     [powers_of(*octet), powers_of(*pair)]
 }
 
+// Whether two threads find the products that one alone finds.
+fn find_the_same<R: Threads>(rt: &R, octet: &Gf8, pair: &Gf16) -> bool {
+    let (first, second) = join(rt, || products_of(octet, pair), || products_of(octet, pair));
+    let alone = products_of(octet, pair);
+    first == alone && second == alone
+}
+
 #[test]
 fn threads_share_fields(rt: HostRuntime) {
-    let octet = Gf8::of_number(3);
-    let pair = Gf16::of_number(0x0203);
-    let (first, second) = join(
-        &rt,
-        || products_of(&octet, &pair),
-        || products_of(&octet, &pair),
-    );
-    let alone = products_of(&octet, &pair);
-    assert_eq!(rt; [first, second], [alone, alone]);
+    assert!(rt; find_the_same(&rt, &Gf8::of_number(3), &Gf16::of_number(0x0203)));
 }

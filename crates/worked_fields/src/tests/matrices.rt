@@ -25,41 +25,55 @@ fn difference<F: Field, L: Ledger>(
 }
 
 // A matrix of three rows and three columns, by its numbers.
+#[derive(Clone, Copy)]
 struct ThreeByThree([u32; 9]);
 
-// The first entry in which a matrix of three rows differs from the identity.
+// The first entry in which the product of a matrix and the identity of three rows differs from the identity.
 fn difference_from_identity<F: Field, L: Ledger>(
     alloc: Global,
     matrix: &Matrix<F>,
     steps: &mut Steps<L>,
 ) -> Result<Option<(u32, u32, u32)>, AllocError> {
-    let identity = square::<F>(alloc, 3, &[1, 0, 0, 0, 1, 0, 0, 0, 1])?;
-    Ok(difference(matrix, &identity, steps))
+    match square::<F>(alloc, 3, &[1, 0, 0, 0, 1, 0, 0, 0, 1]) {
+        Ok(identity) => Ok(difference(matrix, &identity, steps)),
+        Err(error) => Err(error),
+    }
 }
 
 impl Counted for ThreeByThree {
     type Found = Result<Option<(u32, u32, u32)>, AllocError>;
 
     fn run<F: Field, L: Ledger>(self, alloc: Global, mut steps: Steps<L>) -> Self::Found {
-        let ThreeByThree(numbers) = self;
-        let matrix = square::<F>(alloc, 3, &numbers)?;
-        difference_from_identity(alloc, &matrix, &mut steps)
+        match square::<F>(alloc, 3, &self.0) {
+            Ok(matrix) => difference_from_identity(alloc, &matrix, &mut steps),
+            Err(error) => Err(error),
+        }
     }
+}
+
+// Matrices, and the first entry in which each differs from the identity.
+const DIFFERENCES: &[([u32; 9], Option<(u32, u32, u32)>)] = &[
+    ([1, 0, 0, 0, 1, 0, 0, 0, 1], None),
+    ([1, 0, 0, 0, 1, 5, 7, 0, 1], Some((1, 2, 5))),
+    ([1, 0, 3, 4, 1, 0, 0, 0, 1], Some((0, 2, 3))),
+    ([2, 0, 0, 0, 1, 0, 0, 0, 1], Some((0, 0, 2))),
+    ([1, 0, 0, 0, 1, 0, 0, 0, 0], Some((2, 2, 0))),
+];
+
+// The first row of those that isn't so.
+fn wrong_difference(alloc: Global) -> Option<usize> {
+    for (row, &(numbers, right)) in DIFFERENCES.iter().enumerate() {
+        let found: Result<_, _> = run_over::<Gf8, ThreeByThree>(alloc, ThreeByThree(numbers));
+        if found != Ok(right) {
+            return Some(row);
+        }
+    }
+    None
 }
 
 #[test]
 fn the_first_difference_is_found_by_rows(rt: HostRuntime) {
-    let cases = [
-        ([1, 0, 0, 0, 1, 0, 0, 0, 1], None),
-        ([1, 0, 0, 0, 1, 5, 7, 0, 1], Some((1, 2, 5))),
-        ([1, 0, 3, 4, 1, 0, 0, 0, 1], Some((0, 2, 3))),
-        ([2, 0, 0, 0, 1, 0, 0, 0, 1], Some((0, 0, 2))),
-        ([1, 0, 0, 0, 1, 0, 0, 0, 0], Some((2, 2, 0))),
-    ];
-    for (numbers, right) in cases {
-        let found: Result<_, _> = run_over::<Gf8, ThreeByThree>(rt.alloc(), ThreeByThree(numbers));
-        assert!(rt; found == Ok(right), "{numbers:?}");
-    }
+    assert_eq!(rt; wrong_difference(rt.alloc()), None);
 }
 
 // The numbers of two elements.
@@ -90,18 +104,27 @@ fn inverse_of<F: Field>(alloc: Global, numbers: &[u32; 4]) -> Result<[u32; 4], [
     }
 }
 
+// Matrices, and their inverses, or the blocks that they send to zero.
+const INVERSES: &[([u32; 4], Result<[u32; 4], [u32; 2]>)] = &[
+    ([1, 0, 1, 1], Ok([1, 0, 1, 1])),
+    ([0, 1, 1, 0], Ok([0, 1, 1, 0])),
+    ([2, 0, 0, 1], Ok([0x8E, 0, 0, 1])),
+    ([1, 1, 1, 1], Err([1, 1])),
+];
+
+// The first row of those that isn't so.
+fn wrong_inverse(alloc: Global) -> Option<usize> {
+    for (row, &(numbers, right)) in INVERSES.iter().enumerate() {
+        if inverse_of::<Gf8>(alloc, &numbers) != right {
+            return Some(row);
+        }
+    }
+    None
+}
+
 #[test]
 fn small_matrices_are_inverted_or_singular(rt: HostRuntime) {
-    let cases = [
-        ([1, 0, 1, 1], Ok([1, 0, 1, 1])),
-        ([0, 1, 1, 0], Ok([0, 1, 1, 0])),
-        ([2, 0, 0, 1], Ok([0x8E, 0, 0, 1])),
-        ([1, 1, 1, 1], Err([1, 1])),
-    ];
-    for (numbers, right) in cases {
-        let found = inverse_of::<Gf8>(rt.alloc(), &numbers);
-        assert!(rt; found == right, "{numbers:?}");
-    }
+    assert_eq!(rt; wrong_inverse(rt.alloc()), None);
 }
 
 // The numbers of a copy of a matrix of two rows, whose first row was replaced by the second.
@@ -118,8 +141,10 @@ fn row_copied_of<F: Field>(
     alloc: Global,
     numbers: &[u32; 4],
 ) -> Result<Option<[u32; 4]>, AllocError> {
-    let matrix = square::<F>(alloc, 2, numbers)?;
-    row_copied(alloc, &matrix)
+    match square::<F>(alloc, 2, numbers) {
+        Ok(matrix) => row_copied(alloc, &matrix),
+        Err(error) => Err(error),
+    }
 }
 
 #[test]
@@ -227,24 +252,34 @@ fn both_come_out(alloc: Global, size: u32, rank: u32, right: &Outcome) -> bool {
         && run_over::<Gf16, Mixed>(alloc, Mixed { size, rank }) == *right
 }
 
+// The first size of which a matrix isn't inverted.
+fn wrong_size(alloc: Global) -> Option<u32> {
+    for size in 1..=HIGHEST_RATE {
+        if !both_come_out(alloc, size, size, &Outcome::Inverse) {
+            return Some(size);
+        }
+    }
+    None
+}
+
 #[test]
 fn matrices_of_all_sizes_are_inverted(rt: HostRuntime) {
-    for size in 1..=HIGHEST_RATE {
-        assert!(rt;
-            both_come_out(rt.alloc(), size, size, &Outcome::Inverse),
-            "{size}"
-        );
+    assert_eq!(rt; wrong_size(rt.alloc()), None);
+}
+
+// The first rank and size of which a matrix doesn't send a block to zero.
+fn wrong_rank(alloc: Global) -> Option<(u32, u32)> {
+    for rank in 0..=4u32 {
+        for size in 5..=9u32 {
+            if !both_come_out(alloc, size, rank, &Outcome::Block) {
+                return Some((rank, size));
+            }
+        }
     }
+    None
 }
 
 #[test]
 fn matrices_of_small_rank_are_singular(rt: HostRuntime) {
-    for rank in 0..=4u32 {
-        for size in 5..=9u32 {
-            assert!(rt;
-                both_come_out(rt.alloc(), size, rank, &Outcome::Block),
-                "{size}, {rank}"
-            );
-        }
-    }
+    assert_eq!(rt; wrong_rank(rt.alloc()), None);
 }

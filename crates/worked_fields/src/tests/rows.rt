@@ -119,6 +119,7 @@ fn multiples_of_pairs_are_added(rt: HostRuntime) {
 }
 
 // Two rows of two elements, one behind the other, and a multiplier, all by their numbers.
+#[derive(Clone, Copy)]
 struct TwoRows {
     rows: [u32; 4],
     by: u32,
@@ -145,30 +146,46 @@ fn four<F: Field>(row: &[F]) -> Option<[u32; 4]> {
     }
 }
 
-impl Counted for TwoRows {
-    type Found = Option<(u32, [u32; 4])>;
-
-    // The numbers of the product, and of the rows that are made.
-    fn run<F: Field, L: Ledger>(self, alloc: Global, mut steps: Steps<L>) -> Self::Found {
-        let TwoRows { rows, by } = self;
-        let mut rows = row::<F>(alloc, &rows).ok()?;
-        let product = combine(rows.as_mut_slice(), element(by), &mut steps);
-        Some((product.number(), four(rows.as_slice())?))
+// The numbers of the product of two rows, and of the rows that are made.
+fn combined<F: Field, L: Ledger>(
+    rows: &mut [F],
+    by: F,
+    steps: &mut Steps<L>,
+) -> Option<(u32, [u32; 4])> {
+    let product = combine(rows, by, steps).number();
+    match four(rows) {
+        Some(numbers) => Some((product, numbers)),
+        None => None,
     }
 }
 
+impl Counted for TwoRows {
+    type Found = Option<(u32, [u32; 4])>;
+
+    fn run<F: Field, L: Ledger>(self, alloc: Global, mut steps: Steps<L>) -> Self::Found {
+        match row::<F>(alloc, &self.rows) {
+            Ok(mut rows) => combined(rows.as_mut_slice(), element(self.by), &mut steps),
+            Err(_) => None,
+        }
+    }
+}
+
+const OCTETS: TwoRows = TwoRows {
+    rows: [2, 3, 0x80, 2],
+    by: 2,
+};
+
+const PAIRS: TwoRows = TwoRows {
+    rows: [3, 2, 0x0100, 1],
+    by: 3,
+};
+
 #[test]
 fn rows_of_both_fields_are_combined(rt: HostRuntime) {
-    let octets = TwoRows {
-        rows: [2, 3, 0x80, 2],
-        by: 2,
-    };
-    let pairs = TwoRows {
-        rows: [3, 2, 0x0100, 1],
-        by: 3,
-    };
-    let octets = run_over::<Gf8, TwoRows>(rt.alloc(), octets);
-    let pairs = run_over::<Gf16, TwoRows>(rt.alloc(), pairs);
-    assert!(rt; octets == Some((0x1B, [0x1F, 7, 0x1D, 4])));
-    assert!(rt; pairs == Some((0x0302, [0x0303, 1, 0x0300, 3])));
+    let octets = run_over::<Gf8, TwoRows>(rt.alloc(), OCTETS);
+    let pairs = run_over::<Gf16, TwoRows>(rt.alloc(), PAIRS);
+    assert!(rt;
+        octets == Some((0x1B, [0x1F, 7, 0x1D, 4]))
+            && pairs == Some((0x0302, [0x0303, 1, 0x0300, 3]))
+    );
 }

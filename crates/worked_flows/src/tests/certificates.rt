@@ -6,8 +6,8 @@ use failure_patterns::{PAIR_DEMANDS, demands};
 use lif_outside::{Gate, NoGate};
 use net_model::{Demand, Net};
 use std::alloc::Global;
-use std::sync::atomic::{AtomicU64, Ordering};
 use std::thread::Threads;
+use worked_rows::gates::{Entries, Meeting};
 
 // A network from node 0, with the certificates of its demands and its rate.
 struct Example {
@@ -150,24 +150,36 @@ fn is_certificate(alloc: Global, net: &Net, number: u64, expected: &Expected) ->
     }
 }
 
-// Whether each demand has its certificate, where they are asked for one by one.
-fn has_certificates(alloc: Global, example: &Example) -> bool {
-    let Some(net) = net_of_example(alloc, example) else {
-        return false;
-    };
-    for number in 0..example.certs.len() {
-        if !is_certificate(alloc, &net, number as u64, &example.certs[number]) {
+fn are_one_by_one(alloc: Global, net: &Net, certs: &[Expected]) -> bool {
+    for (number, expected) in certs.iter().enumerate() {
+        if !is_certificate(alloc, net, number as u64, expected) {
             return false;
         }
     }
     true
 }
 
+// Whether each demand has its certificate, where they are asked for one by one.
+fn has_certificates(alloc: Global, example: &Example) -> bool {
+    match net_of_example(alloc, example) {
+        Some(net) => are_one_by_one(alloc, &net, example.certs),
+        None => false,
+    }
+}
+
+// The first example in which a demand has another one.
+fn wrong_certificates(alloc: Global) -> Option<usize> {
+    for (row, example) in EXAMPLES.iter().enumerate() {
+        if !has_certificates(alloc, example) {
+            return Some(row);
+        }
+    }
+    None
+}
+
 #[test]
 fn each_demand_has_its_certificate(rt: HostRuntime) {
-    for (row, example) in EXAMPLES.iter().enumerate() {
-        assert!(rt; has_certificates(rt.alloc(), example), "row {row}");
-    }
+    assert!(rt; wrong_certificates(rt.alloc()).is_none());
 }
 
 fn are_expected(certs: &[Cert], expected: &[Expected]) -> bool {
@@ -217,102 +229,104 @@ fn is_certified<G: Gate + Sync, R: Threads + Sync>(
     }
 }
 
+// The first example in which one worker makes others.
+fn wrong_example<R: Threads + Sync>(rt: &R, alloc: Global) -> Option<usize> {
+    for (row, example) in EXAMPLES.iter().enumerate() {
+        if !is_certified(rt, alloc, example, 1, &NoGate) {
+            return Some(row);
+        }
+    }
+    None
+}
+
 #[test]
 fn all_demands_are_certified(rt: HostRuntime) {
-    for (row, example) in EXAMPLES.iter().enumerate() {
-        assert!(rt;
-            is_certified(&rt, rt.alloc(), example, 1, &NoGate),
-            "row {row}"
-        );
-    }
-}
-
-// A gate that counts the entries of each job: those of job 0 are the last digit, those of job 1 the digit before it.
-#[derive(Drop)]
-struct Entries {
-    counted: AtomicU64,
-}
-
-impl Gate for Entries {
-    fn enter(&self, job: u32) {
-        self.counted
-            .fetch_add(10u64.saturating_pow(job), Ordering::SeqCst);
-    }
+    assert!(rt; wrong_example(&rt, rt.alloc()).is_none());
 }
 
 // Whether so many workers certify two links, and enter these jobs.
 fn are_entered<R: Threads + Sync>(rt: &R, alloc: Global, workers: u32, jobs: u64) -> bool {
-    let gate = Entries {
-        counted: AtomicU64::new(0),
-    };
-    is_certified(rt, alloc, &TWO_LINKS, workers, &gate)
-        && gate.counted.load(Ordering::SeqCst) == jobs
+    let gate = Entries::new();
+    is_certified(rt, alloc, &TWO_LINKS, workers, &gate) && gate.counted() == jobs
 }
 
 #[test]
 fn any_number_of_workers(rt: HostRuntime) {
-    for (workers, jobs) in [(1, 1), (2, 11), (4, 111), (7, 111)] {
-        assert!(rt; are_entered(&rt, rt.alloc(), workers, jobs), "{workers}");
-    }
-}
-
-// A gate at which each job turns until another one has entered. It counts the entries as `Entries` does, and the jobs
-// that no other one met.
-#[derive(Drop)]
-struct Meeting {
-    counted: AtomicU64,
-    alone: AtomicU64,
-}
-
-// How often a job turns at most.
-const MOST_TURNS: u32 = 1_000_000_000;
-
-impl Gate for Meeting {
-    fn enter(&self, job: u32) {
-        let one = 10u64.saturating_pow(job);
-        self.counted.fetch_add(one, Ordering::SeqCst);
-        for _turn in 0..MOST_TURNS {
-            if self.counted.load(Ordering::SeqCst) != one {
-                return;
-            }
-        }
-        self.alone.fetch_add(1, Ordering::SeqCst);
-    }
+    let are_right = are_entered(&rt, rt.alloc(), 1, 1)
+        && are_entered(&rt, rt.alloc(), 2, 11)
+        && are_entered(&rt, rt.alloc(), 4, 111)
+        && are_entered(&rt, rt.alloc(), 7, 111);
+    assert!(rt; are_right);
 }
 
 // A network of 256 demands: sixteen sinks, each with a link from the source, and fifteen patterns, in each of which a
 // link fails that leads to another node.
+const WIDE_ENDS: &[(u32, u32)] = &[
+    (0, 1),
+    (0, 2),
+    (0, 3),
+    (0, 4),
+    (0, 5),
+    (0, 6),
+    (0, 7),
+    (0, 8),
+    (0, 9),
+    (0, 10),
+    (0, 11),
+    (0, 12),
+    (0, 13),
+    (0, 14),
+    (0, 15),
+    (0, 16),
+    (0, 17),
+];
+
+const WIDE_SINKS: &[u32] = &[1, 2, 3, 4, 5, 6, 7, 8, 9, 10, 11, 12, 13, 14, 15, 16];
+
 fn wide_network(alloc: Global) -> Option<Net> {
-    let mut ends = Vec::new(alloc);
-    let mut sinks = Vec::new(alloc);
-    for sink in 1..=16 {
-        ends.push((0, sink)).ok()?;
-        sinks.push(sink).ok()?;
+    numbered(alloc, WIDE_ENDS, WIDE_SINKS, &[[16].as_slice(); 15])
+}
+
+// How many certificates so many workers make.
+fn count_made<G: Gate + Sync, R: Threads + Sync>(
+    rt: &R,
+    alloc: Global,
+    net: &Net,
+    workers: u32,
+    gate: &G,
+) -> Option<usize> {
+    if workers == 0 || demands(net) > PAIR_DEMANDS {
+        return None;
     }
-    ends.push((0, 17)).ok()?;
-    numbered(alloc, &ends, &sinks, &[[16].as_slice(); 15])
+    match certify_all(rt, alloc, net, workers, gate) {
+        Ok(certs) => Some(certs.len()),
+        Err(_) => None,
+    }
+}
+
+// How many of the wide network.
+fn count_wide<R: Threads + Sync>(
+    rt: &R,
+    alloc: Global,
+    workers: u32,
+    gate: &Meeting,
+) -> Option<usize> {
+    match wide_network(alloc) {
+        Some(net) => count_made(rt, alloc, &net, workers, gate),
+        None => None,
+    }
 }
 
 // Whether so many workers certify the 256 demands, and each job meets another one.
 fn do_meet<R: Threads + Sync>(rt: &R, alloc: Global, workers: u32, jobs: u64) -> bool {
-    let gate = Meeting {
-        counted: AtomicU64::new(0),
-        alone: AtomicU64::new(0),
-    };
-    let certified = match wide_network(alloc) {
-        Some(net) if workers > 0 && demands(&net) <= PAIR_DEMANDS => {
-            matches!(certify_all(rt, alloc, &net, workers, &gate), Ok(certs) if certs.len() == 256)
-        }
-        _ => false,
-    };
-    certified
-        && gate.counted.load(Ordering::SeqCst) == jobs
-        && gate.alone.load(Ordering::SeqCst) == 0
+    let gate = Meeting::new();
+    count_wide(rt, alloc, workers, &gate) == Some(256) && gate.is_met(jobs)
 }
 
 #[test]
 fn jobs_run_side_by_side(rt: HostRuntime) {
-    for (workers, jobs) in [(2, 11), (3, 111), (4, 1111)] {
-        assert!(rt; do_meet(&rt, rt.alloc(), workers, jobs), "{workers}");
-    }
+    let all_meet = do_meet(&rt, rt.alloc(), 2, 11)
+        && do_meet(&rt, rt.alloc(), 3, 111)
+        && do_meet(&rt, rt.alloc(), 4, 1111);
+    assert!(rt; all_meet);
 }

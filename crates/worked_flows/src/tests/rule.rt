@@ -4,26 +4,10 @@ ghost use Rattle.std.specs.Prelude.{◌≡◌, ◌<◌, ◌≤◌};
 use super::network_of;
 use net_model::Net;
 use std::alloc::{AllocError, Global};
+use worked_rows::draws::Draws;
 
 // The most links of a network.
 const MOST_LINKS: u32 = 12;
-
-// Numbers that look random, each made of the one before (a linear congruential generator).
-#[derive(Drop)]
-struct Draws {
-    state: u32,
-}
-
-impl Draws {
-    // A number below a bound.
-    fn below(&mut self, bound: u32) -> u32
-        requires { 0 < bound }
-        ensures { result < bound }
-    {
-        self.state = self.state.wrapping_mul(1664525).wrapping_add(1013904223);
-        self.state / 256 % bound
-    }
-}
 
 // What the links of a network are like.
 #[derive(Clone, Copy)]
@@ -144,24 +128,68 @@ fn source_links(alloc: Global, links: &[(u32, u32)]) -> Result<Vec<u32>, AllocEr
     Ok(leaving)
 }
 
+// The network of these links, sinks and patterns, and of one in which all links fail that leave the source.
+fn with_all(
+    alloc: Global,
+    links: &[(u32, u32)],
+    sinks: &[u32],
+    few: &[u32],
+    many: &[u32],
+) -> Result<Option<Net>, AllocError> {
+    let all = source_links(alloc, links)?;
+    Ok(network_of(alloc, links, sinks, &[few, many, &all]))
+}
+
+// The same of these links and sinks, with patterns in which a few links fail, and many do.
+fn with_few(
+    alloc: Global,
+    draws: &mut Draws,
+    links: &[(u32, u32)],
+    sinks: &[u32],
+    few: &[u32],
+    count: u32,
+) -> Result<Option<Net>, AllocError>
+    requires { 1 ≤ count }
+{
+    let many = some_of(alloc, draws, 0, count, 2)?;
+    with_all(alloc, links, sinks, few, &many)
+}
+
+fn with_sinks(
+    alloc: Global,
+    draws: &mut Draws,
+    links: &[(u32, u32)],
+    sinks: &[u32],
+    count: u32,
+) -> Result<Option<Net>, AllocError>
+    requires { 1 ≤ count }
+{
+    let few = some_of(alloc, draws, 0, count, 6)?;
+    with_few(alloc, draws, links, sinks, &few, count)
+}
+
+// The same of these links, with some of the nodes as sinks.
+fn with_links(
+    alloc: Global,
+    draws: &mut Draws,
+    links: &[(u32, u32)],
+    nodes: u32,
+    count: u32,
+) -> Result<Option<Net>, AllocError>
+    requires some_nodes { 2 ≤ nodes }
+    requires some_links { 1 ≤ count }
+{
+    let sinks = some_of(alloc, draws, 1, nodes, 2)?;
+    with_sinks(alloc, draws, links, &sinks, count)
+}
+
 // The network of a number, with the nodes that a link or a sink names. In its patterns no link fails, a few do, many
 // do, and all do that leave the source.
 pub(super) fn network(alloc: Global, number: u32) -> Result<Option<Net>, AllocError> {
-    let mut draws = Draws {
-        state: number.wrapping_mul(2654435769),
-    };
+    let mut draws = Draws::of(number);
     let shape = shape_of(number);
     let nodes = node_count(&mut draws, shape);
     let count = 1 + draws.below(MOST_LINKS);
     let links = links(alloc, &mut draws, shape, nodes, count)?;
-    let sinks = some_of(alloc, &mut draws, 1, nodes, 2)?;
-    let few = some_of(alloc, &mut draws, 0, count, 6)?;
-    let many = some_of(alloc, &mut draws, 0, count, 2)?;
-    let all = source_links(alloc, links.as_slice())?;
-    Ok(network_of(
-        alloc,
-        links.as_slice(),
-        sinks.as_slice(),
-        &[few.as_slice(), many.as_slice(), all.as_slice()],
-    ))
+    with_links(alloc, &mut draws, &links, nodes, count)
 }

@@ -11,25 +11,21 @@ use std::marker::Brand;
 use std::sync::ledger::{Blank, Ledger};
 use unit_flow::{Flow, max_flow};
 
-// The flow of a demand with its counter: each link is looked at twice at most, for each path and once more. This
-// is proved, and takes nothing at run time.
+// The flow of a demand: each link is looked at twice at most, for each path and once more. This is proved, and takes
+// nothing at run time.
 fn counted_flow<L: Ledger>(
     alloc: Global,
     net: &Net,
     demand: Demand,
-    blank: Blank,
-) -> Result<(Flow, Steps<L>), AllocError>
+    steps: &mut Steps<L>,
+) -> Result<Flow, AllocError>
     requires sink { demand.sink < length net.now.sinks }
     requires pattern { demand.pattern < length net.now.patterns }
-    requires name { blank.name ≡ L.name }
-    requires parts { blank.parts ≡ L.parts }
-    requires some_part { 0 < blank.parts }
+    requires none { steps.old ≡ 0 }
     ensures visits { IfOk result
-        (λ counted. counted.1 ≤ 2 * length net.now.links * (length counted.0.paths + 1)) }
+        (λ flow. steps.new ≤ 2 * length net.now.links * (length flow.paths + 1)) }
 {
-    let mut steps = Steps::<L>::start(blank);
-    let flow = max_flow(alloc, net, demand, &mut steps)?;
-    Ok((flow, steps))
+    max_flow(alloc, net, demand, steps)
 }
 
 // The flow of a demand, for a caller that goes on without the counter.
@@ -45,8 +41,7 @@ fn flow_from<L: Ledger>(
     requires parts { blank.parts ≡ L.parts }
     requires some_part { 0 < blank.parts }
 {
-    let (flow, _) = counted_flow::<L>(alloc, net, demand, blank)?;
-    Ok(flow)
+    counted_flow(alloc, net, demand, &mut Steps::<L>::start(blank))
 }
 
 // The flow of the demand of a number.

@@ -17,22 +17,22 @@ fn is_greatest(net: &Net, sink: u32, failed: u32, flow: &Flow) -> bool {
         && is_least_side(net, sink, failed, paths.len(), side_of(side))
 }
 
-// Whether that holds of the flow of a demand, as far as it exists.
-fn is_greatest_of(net: &Net, number: u64, flow: &Flow) -> bool {
+// How many paths the flow of a demand has, where there is such a demand and the flow is a greatest one.
+fn greatest_paths(net: &Net, number: u64, flow: &Flow) -> Option<usize> {
     if number >= demands(net) {
-        return false;
+        return None;
     }
     let demand = demand_at(net, number);
     let sink = *net.sinks.at(demand.sink as usize);
     let failed = set_of(net.patterns.at(demand.pattern as usize).links.as_slice());
-    is_greatest(net, sink, failed, flow)
+    is_greatest(net, sink, failed, flow).then_some(flow.paths.len())
 }
 
-// How many paths the flow of a demand has, where it is a greatest one.
+// The same of the flow that is found.
 fn paths_of(alloc: Global, net: &Net, number: u64) -> Option<usize> {
     match flow_at(alloc, net, number) {
-        Some(flow) if is_greatest_of(net, number, &flow) => Some(flow.paths.len()),
-        _ => None,
+        Some(flow) => greatest_paths(net, number, &flow),
+        None => None,
     }
 }
 
@@ -64,14 +64,18 @@ fn are_enough(found: &[u32; 13]) -> bool {
     true
 }
 
-#[test]
-fn greatest_flows_of_two_hundred_networks(rt: HostRuntime) {
+// Whether all flows of two hundred networks are greatest ones, and there are enough of each.
+fn are_greatest(alloc: Global) -> bool {
     let mut found = [0; 13];
     for number in 0..200u32 {
-        assert!(rt;
-            count_flows_of(rt.alloc(), number, &mut found),
-            "network {number}"
-        );
+        if !count_flows_of(alloc, number, &mut found) {
+            return false;
+        }
     }
-    assert!(rt; are_enough(&found), "{found:?}");
+    are_enough(&found)
+}
+
+#[test]
+fn greatest_flows_of_two_hundred_networks(rt: HostRuntime) {
+    assert!(rt; are_greatest(rt.alloc()));
 }

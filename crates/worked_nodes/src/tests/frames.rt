@@ -2,7 +2,6 @@
 ghost use Rattle.std.specs.Prelude.{◌≡◌};
 
 use generation_frame::{FrameRefusal, Joined, Joiner, Packet, cut, frame_of, read_frame};
-use std::test;
 
 // A packet whose numbers have four different bytes each.
 fn packet() -> Packet
@@ -29,40 +28,71 @@ fn frame() -> [u8; 140] {
 
 #[test]
 fn a_frame_is_as_written(rt: HostRuntime) {
-    assert_eq!(rt; frame_of(&packet()), frame());
-    assert_eq!(rt; read_frame(&frame()), Ok(packet()));
+    assert!(rt; frame_of(&packet()) == frame() && read_frame(&frame()) == Ok(packet()));
+}
+
+// Places and bytes that are others in the frame, and why it isn't read then.
+const OTHERS: &[(usize, u8, FrameRefusal)] = &[
+    (0, 0x4d, FrameRefusal::BadMark),
+    (1, 0x66, FrameRefusal::BadMark),
+    (2, 0x02, FrameRefusal::BadMark),
+    (3, 8, FrameRefusal::BadPiece),
+    (3, 255, FrameRefusal::BadPiece),
+];
+
+fn is_refused(place: usize, byte: u8, why: FrameRefusal) -> bool {
+    let mut frame = frame();
+    if place < 140 {
+        frame[place] = byte;
+    }
+    read_frame(&frame) == Err(why)
+}
+
+// The first row of those that isn't so.
+fn first_read() -> Option<usize> {
+    for (row, &(place, byte, why)) in OTHERS.iter().enumerate() {
+        if !is_refused(place, byte, why) {
+            return Some(row);
+        }
+    }
+    None
+}
+
+// Why a frame isn't read of which the mark and the piece are others.
+fn first_refusal() -> Result<Packet, FrameRefusal> {
+    let mut frame = frame();
+    frame[2] = 0;
+    frame[3] = 9;
+    read_frame(&frame)
 }
 
 #[test]
 fn a_frame_is_refused_for_its_mark_first(rt: HostRuntime) {
-    for (place, byte, why) in [
-        (0, 0x4d, FrameRefusal::BadMark),
-        (1, 0x66, FrameRefusal::BadMark),
-        (2, 0x02, FrameRefusal::BadMark),
-        (3, 8, FrameRefusal::BadPiece),
-        (3, 255, FrameRefusal::BadPiece),
-    ] {
-        let mut frame = frame();
-        frame[place] = byte;
-        assert_eq!(rt; read_frame(&frame), Err(why), "byte {byte} at {place}");
-    }
-    let mut frame = frame();
-    frame[2] = 0;
-    frame[3] = 9;
-    assert_eq!(rt; read_frame(&frame), Err(FrameRefusal::BadMark));
+    assert!(rt; first_read().is_none() && first_refusal() == Err(FrameRefusal::BadMark));
+}
+
+// What blocks have of a file: one that is full, two that count too many, the last one, and one behind it.
+fn joined() -> [Joined; 5] {
+    let mut joiner = Joiner::new(2);
+    let mut block = [0; 2048];
+    cut(&[3; 2044], &mut block);
+    let more = joiner.join(&block);
+    block[..4].copy_from_slice(&[0, 0, 7, 0xfd]);
+    let one_more = joiner.join(&block);
+    let most = joiner.join(&[255; 2048]);
+    cut(&[4; 2043], &mut block);
+    let last = joiner.join(&block);
+    [more, one_more, most, last, joiner.join(&block)]
 }
 
 #[test]
 fn blocks_are_joined(rt: HostRuntime) {
-    let mut joiner = Joiner::new(2);
-    let mut block = [0; 2048];
-    cut(&[3; 2044], &mut block);
-    assert_eq!(rt; joiner.join(&block), Joined::More(2044));
-    block[..4].copy_from_slice(&[0, 0, 7, 0xfd]);
-    assert_eq!(rt; joiner.join(&block), Joined::BadCount(2045));
-    assert_eq!(rt; joiner.join(&[255; 2048]), Joined::BadCount(u32::MAX));
-    cut(&[4; 2043], &mut block);
-    assert_eq!(rt; joiner.join(&block), Joined::Last(2043));
-    assert_eq!(rt; joiner.join(&block), Joined::Ended);
-    assert_eq!(rt; Joiner::new(1).join(&[0; 1024]), Joined::Last(0));
+    let right = [
+        Joined::More(2044),
+        Joined::BadCount(2045),
+        Joined::BadCount(u32::MAX),
+        Joined::Last(2043),
+        Joined::Ended,
+    ];
+    assert!(rt; joined() == right && Joiner::new(1).join(&[0; 1024]) == Joined::Last(0));
 }

@@ -2,10 +2,9 @@
 use lif_outside::{Failed, Store};
 use logged_store::{MemFiles, varied_bytes};
 use std::alloc::{AllocError, Global};
-use std::fs::{OpenFile, OpenOptions};
+use std::fs::{File, OpenFile, OpenOptions};
 use std::io::{Seek, SeekFrom, Write};
 use std::rt::Files;
-use std::test::Fail;
 use std::{fs, io};
 use system_files::FileStore;
 
@@ -77,55 +76,66 @@ fn first_wrong(
     None
 }
 
+// Whether all steps go as they say, with a new store.
+fn go(rt: &HostRuntime, steps: &[Step]) -> bool {
+    first_wrong(rt, &mut FileStore::new(rt), steps).is_none()
+}
+
+const ON_DISK: &[Step] = &[
+    Step::Create("disk-store-test"),
+    Step::Create("another"),
+    Step::Append("disk-store-test", b"ab"),
+    Step::Append("disk-store-test", b"c"),
+    Step::Append("another", b"z"),
+    Step::Append("disk-store-test", b"de"),
+    Step::Read("disk-store-test", 0, 4, b"abcd"),
+    Step::Read("disk-store-test", 3, 2, b"de.."),
+    Step::Read("disk-store-test", 5, 0, b"...."),
+    Step::Read("disk-store-test", 9, 0, b"...."),
+    Step::Read("another", 0, 1, b"z..."),
+    Step::Append("disk-store-test", SEVENS),
+    Step::Read("disk-store-test", 5, 5000, SEVENS),
+    Step::Create("disk-store-test"),
+    Step::Read("disk-store-test", 0, 0, DOTS),
+    Step::Faults(0, 0),
+    Step::Remove("disk-store-test"),
+    Step::Remove("another"),
+    Step::ReadFails("disk-store-test", 0),
+    Step::AppendFails("disk-store-test"),
+    Step::CreateFails("no-such-folder/file"),
+    Step::Faults(1, 2),
+];
+
 #[test]
 fn keeps_bytes_on_disk(rt: HostRuntime) {
-    let steps: &[Step] = &[
-        Step::Create("disk-store-test"),
-        Step::Create("another"),
-        Step::Append("disk-store-test", b"ab"),
-        Step::Append("disk-store-test", b"c"),
-        Step::Append("another", b"z"),
-        Step::Append("disk-store-test", b"de"),
-        Step::Read("disk-store-test", 0, 4, b"abcd"),
-        Step::Read("disk-store-test", 3, 2, b"de.."),
-        Step::Read("disk-store-test", 5, 0, b"...."),
-        Step::Read("disk-store-test", 9, 0, b"...."),
-        Step::Read("another", 0, 1, b"z..."),
-        Step::Append("disk-store-test", SEVENS),
-        Step::Read("disk-store-test", 5, 5000, SEVENS),
-        Step::Create("disk-store-test"),
-        Step::Read("disk-store-test", 0, 0, DOTS),
-        Step::Faults(0, 0),
-        Step::Remove("disk-store-test"),
-        Step::Remove("another"),
-        Step::ReadFails("disk-store-test", 0),
-        Step::AppendFails("disk-store-test"),
-        Step::CreateFails("no-such-folder/file"),
-        Step::Faults(1, 2),
-    ];
-    assert_eq!(rt; first_wrong(&rt, &mut FileStore::new(&rt), steps), None);
+    assert!(rt; go(&rt, ON_DISK));
+}
+
+const FAILING: &[Step] = &[
+    Step::ReadFails("disk-store-folder-test", 0),
+    Step::ReadFails("disk-store-folder-test", 70_000),
+    Step::AppendFails("disk-store-folder-test"),
+    Step::ReadFails("disk-store-missing-test", 0),
+    Step::AppendFails("disk-store-missing-test"),
+    // The device that is always full, and stays open where nothing is added.
+    Step::Append("/dev/full", b""),
+    Step::AppendFails("/dev/full"),
+    Step::AppendFails("/dev/full"),
+    Step::CreateFails("disk-store-folder-test"),
+    Step::Faults(3, 5),
+];
+
+// Whether steps go so that fail where one path is a folder and none is made at another.
+fn are_counted(rt: &HostRuntime) -> bool {
+    fs::create_dir_all(rt, "disk-store-folder-test").is_ok()
+        && go(rt, FAILING)
+        && matches!(fs::exists(rt, "disk-store-missing-test"), Ok(false))
+        && fs::remove_dir(rt, "disk-store-folder-test").is_ok()
 }
 
 #[test]
 fn faults_of_the_system_are_counted(rt: HostRuntime) {
-    let (folder, missing) = ("disk-store-folder-test", "disk-store-missing-test");
-    let steps: &[Step] = &[
-        Step::ReadFails("disk-store-folder-test", 0),
-        Step::ReadFails("disk-store-folder-test", 70_000),
-        Step::AppendFails("disk-store-folder-test"),
-        Step::ReadFails("disk-store-missing-test", 0),
-        Step::AppendFails("disk-store-missing-test"),
-        // The device that is always full, and stays open where nothing is added.
-        Step::Append("/dev/full", b""),
-        Step::AppendFails("/dev/full"),
-        Step::AppendFails("/dev/full"),
-        Step::CreateFails("disk-store-folder-test"),
-        Step::Faults(3, 5),
-    ];
-    assert!(rt; fs::create_dir_all(&rt, folder).is_ok());
-    assert_eq!(rt; first_wrong(&rt, &mut FileStore::new(&rt), steps), None);
-    assert!(rt; fs::exists(&rt, missing).is_ok_and(|is_there| !is_there));
-    assert!(rt; fs::remove_dir(&rt, folder).is_ok());
+    assert!(rt; are_counted(&rt));
 }
 
 // Makes a file, and adds these bytes to its end by long pieces.
@@ -175,13 +185,22 @@ fn keeps_long(store: &mut FileStore<HostRuntime>, path: &str, bytes: &[u8]) -> b
         && (store.read_faulted(), store.write_faulted()) == (0, 0)
 }
 
+// Whether they are in a new store, and the file is removed then.
+fn keeps_long_anew(rt: &HostRuntime, path: &str, bytes: &[u8]) -> bool {
+    let is_kept = keeps_long(&mut FileStore::new(rt), path, bytes);
+    is_kept && fs::remove_file(rt, path).is_ok()
+}
+
+fn are_kept(rt: &HostRuntime) -> bool {
+    match varied_bytes(rt.alloc(), 70_000) {
+        Ok(bytes) => keeps_long_anew(rt, "disk-store-long-test", &bytes),
+        Err(_) => false,
+    }
+}
+
 #[test]
-fn long_appends_are_kept(rt: HostRuntime) -> Result<(), Fail> {
-    let path = "disk-store-long-test";
-    let bytes = varied_bytes(rt.alloc(), 70_000)?;
-    assert!(rt; keeps_long(&mut FileStore::new(&rt), path, &bytes));
-    fs::remove_file(&rt, path)?;
-    Ok(())
+fn long_appends_are_kept(rt: HostRuntime) {
+    assert!(rt; are_kept(&rt));
 }
 
 // Whether the byte at a place of the long file is this one.
@@ -191,13 +210,20 @@ fn has_byte(store: &mut FileStore<HostRuntime>, path: &str, at: u64, byte: u8) -
 }
 
 // Writes one byte at each power of two up to 2^31: its exponent.
-fn write_powers(rt: &HostRuntime, path: &str) -> io::Result<()> {
-    let mut file = OpenOptions::new().write(true).open(rt, path)?;
+fn write_powers(file: &mut File) -> io::Result<()> {
     for exponent in 0..32u8 {
         file.seek(SeekFrom::Start(1 << exponent))?;
         file.write_all(&[exponent])?;
     }
     Ok(())
+}
+
+// Whether they are written into the file of a path.
+fn are_written(rt: &HostRuntime, path: &str) -> bool {
+    match OpenOptions::new().write(true).open(rt, path) {
+        Ok(mut file) => write_powers(&mut file).is_ok(),
+        Err(_) => false,
+    }
 }
 
 // Whether a read from each power of two on gives the byte that is there, and the last one the end.
@@ -211,50 +237,54 @@ fn has_powers(store: &mut FileStore<HostRuntime>, path: &str) -> bool {
 }
 
 // Whether a file that is made holds what is written far behind its start.
-fn holds_far(rt: &HostRuntime, store: &mut FileStore<HostRuntime>, path: &str) -> io::Result<bool> {
-    if store.create(path).is_err() {
-        return Ok(false);
-    }
-    write_powers(rt, path)?;
-    Ok(has_powers(store, path))
+fn holds_far(rt: &HostRuntime, store: &mut FileStore<HostRuntime>, path: &str) -> bool {
+    store.create(path).is_ok() && are_written(rt, path) && has_powers(store, path)
+}
+
+// Whether it does in a new store, and is removed then.
+fn holds_far_anew(rt: &HostRuntime, path: &str) -> bool {
+    let is_held = holds_far(rt, &mut FileStore::new(rt), path);
+    is_held && fs::remove_file(rt, path).is_ok()
 }
 
 #[test]
-fn reads_begin_far_behind(rt: HostRuntime) -> Result<(), Fail> {
-    let path = "disk-store-far-test";
-    assert!(rt; holds_far(&rt, &mut FileStore::new(&rt), path)?);
-    fs::remove_file(&rt, path)?;
-    Ok(())
+fn reads_begin_far_behind(rt: HostRuntime) {
+    assert!(rt; holds_far_anew(&rt, "disk-store-far-test"));
 }
 
-// Makes a file so long.
-fn lengthen(rt: &HostRuntime, path: &str, length: u64) -> io::Result<()> {
-    OpenOptions::new()
-        .write(true)
-        .open(rt, path)?
-        .set_len(length)
+// Makes a file so long, and says whether it is.
+fn is_lengthened(rt: &HostRuntime, path: &str, length: u64) -> bool {
+    match OpenOptions::new().write(true).open(rt, path) {
+        Ok(file) => file.set_len(length).is_ok(),
+        Err(_) => false,
+    }
+}
+
+// How long a file is.
+fn length_of(rt: &HostRuntime, path: &str) -> Option<u64> {
+    match fs::metadata(rt, path) {
+        Ok(metadata) => Some(metadata.len()),
+        Err(_) => None,
+    }
 }
 
 // Whether a file that is made, and becomes 5,000,000 bytes long, is read far behind its start and made anew.
-fn is_made_anew(
-    rt: &HostRuntime,
-    store: &mut FileStore<HostRuntime>,
-    path: &str,
-) -> io::Result<bool> {
-    if store.create(path).is_err() {
-        return Ok(false);
-    }
-    lengthen(rt, path, 5_000_000)?;
-    Ok(store.read(path, 4_000_000, &mut [1; 9]) == Ok(9) && store.create(path).is_ok())
+fn is_made_anew(rt: &HostRuntime, store: &mut FileStore<HostRuntime>, path: &str) -> bool {
+    store.create(path).is_ok()
+        && is_lengthened(rt, path, 5_000_000)
+        && store.read(path, 4_000_000, &mut [1; 9]) == Ok(9)
+        && store.create(path).is_ok()
+}
+
+// Whether it is in a new store, has no byte then, and is removed.
+fn is_empty_anew(rt: &HostRuntime, path: &str) -> bool {
+    let is_made = is_made_anew(rt, &mut FileStore::new(rt), path);
+    is_made && length_of(rt, path) == Some(0) && fs::remove_file(rt, path).is_ok()
 }
 
 #[test]
-fn a_long_file_is_made_anew(rt: HostRuntime) -> Result<(), Fail> {
-    let path = "disk-store-anew-test";
-    assert!(rt; is_made_anew(&rt, &mut FileStore::new(&rt), path)?);
-    assert_eq!(rt; fs::metadata(&rt, path)?.len(), 0);
-    fs::remove_file(&rt, path)?;
-    Ok(())
+fn a_long_file_is_made_anew(rt: HostRuntime) {
+    assert!(rt; is_empty_anew(&rt, "disk-store-anew-test"));
 }
 
 // The paths of many files in a folder.
@@ -316,25 +346,44 @@ fn keeps_many<R: Files + AllocGlobal>(store: &mut FileStore<'_, R>, paths: &[Str
         && (store.read_faulted(), store.write_faulted()) == (0, 0)
 }
 
-#[test]
-fn more_files_than_stay_open_are_appended_to(rt: HostRuntime) -> Result<(), Fail> {
-    let folder = "disk-store-many-test";
-    fs::create_dir(&rt, folder)?;
-    let paths = paths_in(rt.alloc(), folder)?;
-    assert!(rt; keeps_many(&mut FileStore::new(&rt), &paths));
-    fs::remove_dir_all(&rt, folder)?;
-    Ok(())
+// Whether they are in a new store, and their folder is removed then.
+fn keeps_many_anew(rt: &HostRuntime, folder: &str, paths: &[String]) -> bool {
+    let are_kept = keeps_many(&mut FileStore::new(rt), paths);
+    are_kept && fs::remove_dir_all(rt, folder).is_ok()
+}
+
+// The same of a folder that is made before.
+fn keeps_many_in(rt: &HostRuntime, folder: &str) -> bool {
+    if fs::create_dir(rt, folder).is_err() {
+        return false;
+    }
+    match paths_in(rt.alloc(), folder) {
+        Ok(paths) => keeps_many_anew(rt, folder, &paths),
+        Err(_) => false,
+    }
 }
 
 #[test]
-fn handles_may_be_wanting(rt: HostRuntime) -> Result<(), Fail> {
-    let paths = paths_in(rt.alloc(), "many")?;
-    for handles in [256, 1] {
-        let files = MemFiles::new(rt.alloc(), 0, handles)?;
-        assert!(rt;
-            keeps_many(&mut FileStore::new(&files), &paths),
-            "{handles}"
-        );
+fn more_files_than_stay_open_are_appended_to(rt: HostRuntime) {
+    assert!(rt; keeps_many_in(&rt, "disk-store-many-test"));
+}
+
+// Whether many files are kept where at most so many are open at once.
+fn keeps_many_by(alloc: Global, paths: &[String], handles: usize) -> bool {
+    match MemFiles::new(alloc, 0, handles) {
+        Ok(files) => keeps_many(&mut FileStore::new(&files), paths),
+        Err(_) => false,
     }
-    Ok(())
+}
+
+fn keeps_many_by_few(alloc: Global) -> bool {
+    match paths_in(alloc, "many") {
+        Ok(paths) => keeps_many_by(alloc, &paths, 256) && keeps_many_by(alloc, &paths, 1),
+        Err(_) => false,
+    }
+}
+
+#[test]
+fn handles_may_be_wanting(rt: HostRuntime) {
+    assert!(rt; keeps_many_by_few(rt.alloc()));
 }

@@ -99,21 +99,32 @@ fn writes_all(interrupts: u32) -> bool {
         && to.bytes == *b"abcd"
 }
 
+// The first number of interrupted calls by which not all moves.
+fn wrong_interrupts() -> Option<u32> {
+    for interrupts in [0, 1, 5] {
+        if !reads_all(interrupts) || !writes_all(interrupts) {
+            return Some(interrupts);
+        }
+    }
+    None
+}
+
 #[test]
 fn moves_all_by_pieces(rt: HostRuntime) {
-    for interrupts in [0, 1, 5] {
-        assert!(rt; reads_all(interrupts), "{interrupts}");
-        assert!(rt; writes_all(interrupts), "{interrupts}");
-    }
+    assert!(rt; wrong_interrupts().is_none());
+}
+
+// Whether a flush that fails is told, once all is written.
+fn is_told() -> bool {
+    let mut to = Slow::new(*b"....", 0);
+    to.flush_fails = true;
+    failure(write_full(&mut to, b"ab")) == Some(ErrorKind::QuotaExceeded)
+        && (to.bytes, to.flushes) == (*b"ab..", 1)
 }
 
 #[test]
 fn a_flush_that_fails_is_told(rt: HostRuntime) {
-    let mut to = Slow::new(*b"....", 0);
-    to.flush_fails = true;
-    let failed = failure(write_full(&mut to, b"ab"));
-    assert_eq!(rt; failed, Some(ErrorKind::QuotaExceeded));
-    assert_eq!(rt; (to.bytes, to.flushes), (*b"ab..", 1));
+    assert!(rt; is_told());
 }
 
 // Reads from memory, which tells its place and its bytes: those from the place on come.
@@ -125,9 +136,12 @@ fn read_in_memory(held: &[u8], at: u64, into: &mut [u8]) -> io::Result<usize>
     Ok(count)
 }
 
+fn are_read() -> bool {
+    let mut into = *b"....";
+    matches!(read_in_memory(b"abcdef", 3, &mut into), Ok(3)) && into == *b"def."
+}
+
 #[test]
 fn bytes_in_memory_are_read(rt: HostRuntime) {
-    let mut into = *b"....";
-    assert!(rt; matches!(read_in_memory(b"abcdef", 3, &mut into), Ok(3)));
-    assert_eq!(rt; into, *b"def.");
+    assert!(rt; are_read());
 }

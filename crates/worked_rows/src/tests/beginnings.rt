@@ -64,7 +64,6 @@ fn wrong_length(alloc: Global, text: &[u8], links: usize) -> Option<usize> {
 
 #[test]
 fn every_beginning_is_read(rt: HostRuntime) {
-    for &(text, links) in &[(THREE_CORES_TEXT, 9), (FAILING_CORES_TEXT, 6)] {
-        assert_eq!(rt; wrong_length(rt.alloc(), text, links), None);
-    }
+    assert_eq!(rt; wrong_length(rt.alloc(), THREE_CORES_TEXT, 9), None);
+    assert_eq!(rt; wrong_length(rt.alloc(), FAILING_CORES_TEXT, 6), None);
 }

@@ -28,11 +28,19 @@ fn is_accepted<R: Threads + Sync>(rt: &R, alloc: Global, file: &[u8]) -> bool {
     }
 }
 
+// The first row whose code isn't accepted.
+fn first_not_accepted<R: Threads + Sync>(rt: &R, alloc: Global) -> Option<usize> {
+    for (row, &file) in ACCEPTED.iter().enumerate() {
+        if !is_accepted(rt, alloc, file) {
+            return Some(row);
+        }
+    }
+    None
+}
+
 #[test]
 fn codes_that_decode_are_accepted(rt: HostRuntime) {
-    for (row, &file) in ACCEPTED.iter().enumerate() {
-        assert!(rt; is_accepted(&rt, rt.alloc(), file), "row {row}");
-    }
+    assert_eq!(rt; first_not_accepted(&rt, rt.alloc()), None);
 }
 
 // A code's file, bytes of it that are others, and what the check says.
@@ -98,15 +106,19 @@ fn refusal<R: Threads + Sync>(
     }
 }
 
+// The first row whose code isn't refused so.
+fn wrong_refusal<R: Threads + Sync>(rt: &R, alloc: Global) -> Option<usize> {
+    for (row, &(file, others, why)) in REFUSED.iter().enumerate() {
+        if refusal(rt, alloc, file, others) != Some(why) {
+            return Some(row);
+        }
+    }
+    None
+}
+
 #[test]
 fn the_first_demand_that_fails_is_named(rt: HostRuntime) {
-    for (row, &(file, others, why)) in REFUSED.iter().enumerate() {
-        assert_eq!(rt;
-            refusal(&rt, rt.alloc(), file, others),
-            Some(why),
-            "row {row}"
-        );
-    }
+    assert_eq!(rt; wrong_refusal(&rt, rt.alloc()), None);
 }
 
 // The codes of files, and which jobs enter the gate of their checks: one for each demand, and at most four.
@@ -115,16 +127,28 @@ const ENTERED: &[(&[u8], u64)] = &[(ONE_LINK, 1), (BUTTERFLY, 11), (CUT_BUTTERFL
 // What enters the gate of the check of the code of a file.
 fn entries_of<R: Threads + Sync>(rt: &R, alloc: Global, file: &[u8]) -> Option<u64> {
     let gate = Entries::new();
-    let code = code_of(alloc, file).ok()?;
-    let _ = check(rt, alloc, code, &gate);
-    Some(gate.counted())
+    match code_of(alloc, file) {
+        Ok(code) => {
+            let _ = check(rt, alloc, code, &gate);
+            Some(gate.counted())
+        }
+        Err(_) => None,
+    }
+}
+
+// The first row of which others enter.
+fn wrong_entries<R: Threads + Sync>(rt: &R, alloc: Global) -> Option<usize> {
+    for (row, &(file, entries)) in ENTERED.iter().enumerate() {
+        if entries_of(rt, alloc, file) != Some(entries) {
+            return Some(row);
+        }
+    }
+    None
 }
 
 #[test]
 fn batches_enter_the_gate(rt: HostRuntime) {
-    for &(file, entries) in ENTERED {
-        assert_eq!(rt; entries_of(&rt, rt.alloc(), file), Some(entries));
-    }
+    assert_eq!(rt; wrong_entries(&rt, rt.alloc()), None);
 }
 
 // Whether the check of the code of a file has such jobs, of which each meets another one.

@@ -26,11 +26,19 @@ fn is_kept(alloc: Global, file: &[u8]) -> bool {
     }
 }
 
+// The first row whose file isn't.
+fn first_not_kept(alloc: Global) -> Option<usize> {
+    for (row, &file) in FILES.iter().enumerate() {
+        if !is_kept(alloc, file) {
+            return Some(row);
+        }
+    }
+    None
+}
+
 #[test]
 fn files_are_read_and_written_back(rt: HostRuntime) {
-    for (row, &file) in FILES.iter().enumerate() {
-        assert!(rt; is_kept(rt.alloc(), file), "row {row}");
-    }
+    assert_eq!(rt; first_not_kept(rt.alloc()), None);
 }
 
 // What bytes are refused for.
@@ -46,21 +54,33 @@ fn are_truncated(alloc: Global, bytes: &[u8]) -> bool {
     }
 }
 
+// The first length of a beginning that isn't truncated.
+fn first_not_truncated(alloc: Global, file: &[u8]) -> Option<usize> {
+    for len in 0..file.len() {
+        if !are_truncated(alloc, &file[..len]) {
+            return Some(len);
+        }
+    }
+    None
+}
+
 #[test]
 fn every_beginning_is_truncated(rt: HostRuntime) {
-    for len in 0..BUTTERFLY.len() {
-        assert!(rt; are_truncated(rt.alloc(), &BUTTERFLY[..len]), "{len} bytes");
-    }
+    assert_eq!(rt; first_not_truncated(rt.alloc(), BUTTERFLY), None);
+}
+
+// Whether the first bytes of the file of one link, so many, end within the item at a place.
+fn ends_within(alloc: Global, len: usize, at: u64) -> bool {
+    len <= ONE_LINK.len() && refusal(alloc, &ONE_LINK[..len]) == Some(Truncated { at })
 }
 
 #[test]
 fn the_item_that_is_truncated_is_named(rt: HostRuntime) {
-    for (len, at) in [(0, 0), (3, 0), (35, 34), (36, 36)] {
-        assert_eq!(rt;
-            refusal(rt.alloc(), &ONE_LINK[..len]),
-            Some(Truncated { at })
-        );
-    }
+    let are_named = ends_within(rt.alloc(), 0, 0)
+        && ends_within(rt.alloc(), 3, 0)
+        && ends_within(rt.alloc(), 35, 34)
+        && ends_within(rt.alloc(), 36, 36);
+    assert!(rt; are_named);
 }
 
 // A file, bytes of it that are others, and the refusal.
@@ -83,13 +103,17 @@ fn changed_refusal(alloc: Global, file: &[u8], others: &[(usize, u8)]) -> Option
     }
 }
 
+// The first row whose file is refused for something else.
+fn wrong_refusal(alloc: Global) -> Option<usize> {
+    for (row, &(file, others, why)) in FAULTY.iter().enumerate() {
+        if changed_refusal(alloc, file, others) != Some(why) {
+            return Some(row);
+        }
+    }
+    None
+}
+
 #[test]
 fn the_first_fault_is_named(rt: HostRuntime) {
-    for (row, &(file, others, why)) in FAULTY.iter().enumerate() {
-        assert_eq!(rt;
-            changed_refusal(rt.alloc(), file, others),
-            Some(why),
-            "row {row}"
-        );
-    }
+    assert_eq!(rt; wrong_refusal(rt.alloc()), None);
 }

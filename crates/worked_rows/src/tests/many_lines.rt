@@ -30,12 +30,16 @@ fn add_line(text: &mut Vec<u8>, lines: &Lines, number: u32) -> Result<(), AllocE
     text.extend_from_slice(lines.behind)
 }
 
+fn add_lines(text: &mut Vec<u8>, lines: &Lines) -> Result<(), AllocError> {
+    for number in 0..lines.count {
+        add_line(text, lines, number)?;
+    }
+    text.extend_from_slice(lines.last)
+}
+
 fn text_of(alloc: Global, lines: &Lines) -> Result<Vec<u8>, AllocError> {
     let mut text = Vec::from_slice(alloc, lines.first)?;
-    for number in 0..lines.count {
-        add_line(&mut text, lines, number)?;
-    }
-    text.extend_from_slice(lines.last)?;
+    add_lines(&mut text, lines)?;
     Ok(text)
 }
 
@@ -87,11 +91,19 @@ const FULL: &[(Lines, [usize; 3])] = &[
     ),
 ];
 
+// The first row whose network has other sizes.
+fn wrong_sizes(alloc: Global) -> Option<usize> {
+    for (row, (lines, want)) in FULL.iter().enumerate() {
+        if !has_sizes(alloc, lines, *want) {
+            return Some(row);
+        }
+    }
+    None
+}
+
 #[test]
 fn as_many_as_may_be(rt: HostRuntime) {
-    for (row, (lines, want)) in FULL.iter().enumerate() {
-        assert!(rt; has_sizes(rt.alloc(), lines, *want), "row {row}");
-    }
+    assert_eq!(rt; wrong_sizes(rt.alloc()), None);
 }
 
 fn is_refused(alloc: Global, lines: &Lines, why: ReadRefusal) -> bool {
@@ -182,9 +194,17 @@ const OVER: &[(Lines, ReadRefusal)] = &[
     ),
 ];
 
+// The first row whose text isn't refused so.
+fn wrong_refusal(alloc: Global) -> Option<usize> {
+    for (row, (lines, why)) in OVER.iter().enumerate() {
+        if !is_refused(alloc, lines, *why) {
+            return Some(row);
+        }
+    }
+    None
+}
+
 #[test]
 fn one_too_many(rt: HostRuntime) {
-    for (row, (lines, why)) in OVER.iter().enumerate() {
-        assert!(rt; is_refused(rt.alloc(), lines, *why), "row {row}");
-    }
+    assert_eq!(rt; wrong_refusal(rt.alloc()), None);
 }

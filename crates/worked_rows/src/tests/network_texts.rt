@@ -219,9 +219,17 @@ fn has_name(alloc: Global, text: &[u8], node: u32, want: Option<&[u8]>) -> bool 
     }
 }
 
+// The first row whose node has another name.
+fn wrong_name(alloc: Global) -> Option<usize> {
+    for (row, &(text, node, want)) in NAMED.iter().enumerate() {
+        if !has_name(alloc, text, node, want) {
+            return Some(row);
+        }
+    }
+    None
+}
+
 #[test]
 fn nodes_have_names(rt: HostRuntime) {
-    for (row, &(text, node, want)) in NAMED.iter().enumerate() {
-        assert!(rt; has_name(rt.alloc(), text, node, want), "row {row}");
-    }
+    assert_eq!(rt; wrong_name(rt.alloc()), None);
 }

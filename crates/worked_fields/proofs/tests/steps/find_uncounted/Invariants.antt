@@ -1,0 +1,5 @@
+use Rattle.worked_fields.proofs.tests.steps.find_uncounted.Given as goal
+
+-- the ledger of the blank that is passed
+abbrev pub ghosts-find_from : goal.ghosts-find_from
+ghosts-find_from a = record { name = a.blank.name; parts = a.blank.parts }

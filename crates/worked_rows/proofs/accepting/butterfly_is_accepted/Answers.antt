@@ -1,6 +1,0 @@
--- The lemma on every block.
-use Rattle.worked_rows.proofs.TwoRows.{butterfly_accepted}
-use Rattle.worked_rows.proofs.accepting.butterfly_is_accepted.Goals as goal
-
-pub returns : goal.returns
-returns c = butterfly_accepted

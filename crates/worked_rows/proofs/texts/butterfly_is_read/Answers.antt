@@ -1,9 +1,0 @@
--- The parts compute.
-use Rattle.std.proofs.Common.{refl}
-use Rattle.worked_rows.specs.Butterfly.{butterfly}
-use Rattle.worked_rows.specs.CutButterfly.{cut_butterfly}
-use Rattle.worked_rows.proofs.texts.butterfly_is_read.Goals as goal
-
-pub returns : goal.returns
-unfolding butterfly cut_butterfly
-returns c = record { uncut = refl; cut = refl }

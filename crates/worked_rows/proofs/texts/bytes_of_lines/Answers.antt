@@ -1,8 +1,0 @@
--- The parts compute.
-use Rattle.std.proofs.Common.{refl}
-use Rattle.worked_rows.specs.OneLink.{one_link}
-use Rattle.worked_rows.proofs.texts.bytes_of_lines.Goals as goal
-
-pub returns-clause-comment : goal.returns-clause-comment
-unfolding one_link
-returns-clause-comment c = refl

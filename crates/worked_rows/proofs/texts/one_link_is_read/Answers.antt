@@ -1,8 +1,0 @@
--- The parts compute.
-use Rattle.std.proofs.Common.{refl}
-use Rattle.worked_rows.specs.OneLink.{one_link, wide_one_link}
-use Rattle.worked_rows.proofs.texts.one_link_is_read.Goals as goal
-
-pub returns : goal.returns
-unfolding one_link wide_one_link
-returns c = record { any = refl; eight = refl; sixteen = refl }

@@ -1,8 +1,0 @@
-use Rattle.std.proofs.Common.{refl}
-use Rattle.node_program.specs.Value.{is_live_within}
-use Rattle.worked_rows.specs.OneLink.{doubled_one_link}
-use Rattle.worked_traffic.proofs.one_link_keys.Goals as goal
-
-pub returns : goal.returns
-unfolding doubled_one_link is_live_within
-returns c = record { keys = refl }
