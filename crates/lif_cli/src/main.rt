@@ -5,50 +5,17 @@
 //! promise. The adapters that both are made of stand in `system_files`.
 #![tactic(auto)]
 
-ghost use Rattle.std.specs.Prelude.{◌≡◌, ◌≢◌};
-ghost use Rattle.std.specs.IoError.{error_kind};
-
 mod disk;
 mod say;
-#[cfg(test)]
-mod tests;
 
 use disk::DiskStore;
 use lif_outside::SeedLinks;
-use lif_top::{Words, run};
+use lif_top::{given_words, run};
 use say::StdSay;
-use std::io::ErrorKind;
 use std::process::ExitCode;
-use std::rt::Env;
-use std::{env, io};
-
-/// The words after the program's name.
-fn words<R: Env + AllocGlobal>(rt: &R) -> io::Result<Vec<String>> {
-    let words = env::args(rt)?.skip(1).collect(rt.alloc())?;
-    Ok(words)
-}
-
-/// Why the words can't be had.
-fn why(error: &io::Error) -> Words
-    ensures memory { error_kind error.now ≡ ErrorKind.OutOfMemory → result ≡ Words.NoMemory }
-    ensures text { error_kind error.now ≢ ErrorKind.OutOfMemory → result ≡ Words.NotText }
-{
-    match error.kind() {
-        ErrorKind::OutOfMemory => Words::NoMemory,
-        _ => Words::NotText,
-    }
-}
-
-/// The words, or why they can't be had.
-fn words_or_why<R: Env + AllocGlobal>(rt: &R) -> Words {
-    match words(rt) {
-        Ok(words) => Words::Given(words),
-        Err(error) => why(&error),
-    }
-}
 
 fn main(rt: HostRuntime) -> ExitCode {
-    let words = words_or_why(&rt);
+    let words = given_words(&rt);
     let mut store = DiskStore::new(&rt);
     let mut say = StdSay::new(&rt);
     let mut links = SeedLinks::new(rt.alloc());

@@ -1,12 +1,8 @@
-//! Worked examples: `check`, `send`, `order`, `cuts` and `demo` over objects in memory.
+//! Worked examples of whole runs that no case can tell: which jobs enter the gate, links that go by chance beside a plain
+//! model of what is put and written, files of a system of which each call fails, and words that can't be had.
 //!
-//! `calls` has the top call over objects in memory, as the crates of tests above make it too. Begin with `Run` in
-//! src/tests.rt: words and files, and how the run ends, what it says, and what stands at the paths then. Of networks the
-//! tests compare every byte that is said: of small ones, of cycles, of cuts of many sizes, of texts of many lengths, and of
-//! those that `demo` makes, also where links fail or change a byte. The runs of `systems` go over the files of the system
-//! and over such in memory, of which each call fails in turn.
+//! All else that the top call does is told by the cases of `worked_cases`. Begin with `status_over` in src/tests/calls.rt.
 #![tactic(auto)]
 
-pub mod calls;
 #[cfg(test)]
 mod tests;

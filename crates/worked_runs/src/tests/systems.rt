@@ -1,6 +1,7 @@
 //! A whole run over the files of the system, of which each call is logged: no other call is made, and no other
 //! file.
 mod failing;
+mod given_words;
 mod missing_words;
 
 use lif_outside::{MemSink, SeedLinks, Store};

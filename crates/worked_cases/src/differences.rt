@@ -1,0 +1,152 @@
+//! What differs is said, a line for each difference.
+use crate::named::Named;
+use std::alloc::{AllocError, Global};
+
+// So many bytes are shown of what was wanted and of what came.
+const SHOWN: usize = 60;
+
+/// Where a case stands, and for what it goes.
+#[derive(Clone, Copy)]
+pub struct Place<'a> {
+    pub file: &'a str,
+    pub case: &'a [u8],
+    pub values: &'a [Named],
+}
+
+/// What differs in a going of a case is said as it is found, and counted.
+#[derive(Drop)]
+pub struct Differences<'a, R> {
+    rt: &'a R,
+    place: Place<'a>,
+    count: u64,
+}
+
+// Adds bytes as a text in quotes would have them, and dots where there are more than are shown.
+fn push_shown(text: &mut String, bytes: &[u8]) -> Result<(), AllocError> {
+    let front = bytes.get(..SHOWN).unwrap_or(bytes);
+    for byte in front {
+        match *byte {
+            b'\n' => text.push_str("\\n")?,
+            b'\r' => text.push_str("\\r")?,
+            b' '..=b'~' => text.push(char::from(*byte))?,
+            other => write!(text, "\\x{other:02x}")?,
+        }
+    }
+    if front.len() < bytes.len() {
+        text.push_str("..")?;
+    }
+    Ok(())
+}
+
+// Adds what stands for the names of a case's `for`.
+fn push_values(text: &mut String, values: &[Named]) -> Result<(), AllocError> {
+    for named in values {
+        text.push_str(" [")?;
+        push_shown(text, &named.name)?;
+        text.push(' ')?;
+        push_shown(text, &named.bytes)?;
+        text.push(']')?;
+    }
+    Ok(())
+}
+
+// Where something differs, with its line.
+fn place_text(alloc: Global, place: &Place<'_>, line: usize) -> Result<String, AllocError> {
+    let file = place.file;
+    let mut text = format!(in alloc; "{file}:{line}: ")?;
+    push_shown(&mut text, place.case)?;
+    push_values(&mut text, place.values)?;
+    text.push_str(": ")?;
+    Ok(text)
+}
+
+// What was wanted, and what came.
+fn push_both(text: &mut String, wanted: &[u8], came: &[u8]) -> Result<(), AllocError> {
+    text.push_str(": wanted ")?;
+    push_shown(text, wanted)?;
+    text.push_str(", came ")?;
+    push_shown(text, came)
+}
+
+// A line for what differs.
+fn difference(
+    alloc: Global,
+    place: &Place<'_>,
+    line: usize,
+    what: &str,
+    both: Option<(&[u8], &[u8])>,
+) -> Result<String, AllocError> {
+    let mut text = place_text(alloc, place, line)?;
+    text.push_str(what)?;
+    if let Some((wanted, came)) = both {
+        push_both(&mut text, wanted, came)?;
+    }
+    text.push('\n')?;
+    Ok(text)
+}
+
+// The first place where bytes differ.
+fn first_place(wanted: &[u8], came: &[u8]) -> usize {
+    let length = wanted.len().min(came.len());
+    for place in 0..length {
+        if wanted.get(place) != came.get(place) {
+            return place;
+        }
+    }
+    length
+}
+
+impl<'a, R: Print + AllocGlobal> Differences<'a, R> {
+    /// None yet.
+    pub fn none(rt: &'a R, place: Place<'a>) -> Differences<'a, R> {
+        Differences {
+            rt,
+            place,
+            count: 0,
+        }
+    }
+
+    /// How many there are.
+    pub fn count(&self) -> u64 {
+        self.count
+    }
+
+    // Says a line, and counts it.
+    fn say(&mut self, text: Result<String, AllocError>) {
+        self.count = self.count.saturating_add(1);
+        let _ = match text {
+            Ok(text) => self.rt.print(text),
+            Err(_) => self.rt.print("out of memory\n"),
+        };
+    }
+
+    /// Something differs, of which this is all that is to be said.
+    pub fn tell(&mut self, line: usize, what: &str) {
+        self.say(difference(self.rt.alloc(), &self.place, line, what, None));
+    }
+
+    /// Two numbers differ.
+    pub fn tell_numbers(&mut self, line: usize, what: &str, wanted: u64, came: u64) {
+        let alloc = self.rt.alloc();
+        if let (Ok(wanted), Ok(came)) = (wanted.to_string(alloc), came.to_string(alloc)) {
+            let both = Some((wanted.as_bytes(), came.as_bytes()));
+            self.say(difference(alloc, &self.place, line, what, both));
+        } else {
+            self.say(Err(AllocError));
+        }
+    }
+
+    /// Bytes differ. They are shown from the first place on where they do.
+    pub fn tell_bytes(&mut self, line: usize, what: &str, wanted: &[u8], came: &[u8]) {
+        let alloc = self.rt.alloc();
+        let place = first_place(wanted, came);
+        let lengths = (wanted.len(), came.len());
+        let rests = (wanted.get(place..), came.get(place..));
+        let both = Some((rests.0.unwrap_or_default(), rests.1.unwrap_or_default()));
+        let (wants, comes) = lengths;
+        match format!(in alloc; "{what} of {wants} and {comes} bytes, from {place} on") {
+            Ok(what) => self.say(difference(alloc, &self.place, line, what.as_str(), both)),
+            Err(error) => self.say(Err(error)),
+        }
+    }
+}

@@ -1,0 +1,38 @@
+//! Bytes by their names.
+use crate::wrong::Wrong;
+use std::alloc::Global;
+
+/// Bytes with a name: a file with its path, or what stands for a name of a `for` or of a `let`.
+#[derive(Drop)]
+pub struct Named {
+    pub name: Vec<u8>,
+    pub bytes: Vec<u8>,
+}
+
+/// The bytes of a name, the last ones where there are several.
+pub fn found<'a>(among: &'a [Named], name: &[u8]) -> Option<&'a [u8]> {
+    let mut last = None;
+    for named in among {
+        if named.name.as_slice() == name {
+            last = Some(named.bytes.as_slice());
+        }
+    }
+    last
+}
+
+/// Adds bytes with a name.
+pub fn add(
+    alloc: Global,
+    among: &mut Vec<Named>,
+    name: &[u8],
+    bytes: Vec<u8>,
+) -> Result<(), Wrong> {
+    let name = Vec::from_slice(alloc, name)?;
+    among.push(Named { name, bytes })?;
+    Ok(())
+}
+
+/// Takes away what has a name.
+pub fn remove(among: &mut Vec<Named>, name: &[u8]) {
+    among.retain(|named| named.name.as_slice() != name);
+}
