@@ -58,6 +58,8 @@ AFTER = {
     "opened": rf"{NUMBER} {NUMBER}",
     "frames": rf"{NUMBER}(?: (?:on|of) {NUMBER})?",
     "takes": rf"{NUMBER}",
+    "unopened": "",
+    "calls": rf"(?:read|create|append) {NUMBER}",
     "frame": None,
 }
 FRAME = re.compile(rf"{NUMBER} {NUMBER} {NUMBER} = (.*)")
@@ -553,13 +555,9 @@ class Static:
     def __init__(self, case: Case) -> None:
         self.files: dict[bytes, Bytes] = {}
         self.lets: dict[str, Bytes] = dict(case.lets)
-        self.told: bytes | None = None
-        self.look = look_in(case.path.parent, self.lets, self.find)
-
-    def find(self, path: bytes) -> tuple[bool, Bytes]:
-        if path == self.told:
-            raise Trouble("a file that is said to be as it is")
-        return path in self.files, self.files.get(path)
+        self.old: dict[bytes, Bytes] = {}
+        self.look = look_in(case.path.parent, self.lets, lambda path: (path in self.files, self.files.get(path)))
+        self.look_before = look_in(case.path.parent, self.lets, lambda path: (path in self.old, self.old.get(path)))
 
     def before(self, word: str, path: str | bytes, text: str) -> None:
         if word == "gone":
@@ -571,6 +569,7 @@ class Static:
 
     def ran(self, step: Step) -> None:
         """A run may have made the files that are named behind it, with other bytes."""
+        self.old = dict(self.files)
         for _, word, path, _ in step.after:
             if word in ("file", "made"):
                 self.files[path] = None
@@ -579,11 +578,9 @@ class Static:
 
     def after(self, word: str, path: bytes, text: str) -> None:
         if word == "file":
-            self.told = path
-            self.files[path] = bytes_of(text, self.look)
-            self.told = None
+            self.files[path] = bytes_of(text, self.look_before)
         elif word == "frame":
-            payload = bytes_of(text, self.look)
+            payload = bytes_of(text, self.look_before)
             if payload is not None and len(payload) > FRAME_PAYLOAD:
                 raise Trouble(f"a payload of more than {FRAME_PAYLOAD} bytes")
 
@@ -609,7 +606,7 @@ def try_form(case: Case, values: Values) -> list[str]:
             static.ran(step)
             if step.said:
                 at = step.said[0]
-                bytes_of(step.said[1], static.look)
+                bytes_of(step.said[1], static.look_before)
             for at, word, path, text in step.after:
                 static.after(word, path, text)
     except Trouble as trouble:

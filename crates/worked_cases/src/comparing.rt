@@ -2,7 +2,7 @@
 use crate::differences::Differences;
 use crate::named::{Named, found};
 use crate::scene::{Scene, Trouble};
-use crate::wanted::{Content, LinkCalls, Wanted, WantedFile};
+use crate::wanted::{Content, ToldCalls, Wanted, WantedFile};
 use lif_outside::{Call, Flight, MemStore};
 use logged_store::{Event, Logged};
 use worked_rows::watched::Calls;
@@ -223,20 +223,30 @@ fn compare_opened<R: Print + AllocGlobal>(
     compare_numbers(line, "room", room, u64::from(most), differences);
 }
 
-// What is told of links.
+// What is told of calls.
 fn compare_calls<R: Print + AllocGlobal>(
     line: usize,
-    wanted: &LinkCalls,
-    calls: &Calls,
+    wanted: &ToldCalls,
+    came: &Came<'_>,
     differences: &mut Differences<'_, R>,
 ) {
+    let calls = came.calls;
     let puts = calls.puts.as_slice();
     match wanted {
-        LinkCalls::Opened { seed, room } => compare_opened(line, *seed, *room, calls, differences),
-        LinkCalls::Frames(count) => {
+        ToldCalls::OnStore { call, count } => {
+            let made = made(came.store.log(), *call);
+            compare_numbers(line, "calls", *count, made, differences);
+        }
+        ToldCalls::Unopened => {
+            if !calls.are_none() {
+                differences.tell(line, "a call was made on the links");
+            }
+        }
+        ToldCalls::Opened { seed, room } => compare_opened(line, *seed, *room, calls, differences),
+        ToldCalls::Frames(count) => {
             compare_numbers(line, "frames", *count, puts.len() as u64, differences);
         }
-        LinkCalls::FramesOn { count, link } => {
+        ToldCalls::FramesOn { count, link } => {
             compare_numbers(
                 line,
                 "frames on it",
@@ -245,15 +255,14 @@ fn compare_calls<R: Print + AllocGlobal>(
                 differences,
             );
         }
-        LinkCalls::FramesOf { count, generation } => {
-            let bytes = (*generation as u32).to_be_bytes();
-            let came = count_with(puts, 8, &bytes);
+        ToldCalls::FramesOf { count, generation } => {
+            let came = count_with(puts, 8, &generation.to_be_bytes());
             compare_numbers(line, "frames of it", *count, came, differences);
         }
-        LinkCalls::Frame { front, payload } => {
+        ToldCalls::Frame { front, payload } => {
             compare_frame(line, front, payload, puts, differences);
         }
-        LinkCalls::Takes(count) => {
+        ToldCalls::Takes(count) => {
             compare_numbers(line, "takes", *count, u64::from(calls.takes), differences);
         }
     }
@@ -316,8 +325,8 @@ pub fn compare<R: Print + AllocGlobal>(
         differences.tell_bytes(wanted.run, "said", &wanted.said, came.said);
     }
     compare_files(wanted, &scene.files, came.store, differences);
-    for (line, calls) in &wanted.links {
-        compare_calls(*line, calls, came.calls, differences);
+    for (line, calls) in &wanted.calls {
+        compare_calls(*line, calls, came, differences);
     }
     compare_order(wanted.run, &scene.trouble, came, differences);
 }

@@ -50,38 +50,40 @@ fn push_values(text: &mut String, values: &[Named]) -> Result<(), AllocError> {
     Ok(())
 }
 
-// Where something differs, with its line.
-fn place_text(alloc: Global, place: &Place<'_>, line: usize) -> Result<String, AllocError> {
+// Where something differs, with its line, and what.
+fn statement(
+    alloc: Global,
+    place: Place<'_>,
+    line: usize,
+    what: &str,
+) -> Result<String, AllocError> {
     let file = place.file;
     let mut text = format!(in alloc; "{file}:{line}: ")?;
     push_shown(&mut text, place.case)?;
     push_values(&mut text, place.values)?;
     text.push_str(": ")?;
+    text.push_str(what)?;
     Ok(text)
 }
 
-// What was wanted, and what came.
-fn push_both(text: &mut String, wanted: &[u8], came: &[u8]) -> Result<(), AllocError> {
-    text.push_str(": wanted ")?;
-    push_shown(text, wanted)?;
-    text.push_str(", came ")?;
-    push_shown(text, came)
+// A line that states no more.
+fn line_of(alloc: Global, place: Place<'_>, line: usize, what: &str) -> Result<String, AllocError> {
+    let mut text = statement(alloc, place, line, what)?;
+    text.push('\n')?;
+    Ok(text)
 }
 
-// A line for what differs.
-fn difference(
+// A line with two numbers.
+fn line_of_numbers(
     alloc: Global,
-    place: &Place<'_>,
+    place: Place<'_>,
     line: usize,
     what: &str,
-    both: Option<(&[u8], &[u8])>,
+    wanted: u64,
+    came: u64,
 ) -> Result<String, AllocError> {
-    let mut text = place_text(alloc, place, line)?;
-    text.push_str(what)?;
-    if let Some((wanted, came)) = both {
-        push_both(&mut text, wanted, came)?;
-    }
-    text.push('\n')?;
+    let mut text = statement(alloc, place, line, what)?;
+    write!(text, ": wanted {wanted}, came {came}\n")?;
     Ok(text)
 }
 
@@ -94,6 +96,26 @@ fn first_place(wanted: &[u8], came: &[u8]) -> usize {
         }
     }
     length
+}
+
+// A line with bytes, from the first place on where they differ.
+fn line_of_bytes(
+    alloc: Global,
+    place: Place<'_>,
+    line: usize,
+    what: &str,
+    wanted: &[u8],
+    came: &[u8],
+) -> Result<String, AllocError> {
+    let first = first_place(wanted, came);
+    let (wants, comes) = (wanted.len(), came.len());
+    let mut text = statement(alloc, place, line, what)?;
+    write!(text, ": {wants} and {comes} bytes, from {first} on wanted ")?;
+    push_shown(&mut text, wanted.get(first..).unwrap_or_default())?;
+    text.push_str(", came ")?;
+    push_shown(&mut text, came.get(first..).unwrap_or_default())?;
+    text.push('\n')?;
+    Ok(text)
 }
 
 impl<'a, R: Print + AllocGlobal> Differences<'a, R> {
@@ -122,31 +144,19 @@ impl<'a, R: Print + AllocGlobal> Differences<'a, R> {
 
     /// Something differs, of which this is all that is to be said.
     pub fn tell(&mut self, line: usize, what: &str) {
-        self.say(difference(self.rt.alloc(), &self.place, line, what, None));
+        let place = self.place;
+        self.say(line_of(self.rt.alloc(), place, line, what));
     }
 
     /// Two numbers differ.
     pub fn tell_numbers(&mut self, line: usize, what: &str, wanted: u64, came: u64) {
-        let alloc = self.rt.alloc();
-        if let (Ok(wanted), Ok(came)) = (wanted.to_string(alloc), came.to_string(alloc)) {
-            let both = Some((wanted.as_bytes(), came.as_bytes()));
-            self.say(difference(alloc, &self.place, line, what, both));
-        } else {
-            self.say(Err(AllocError));
-        }
+        let place = self.place;
+        self.say(line_of_numbers(self.rt.alloc(), place, line, what, wanted, came));
     }
 
     /// Bytes differ. They are shown from the first place on where they do.
     pub fn tell_bytes(&mut self, line: usize, what: &str, wanted: &[u8], came: &[u8]) {
-        let alloc = self.rt.alloc();
-        let place = first_place(wanted, came);
-        let lengths = (wanted.len(), came.len());
-        let rests = (wanted.get(place..), came.get(place..));
-        let both = Some((rests.0.unwrap_or_default(), rests.1.unwrap_or_default()));
-        let (wants, comes) = lengths;
-        match format!(in alloc; "{what} of {wants} and {comes} bytes, from {place} on") {
-            Ok(what) => self.say(difference(alloc, &self.place, line, what.as_str(), both)),
-            Err(error) => self.say(Err(error)),
-        }
+        let place = self.place;
+        self.say(line_of_bytes(self.rt.alloc(), place, line, what, wanted, came));
     }
 }

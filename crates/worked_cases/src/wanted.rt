@@ -2,6 +2,7 @@
 use crate::bytes::{Names, read_bytes};
 use crate::cursor::Cursor;
 use crate::wrong::Wrong;
+use lif_outside::Call;
 use std::alloc::{AllocError, Global};
 use std::rt::Files;
 
@@ -25,13 +26,15 @@ pub struct WantedFile {
     pub content: Content,
 }
 
-/// What is told of the calls on links.
+/// What is told of the calls on links, or on the store.
 #[derive(Drop)]
-pub enum LinkCalls {
+pub enum ToldCalls {
+    OnStore { call: Call, count: u64 },
+    Unopened,
     Opened { seed: u64, room: u64 },
     Frames(u64),
     FramesOn { count: u64, link: u64 },
-    FramesOf { count: u64, generation: u64 },
+    FramesOf { count: u64, generation: u32 },
     Frame { front: [u8; 12], payload: Vec<u8> },
     Takes(u64),
 }
@@ -43,7 +46,7 @@ pub struct Wanted {
     pub status: Option<(usize, u64)>,
     pub said: Vec<u8>,
     pub files: Vec<WantedFile>,
-    pub links: Vec<(usize, LinkCalls)>,
+    pub calls: Vec<(usize, ToldCalls)>,
 }
 
 impl Wanted {
@@ -54,7 +57,7 @@ impl Wanted {
             status: None,
             said: Vec::new(alloc),
             files: Vec::new(alloc),
-            links: Vec::new(alloc),
+            calls: Vec::new(alloc),
         }
     }
 }
@@ -74,6 +77,8 @@ pub fn is_wanted(line: &[u8]) -> bool {
             | b"frames"
             | b"frame"
             | b"takes"
+            | b"unopened"
+            | b"calls"
     )
 }
 
@@ -152,17 +157,25 @@ fn add_path(
     add_file(line, path, content, wanted)
 }
 
+// The number of a generation, which ends the line.
+fn generation(cursor: &mut Cursor<'_>) -> Result<u32, Wrong> {
+    match u32::try_from(last_number(cursor)?) {
+        Ok(number) => Ok(number),
+        Err(_) => Err(Wrong::Form("no generation has such a number")),
+    }
+}
+
 // The counts of a line `frames`.
-fn frames(cursor: &mut Cursor<'_>) -> Result<LinkCalls, Wrong> {
+fn frames(cursor: &mut Cursor<'_>) -> Result<ToldCalls, Wrong> {
     let count = cursor.number().ok_or(NO_NUMBER)?;
     if cursor.eat(b" on ") {
         let link = last_number(cursor)?;
-        Ok(LinkCalls::FramesOn { count, link })
+        Ok(ToldCalls::FramesOn { count, link })
     } else if cursor.eat(b" of ") {
-        let generation = last_number(cursor)?;
-        Ok(LinkCalls::FramesOf { count, generation })
+        let generation = generation(cursor)?;
+        Ok(ToldCalls::FramesOf { count, generation })
     } else if cursor.is_done() {
-        Ok(LinkCalls::Frames(count))
+        Ok(ToldCalls::Frames(count))
     } else {
         Err(MORE)
     }
@@ -196,21 +209,43 @@ fn frame<R: Files + AllocGlobal>(
     rt: &R,
     names: Names<'_>,
     cursor: &mut Cursor<'_>,
-) -> Result<LinkCalls, Wrong> {
+) -> Result<ToldCalls, Wrong> {
     let front = front_in(cursor)?;
     let mut payload = bytes_behind(rt, names, cursor)?;
     if payload.len() > 128 {
         return Err(Wrong::Form("a payload of more than 128 bytes"));
     }
     payload.resize(128, 0)?;
-    Ok(LinkCalls::Frame { front, payload })
+    Ok(ToldCalls::Frame { front, payload })
 }
 
 // The number and the room of a line `opened`.
-fn opened(cursor: &mut Cursor<'_>) -> Result<LinkCalls, Wrong> {
+fn opened(cursor: &mut Cursor<'_>) -> Result<ToldCalls, Wrong> {
     let seed = next_number(cursor)?;
     let room = last_number(cursor)?;
-    Ok(LinkCalls::Opened { seed, room })
+    Ok(ToldCalls::Opened { seed, room })
+}
+
+// The count of a line `calls`.
+fn store_calls(cursor: &mut Cursor<'_>) -> Result<ToldCalls, Wrong> {
+    let call = match cursor.until(b" ") {
+        b"read" => Call::Read,
+        b"create" => Call::Create,
+        b"append" => Call::Append,
+        _ => return Err(Wrong::Form("no such call")),
+    };
+    cursor.eat(b" ");
+    let count = last_number(cursor)?;
+    Ok(ToldCalls::OnStore { call, count })
+}
+
+// That no call was made on the links, which ends the line.
+fn unopened(cursor: &Cursor<'_>) -> Result<ToldCalls, Wrong> {
+    if cursor.is_done() {
+        Ok(ToldCalls::Unopened)
+    } else {
+        Err(MORE)
+    }
 }
 
 // Takes in a line on files.
@@ -233,7 +268,7 @@ fn add_content<R: Files + AllocGlobal>(
     }
 }
 
-// Takes in a line on links.
+// Takes in a line on calls.
 fn add_calls<R: Files + AllocGlobal>(
     rt: &R,
     names: Names<'_>,
@@ -246,9 +281,11 @@ fn add_calls<R: Files + AllocGlobal>(
         b"opened" => opened(cursor)?,
         b"frames" => frames(cursor)?,
         b"frame" => frame(rt, names, cursor)?,
-        _ => LinkCalls::Takes(last_number(cursor)?),
+        b"calls" => store_calls(cursor)?,
+        b"unopened" => unopened(cursor)?,
+        _ => ToldCalls::Takes(last_number(cursor)?),
     };
-    wanted.links.push((line, calls))?;
+    wanted.calls.push((line, calls))?;
     Ok(())
 }
 
