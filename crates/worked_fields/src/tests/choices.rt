@@ -202,7 +202,9 @@ impl Counted for Table {
 #[test]
 fn as_many_rows_as_elements_leave_one_choice(rt: HostRuntime) {
     let found = run_over::<Gf8, Table>(rt.alloc(), Table::Slopes);
-    assert!(rt; matches!(found, Some((2, [0, second])) if second != 0));
+    assert!(rt;
+        found.is_some_and(|(count, [first, second])| count == 2 && first == 0 && second != 0)
+    );
 }
 
 // How many coefficients are chosen for a table.
