@@ -58,11 +58,10 @@ fn has_late_call(log: &[Event]) -> bool {
     false
 }
 
-// The path of a file that a call made or added to.
-fn changed_path(event: &Event) -> Option<&str> {
+// The path of a file that a call made.
+fn made_path(event: &Event) -> Option<&str> {
     match event {
         Event::Created { path } => Some(path.as_str()),
-        Event::Appended { path, .. } => Some(path.as_str()),
         _ => None,
     }
 }
@@ -132,7 +131,7 @@ fn compare_files<R: Print + AllocGlobal>(
         }
     }
     for event in store.log() {
-        if let Some(path) = changed_path(event)
+        if let Some(path) = made_path(event)
             && found(before, path.as_bytes()).is_none()
             && !is_told(&wanted.files, path.as_bytes())
         {

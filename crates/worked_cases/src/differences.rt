@@ -3,7 +3,7 @@ use crate::named::Named;
 use std::alloc::{AllocError, Global};
 
 // So many bytes are shown of what was wanted and of what came.
-const SHOWN: usize = 60;
+const SHOWN: usize = 32;
 
 /// Where a case stands, and for what it goes.
 #[derive(Clone, Copy)]
@@ -21,7 +21,7 @@ pub struct Differences<'a, R> {
     count: u64,
 }
 
-// Adds bytes as a text in quotes would have them, and dots where there are more than are shown.
+// Adds bytes as a text would have them, and dots where there are more than are shown.
 fn push_shown(text: &mut String, bytes: &[u8]) -> Result<(), AllocError> {
     let front = bytes.get(..SHOWN).unwrap_or(bytes);
     for byte in front {
@@ -98,6 +98,14 @@ fn first_place(wanted: &[u8], came: &[u8]) -> usize {
     length
 }
 
+// Adds bytes in quotes.
+fn push_quoted(text: &mut String, bytes: &[u8]) -> Result<(), AllocError> {
+    text.push('"')?;
+    push_shown(text, bytes)?;
+    text.push('"')?;
+    Ok(())
+}
+
 // A line with bytes, from the first place on where they differ.
 fn line_of_bytes(
     alloc: Global,
@@ -110,10 +118,13 @@ fn line_of_bytes(
     let first = first_place(wanted, came);
     let (wants, comes) = (wanted.len(), came.len());
     let mut text = statement(alloc, place, line, what)?;
-    write!(text, ": {wants} and {comes} bytes, from {first} on wanted ")?;
-    push_shown(&mut text, wanted.get(first..).unwrap_or_default())?;
+    write!(
+        text,
+        ": {wants} and {comes} bytes, from {first} on: wanted "
+    )?;
+    push_quoted(&mut text, wanted.get(first..).unwrap_or_default())?;
     text.push_str(", came ")?;
-    push_shown(&mut text, came.get(first..).unwrap_or_default())?;
+    push_quoted(&mut text, came.get(first..).unwrap_or_default())?;
     text.push('\n')?;
     Ok(text)
 }
