@@ -21,10 +21,9 @@ pub struct Differences<'a, R> {
     count: u64,
 }
 
-// Adds bytes as a text would have them, and dots where there are more than are shown.
-fn push_shown(text: &mut String, bytes: &[u8]) -> Result<(), AllocError> {
-    let front = bytes.get(..SHOWN).unwrap_or(bytes);
-    for byte in front {
+// Adds bytes as a text would have them.
+fn push_bytes(text: &mut String, bytes: &[u8]) -> Result<(), AllocError> {
+    for byte in bytes {
         match *byte {
             b'\n' => text.push_str("\\n")?,
             b'\r' => text.push_str("\\r")?,
@@ -32,10 +31,18 @@ fn push_shown(text: &mut String, bytes: &[u8]) -> Result<(), AllocError> {
             other => write!(text, "\\x{other:02x}")?,
         }
     }
-    if front.len() < bytes.len() {
-        text.push_str("..")?;
-    }
     Ok(())
+}
+
+// The same of the first ones, with dots where there are more.
+fn push_shown(text: &mut String, bytes: &[u8]) -> Result<(), AllocError> {
+    match bytes.get(..SHOWN) {
+        Some(front) if front.len() < bytes.len() => {
+            push_bytes(text, front)?;
+            text.push_str("..")
+        }
+        _ => push_bytes(text, bytes),
+    }
 }
 
 // Adds what stands for the names of a case's `for`.
@@ -59,7 +66,7 @@ fn statement(
 ) -> Result<String, AllocError> {
     let file = place.file;
     let mut text = format!(in alloc; "{file}:{line}: ")?;
-    push_shown(&mut text, place.case)?;
+    push_bytes(&mut text, place.case)?;
     push_values(&mut text, place.values)?;
     text.push_str(": ")?;
     text.push_str(what)?;
