@@ -17,6 +17,12 @@ pub fn is_loop(line: &[u8]) -> bool {
     line.starts_with(b"for ")
 }
 
+/// Whether a line begins a table: its rows follow.
+pub fn is_table(line: &[u8]) -> bool {
+    let mut cursor = Cursor::of(line);
+    cursor.eat(b"for ") && !cursor.name().is_empty() && !cursor.eat(b" in ")
+}
+
 // The first and the last number of a range, where this is one.
 fn range_of(items: &[u8]) -> Option<(u64, u64)> {
     let mut cursor = Cursor::of(items);

@@ -3,7 +3,7 @@ use crate::bytes::read_bytes;
 use crate::cursor::Cursor;
 use crate::differences::Differences;
 use crate::filling::filled;
-use crate::loops::{is_loop, is_row};
+use crate::loops::{is_loop, is_row, is_table};
 use crate::named::{Named, add, remove};
 use crate::running::{Run, carry_out};
 use crate::scene::{
@@ -222,14 +222,21 @@ pub fn go<R: Files + Print + AllocGlobal + Threads + Sync>(
     scene: &mut Scene,
     differences: &mut Differences<'_, R>,
 ) -> Result<(), Stopped> {
-    let (mut is_behind_run, mut has_run) = (false, false);
+    let (mut is_behind_run, mut has_run, mut is_in_table) = (false, false, false);
     for (offset, line) in case.lines.iter().enumerate() {
         let number = case.first.saturating_add(offset);
+        if is_row(line) {
+            if !is_in_table {
+                return Err((number, Wrong::Form("a row of no table")));
+            }
+            continue;
+        }
+        is_in_table = is_table(line);
         if is_wanted(line) {
             if !is_behind_run {
                 return Err((number, Wrong::Form("no run stands before it")));
             }
-        } else if !is_empty(line) && !is_loop(line) && !is_row(line) {
+        } else if !is_empty(line) && !is_loop(line) {
             let behind = Lines {
                 first: number.saturating_add(1),
                 lines: case
