@@ -1,15 +1,14 @@
 //! Bytes as cases give them: parts, one behind the other.
 use crate::cursor::Cursor;
 use crate::named::{Named, found};
-use crate::wrong::Wrong;
-use std::alloc::{AllocError, Global};
+use std::alloc::Global;
 use std::fs;
 use std::rt::Files;
 
-const NO_NUMBER: Wrong = Wrong::Form("a number is missing");
-
 // How many bytes a case may make at most.
 const MOST: u64 = 1 << 28;
+
+const TOO_MANY: &str = "more bytes than a case may make";
 
 /// Where names are looked for: those of `let` first, then the files of the store. A name that is in neither is that of a
 /// file in the folder that the program runs in.
@@ -20,94 +19,96 @@ pub struct Names<'a> {
 }
 
 // A number of bytes.
-fn count(cursor: &mut Cursor<'_>) -> Result<usize, Wrong> {
-    match cursor.number() {
-        Some(number) if number <= MOST => Ok(number as usize),
-        Some(_) => Err(Wrong::Form("more bytes than a case may make")),
-        None => Err(NO_NUMBER),
-    }
+fn count(cursor: &mut Cursor<'_>) -> usize {
+    let number = cursor.number();
+    cursor.want(number <= MOST, TOO_MANY);
+    number.min(MOST) as usize
 }
 
 // Adds bytes in hex, up to the mark that ends them.
-fn add_hex(cursor: &mut Cursor<'_>, bytes: &mut Vec<u8>) -> Result<(), Wrong> {
+fn add_hex(cursor: &mut Cursor<'_>, bytes: &mut Vec<u8>) {
     for _byte in 0..=cursor.rest().len() {
         cursor.eat(b" ");
         if cursor.eat(b">") {
-            return Ok(());
+            return;
         }
-        bytes.push(cursor.hex().ok_or(Wrong::Form("no byte in hex"))?)?;
+        let byte = cursor.hex();
+        cursor.keep(bytes.push(byte).is_ok());
     }
-    Err(Wrong::Form("bytes in hex without their end"))
 }
 
-// Adds the first bytes of the source of `demo`.
-fn add_source(bytes: &mut Vec<u8>, count: usize) -> Result<(), AllocError> {
-    bytes.reserve(count)?;
+// Adds the first bytes of the source of `demo`, and answers whether there was memory for them.
+fn add_source(bytes: &mut Vec<u8>, count: usize) -> bool {
+    let mut is_kept = bytes.reserve(count).is_ok();
     for place in 0..count as u64 {
-        bytes.push(
-            (place
-                .wrapping_mul(167)
-                .wrapping_add(place / 256 * 13)
-                .wrapping_add(5)
-                % 256) as u8,
-        )?;
+        let sum = place.wrapping_mul(167).wrapping_add(place / 256 * 13);
+        is_kept &= bytes.push((sum.wrapping_add(5) % 256) as u8).is_ok();
     }
-    Ok(())
+    is_kept
 }
 
-// Adds a text with a number in place of each `#`.
-fn add_numbered(bytes: &mut Vec<u8>, text: &[u8], number: &str) -> Result<(), AllocError> {
+// Adds a text with a number in place of each `#`, and answers whether there was memory for it.
+fn add_numbered(bytes: &mut Vec<u8>, text: &[u8], number: &str) -> bool {
+    let mut is_kept = true;
     for byte in text {
-        if *byte == b'#' {
-            bytes.extend_from_slice(number.as_bytes())?;
+        is_kept &= if *byte == b'#' {
+            bytes.extend_from_slice(number.as_bytes()).is_ok()
         } else {
-            bytes.push(*byte)?;
-        }
+            bytes.push(*byte).is_ok()
+        };
     }
-    Ok(())
+    is_kept
+}
+
+// The same for each number of a range.
+fn add_each(alloc: Global, bytes: &mut Vec<u8>, first: u64, last: u64, text: &[u8]) -> bool {
+    let mut is_kept = true;
+    for number in first..=last {
+        is_kept &= match number.to_string(alloc) {
+            Ok(number) => add_numbered(bytes, text, number.as_str()),
+            Err(_) => false,
+        };
+    }
+    is_kept
 }
 
 // Adds a text for each number of a range, which comes next with it.
-fn add_each(alloc: Global, cursor: &mut Cursor<'_>, bytes: &mut Vec<u8>) -> Result<(), Wrong> {
-    let first = cursor.number().ok_or(NO_NUMBER)?;
-    if !cursor.eat(b"..") {
-        return Err(Wrong::Form("no range behind `each`"));
-    }
-    let last = cursor.number().ok_or(NO_NUMBER)?;
-    if !cursor.eat(b" \"") {
-        return Err(Wrong::Form("no text behind the range of `each`"));
-    }
+fn read_each(alloc: Global, cursor: &mut Cursor<'_>, bytes: &mut Vec<u8>) {
+    let first = cursor.number();
+    let is_range = cursor.eat(b"..");
+    let last = cursor.number();
+    let is_text = cursor.eat(b" \"");
+    cursor.want(is_range && is_text, "no range with a text behind `each`");
     let mut text = Vec::new(alloc);
-    cursor.quoted(&mut text)?;
-    for number in first..=last {
-        add_numbered(bytes, &text, number.to_string(alloc)?.as_str())?;
+    cursor.quoted(&mut text);
+    cursor.want(last < MOST, TOO_MANY);
+    if cursor.wrong().is_none() {
+        cursor.keep(add_each(alloc, bytes, first, last, &text));
     }
-    Ok(())
 }
 
-// The bytes of a file of the folder.
-fn file<R: Files + AllocGlobal>(rt: &R, name: &[u8]) -> Result<Vec<u8>, Wrong> {
-    let Ok(path) = str::from_utf8(name) else {
-        return Err(Wrong::Form("a name that isn't text"));
-    };
+// Adds the bytes of a file of the folder, and answers whether it is there.
+fn add_file<R: Files + AllocGlobal>(rt: &R, path: &str, bytes: &mut Vec<u8>) -> bool {
     match fs::read(rt, path) {
-        Ok(bytes) => Ok(bytes),
-        Err(_) => Err(Wrong::Form("no bytes of this name")),
+        Ok(file) => bytes.extend_from_slice(&file).is_ok(),
+        Err(_) => false,
     }
 }
 
-// Adds the bytes of a name.
+// Adds the bytes of a name, and answers whether there are such.
 fn add_named<R: Files + AllocGlobal>(
     rt: &R,
     names: Names<'_>,
     name: &[u8],
     bytes: &mut Vec<u8>,
-) -> Result<(), Wrong> {
-    match found(names.lets, name).or(found(names.files, name)) {
-        Some(known) => bytes.extend_from_slice(known)?,
-        None => bytes.extend_from_slice(&file(rt, name)?)?,
+) -> bool {
+    if let Some(known) = found(names.lets, name).or(found(names.files, name)) {
+        return bytes.extend_from_slice(known).is_ok();
     }
-    Ok(())
+    match str::from_utf8(name) {
+        Ok(path) => add_file(rt, path, bytes),
+        Err(_) => false,
+    }
 }
 
 // Adds what a word stands for: some bytes of the source of `demo`, a text for each number, or the bytes of a name.
@@ -116,109 +117,110 @@ fn add_word<R: Files + AllocGlobal>(
     names: Names<'_>,
     cursor: &mut Cursor<'_>,
     bytes: &mut Vec<u8>,
-) -> Result<(), Wrong> {
-    let word = cursor.until(b" [");
-    if matches!(word, b"demo") && cursor.eat(b" ") {
-        let count = count(cursor)?;
-        Ok(add_source(bytes, count)?)
-    } else if matches!(word, b"each") && cursor.eat(b" ") {
-        add_each(rt.alloc(), cursor, bytes)
+) {
+    if cursor.eat(b"demo ") {
+        let count = count(cursor);
+        cursor.keep(add_source(bytes, count));
+    } else if cursor.eat(b"each ") {
+        read_each(rt.alloc(), cursor, bytes);
     } else {
-        add_named(rt, names, word, bytes)
+        let name = cursor.until(b" [");
+        cursor.want(add_named(rt, names, name, bytes), "no bytes of this name");
     }
 }
 
 // Adds a text or bytes in hex, and answers whether there were such.
-fn add_literal(cursor: &mut Cursor<'_>, bytes: &mut Vec<u8>) -> Result<bool, Wrong> {
+fn add_literal(cursor: &mut Cursor<'_>, bytes: &mut Vec<u8>) -> bool {
     if cursor.eat(b"\"") {
-        cursor.quoted(bytes)?;
-        Ok(true)
+        cursor.quoted(bytes);
+        true
     } else if cursor.eat(b"<") {
-        add_hex(cursor, bytes)?;
-        Ok(true)
+        add_hex(cursor, bytes);
+        true
     } else {
-        Ok(false)
+        false
     }
+}
+
+// Puts bytes in the place of those from a place on, and answers whether there was memory for them.
+fn put_bytes(part: &mut Vec<u8>, place: usize, put: &[u8]) -> bool {
+    let mut is_kept = true;
+    for (offset, byte) in put.iter().enumerate() {
+        match part.get_mut(place.saturating_add(offset)) {
+            Some(old) => *old = *byte,
+            None => is_kept &= part.push(*byte).is_ok(),
+        }
+    }
+    is_kept
 }
 
 // Puts the bytes that come next in the place of those from a place on.
-fn change(
-    alloc: Global,
-    cursor: &mut Cursor<'_>,
-    part: &mut Vec<u8>,
-    place: usize,
-) -> Result<(), Wrong> {
+fn change(alloc: Global, cursor: &mut Cursor<'_>, part: &mut Vec<u8>, place: usize) {
     let mut put = Vec::new(alloc);
-    if !add_literal(cursor, &mut put)? || !cursor.eat(b"]") {
-        return Err(Wrong::Form("no bytes in place of others"));
-    }
-    if place > part.len() {
-        return Err(Wrong::Form("bytes put behind the end of others"));
-    }
-    for (offset, byte) in put.iter().enumerate() {
-        let at = place.saturating_add(offset);
-        match part.get_mut(at) {
-            Some(old) => *old = *byte,
-            None => part.push(*byte)?,
-        }
-    }
-    Ok(())
+    let is_literal = add_literal(cursor, &mut put);
+    let is_ended = cursor.eat(b"]");
+    cursor.want(is_literal && is_ended, "no bytes in place of others");
+    cursor.want(place <= part.len(), "bytes put behind the end of others");
+    cursor.keep(put_bytes(part, place.min(part.len()), &put));
 }
 
 // Keeps the bytes from a place on up to another, as far as there are such.
-fn cut(cursor: &mut Cursor<'_>, part: &mut Vec<u8>, from: usize) -> Result<(), Wrong> {
+fn cut(cursor: &mut Cursor<'_>, part: &mut Vec<u8>, from: usize) {
     if !cursor.eat(b"]") {
-        part.truncate(count(cursor)?);
-        if !cursor.eat(b"]") {
-            return Err(Wrong::Form("a part of bytes without its end"));
-        }
+        part.truncate(count(cursor));
+        let is_ended = cursor.eat(b"]");
+        cursor.want(is_ended, "a part of bytes without its end");
     }
     part.drain(..from.min(part.len()));
-    Ok(())
 }
 
 // Goes by what stands in brackets behind a part.
-fn bracket(alloc: Global, cursor: &mut Cursor<'_>, part: &mut Vec<u8>) -> Result<(), Wrong> {
+fn bracket(alloc: Global, cursor: &mut Cursor<'_>, part: &mut Vec<u8>) {
     let place = if cursor.rest().starts_with(b"..") {
         0
     } else {
-        count(cursor)?
+        count(cursor)
     };
     if cursor.eat(b" := ") {
-        change(alloc, cursor, part, place)
+        change(alloc, cursor, part, place);
     } else if cursor.eat(b"..") {
-        cut(cursor, part, place)
+        cut(cursor, part, place);
     } else {
-        Err(Wrong::Form("neither a part of bytes nor a change of them"))
+        cursor.note("neither a part of bytes nor a change of them");
     }
+}
+
+// Adds a part so many times, and answers whether there was memory for it.
+fn add_times(bytes: &mut Vec<u8>, part: &[u8], times: usize) -> bool {
+    let mut is_kept = true;
+    for _time in 0..times {
+        is_kept &= bytes.extend_from_slice(part).is_ok();
+    }
+    is_kept
 }
 
 // Repeats a part.
-fn repeat(alloc: Global, part: &mut Vec<u8>, times: usize) -> Result<(), Wrong> {
-    if (times as u64).saturating_mul(part.len() as u64) > MOST {
-        return Err(Wrong::Form("more bytes than a case may make"));
+fn repeat(alloc: Global, cursor: &mut Cursor<'_>, part: &mut Vec<u8>) {
+    let times = count(cursor);
+    let is_small = (times as u64).saturating_mul(part.len() as u64) <= MOST;
+    cursor.want(is_small, TOO_MANY);
+    if is_small && let Ok(one) = Vec::from_slice(alloc, part) {
+        part.clear();
+        cursor.keep(add_times(part, &one, times));
     }
-    let one = Vec::from_slice(alloc, part)?;
-    part.clear();
-    for _time in 0..times {
-        part.extend_from_slice(&one)?;
-    }
-    Ok(())
 }
 
 // Goes by all that stands behind a part.
-fn change_part(alloc: Global, cursor: &mut Cursor<'_>, part: &mut Vec<u8>) -> Result<(), Wrong> {
+fn change_part(alloc: Global, cursor: &mut Cursor<'_>, part: &mut Vec<u8>) {
     for _change in 0..=cursor.rest().len() {
         if cursor.eat(b"[") {
-            bracket(alloc, cursor, part)?;
+            bracket(alloc, cursor, part);
         } else if cursor.eat(b" * ") {
-            let times = count(cursor)?;
-            repeat(alloc, part, times)?;
+            repeat(alloc, cursor, part);
         } else {
             break;
         }
     }
-    Ok(())
 }
 
 // Adds a part.
@@ -227,14 +229,13 @@ fn add_part<R: Files + AllocGlobal>(
     names: Names<'_>,
     cursor: &mut Cursor<'_>,
     bytes: &mut Vec<u8>,
-) -> Result<(), Wrong> {
+) {
     let mut part = Vec::new(rt.alloc());
-    if !add_literal(cursor, &mut part)? {
-        add_word(rt, names, cursor, &mut part)?;
+    if !add_literal(cursor, &mut part) {
+        add_word(rt, names, cursor, &mut part);
     }
-    change_part(rt.alloc(), cursor, &mut part)?;
-    bytes.extend_from_slice(&part)?;
-    Ok(())
+    change_part(rt.alloc(), cursor, &mut part);
+    cursor.keep(bytes.extend_from_slice(&part).is_ok());
 }
 
 /// The bytes that are all that is left of a line.
@@ -242,16 +243,25 @@ pub fn read_bytes<R: Files + AllocGlobal>(
     rt: &R,
     names: Names<'_>,
     cursor: &mut Cursor<'_>,
-) -> Result<Vec<u8>, Wrong> {
+) -> Vec<u8> {
     let mut bytes = Vec::new(rt.alloc());
     for _part in 0..=cursor.rest().len() {
-        add_part(rt, names, cursor, &mut bytes)?;
-        if cursor.is_done() {
-            return Ok(bytes);
-        }
+        add_part(rt, names, cursor, &mut bytes);
         if !cursor.eat(b" + ") {
             break;
         }
     }
-    Err(Wrong::Form("neither the end nor ` + ` behind a part"))
+    cursor.end();
+    bytes
+}
+
+/// The bytes behind an equals sign, which end the line.
+pub fn bytes_behind<R: Files + AllocGlobal>(
+    rt: &R,
+    names: Names<'_>,
+    cursor: &mut Cursor<'_>,
+) -> Vec<u8> {
+    let is_there = cursor.eat(b" = ");
+    cursor.want(is_there, "no ` = `");
+    read_bytes(rt, names, cursor)
 }

@@ -2,7 +2,7 @@
 use crate::differences::Differences;
 use crate::named::{Named, found};
 use crate::scene::{Scene, Trouble};
-use crate::wanted::{Content, ToldCalls, Wanted, WantedFile};
+use crate::wanted::{Content, ToldCalls, Wanted, WantedFile, WantedFrame};
 use lif_outside::{Call, Flight, MemStore};
 use logged_store::{Event, Logged};
 use worked_rows::watched::Calls;
@@ -182,27 +182,20 @@ fn compare_numbers<R: Print + AllocGlobal>(
 
 // A frame that is told: one is put with this front, on the link that it names, and it has this payload.
 fn compare_frame<R: Print + AllocGlobal>(
-    line: usize,
-    front: &[u8; 12],
-    payload: &[u8],
+    frame: &WantedFrame,
     puts: &[Flight],
     differences: &mut Differences<'_, R>,
 ) {
+    let (line, front) = (frame.line, &frame.front);
     let count = count_with(puts, 0, front);
     compare_numbers(line, "frames with these numbers", 1, count, differences);
     let link = u32::from_be_bytes([front[4], front[5], front[6], front[7]]);
     for flight in puts {
         if flight.frame.starts_with(front) {
-            compare_numbers(
-                line,
-                "link",
-                u64::from(link),
-                u64::from(flight.link),
-                differences,
-            );
-            let came = &flight.frame[12..];
-            if came != payload {
-                differences.tell_bytes(line, "payload", payload, came);
+            let came = u64::from(flight.link);
+            compare_numbers(line, "link", u64::from(link), came, differences);
+            if frame.payload.as_slice() != &flight.frame[12..] {
+                differences.tell_bytes(line, "payload", &frame.payload, &flight.frame[12..]);
             }
         }
     }
@@ -258,9 +251,6 @@ fn compare_calls<R: Print + AllocGlobal>(
             let came = count_with(puts, 8, &generation.to_be_bytes());
             compare_numbers(line, "frames of it", *count, came, differences);
         }
-        ToldCalls::Frame { front, payload } => {
-            compare_frame(line, front, payload, puts, differences);
-        }
         ToldCalls::Takes(count) => {
             compare_numbers(line, "takes", *count, u64::from(calls.takes), differences);
         }
@@ -269,21 +259,42 @@ fn compare_calls<R: Print + AllocGlobal>(
 
 // Whether each of these calls, counted from 1, was made.
 fn are_made(calls: &[u64], count: u64) -> bool {
-    calls.iter().all(|nth| *nth <= count)
+    for nth in calls {
+        if *nth > count {
+            return false;
+        }
+    }
+    true
+}
+
+// Whether each call on the store that is to fail was made.
+fn store_calls_made(trouble: &Trouble, log: &[Event]) -> bool {
+    for fail in &trouble.fails {
+        if fail.nth > made(log, fail.call) {
+            return false;
+        }
+    }
+    true
+}
+
+// Whether each take that is to change a payload was made.
+fn spoils_made(trouble: &Trouble, takes: u64) -> bool {
+    for spoil in &trouble.spoils {
+        if spoil.nth > takes {
+            return false;
+        }
+    }
+    true
 }
 
 // Whether each call that is to fail, keep its pair or change it was made.
 fn all_made(trouble: &Trouble, came: &Came<'_>) -> bool {
-    let log = came.store.log();
     let (puts, takes) = (came.calls.puts.len() as u64, u64::from(came.calls.takes));
-    trouble
-        .fails
-        .iter()
-        .all(|fail| fail.nth <= made(log, fail.call))
+    store_calls_made(trouble, came.store.log())
         && are_made(&trouble.put_fails, puts)
         && are_made(&trouble.take_fails, takes)
         && are_made(&trouble.keeps, takes)
-        && trouble.spoils.iter().all(|spoil| spoil.nth <= takes)
+        && spoils_made(trouble, takes)
 }
 
 // What holds of the calls of every run.
@@ -314,11 +325,17 @@ pub fn compare<R: Print + AllocGlobal>(
     came: &Came<'_>,
     differences: &mut Differences<'_, R>,
 ) {
-    match wanted.status {
-        Some((line, status)) => {
-            compare_numbers(line, "status", status, u64::from(came.status), differences);
-        }
-        None => differences.tell(wanted.run, "no status is told"),
+    if wanted.statuses.is_empty() {
+        differences.tell(wanted.run, "no status is told");
+    }
+    for (line, status) in &wanted.statuses {
+        compare_numbers(
+            *line,
+            "status",
+            *status,
+            u64::from(came.status),
+            differences,
+        );
     }
     if wanted.said.as_slice() != came.said {
         differences.tell_bytes(wanted.run, "said", &wanted.said, came.said);
@@ -326,6 +343,9 @@ pub fn compare<R: Print + AllocGlobal>(
     compare_files(wanted, &scene.files, came.store, differences);
     for (line, calls) in &wanted.calls {
         compare_calls(*line, calls, came, differences);
+    }
+    for frame in &wanted.frames {
+        compare_frame(frame, &came.calls.puts, differences);
     }
     compare_order(wanted.run, &scene.trouble, came, differences);
 }

@@ -1,6 +1,6 @@
 //! What differs is said, a line for each difference.
 use crate::named::Named;
-use std::alloc::{AllocError, Global};
+use std::alloc::Global;
 
 // So many bytes are shown of what was wanted and of what came.
 const SHOWN: usize = 32;
@@ -13,85 +13,79 @@ pub struct Place<'a> {
     pub values: &'a [Named],
 }
 
-/// What differs in a going of a case is said as it is found, and counted.
+// A line that is made, as far as there was memory for it.
 #[derive(Drop)]
-pub struct Differences<'a, R> {
-    rt: &'a R,
-    place: Place<'a>,
-    count: u64,
+struct Text {
+    text: String,
+    is_whole: bool,
 }
 
-// Adds bytes as a text would have them.
-fn push_bytes(text: &mut String, bytes: &[u8]) -> Result<(), AllocError> {
-    for byte in bytes {
-        match *byte {
-            b'\n' => text.push_str("\\n")?,
-            b'\r' => text.push_str("\\r")?,
-            b' '..=b'~' => text.push(char::from(*byte))?,
-            other => write!(text, "\\x{other:02x}")?,
+impl Text {
+    // An empty line.
+    fn new(alloc: Global) -> Text {
+        Text {
+            text: String::new(alloc),
+            is_whole: true,
         }
     }
-    Ok(())
-}
 
-// The same of the first ones, with dots where there are more.
-fn push_shown(text: &mut String, bytes: &[u8]) -> Result<(), AllocError> {
-    match bytes.get(..SHOWN) {
-        Some(front) if front.len() < bytes.len() => {
-            push_bytes(text, front)?;
-            text.push_str("..")
+    fn push(&mut self, part: &str) {
+        self.is_whole &= self.text.push_str(part).is_ok();
+    }
+
+    fn push_number(&mut self, number: u64) {
+        self.is_whole &= write!(self.text, "{number}").is_ok();
+    }
+
+    fn push_byte(&mut self, byte: u8) {
+        self.is_whole &= match byte {
+            b'\n' => self.text.push_str("\\n").is_ok(),
+            b'\r' => self.text.push_str("\\r").is_ok(),
+            b' '..=b'~' => self.text.push(char::from(byte)).is_ok(),
+            other => write!(self.text, "\\x{other:02x}").is_ok(),
+        };
+    }
+
+    // Adds bytes as a text would have them.
+    fn push_bytes(&mut self, bytes: &[u8]) {
+        for byte in bytes {
+            self.push_byte(*byte);
         }
-        _ => push_bytes(text, bytes),
     }
-}
 
-// Adds what stands for the names of a case's `for`.
-fn push_values(text: &mut String, values: &[Named]) -> Result<(), AllocError> {
-    for named in values {
-        text.push_str(" [")?;
-        push_shown(text, &named.name)?;
-        text.push(' ')?;
-        push_shown(text, &named.bytes)?;
-        text.push(']')?;
+    // The same of the first ones, in quotes, with dots where there are more.
+    fn push_quoted(&mut self, bytes: &[u8]) {
+        let front = bytes.get(..SHOWN).unwrap_or(bytes);
+        self.push("\"");
+        self.push_bytes(front);
+        if front.len() < bytes.len() {
+            self.push("..");
+        }
+        self.push("\"");
     }
-    Ok(())
-}
 
-// Where something differs, with its line, and what.
-fn statement(
-    alloc: Global,
-    place: Place<'_>,
-    line: usize,
-    what: &str,
-) -> Result<String, AllocError> {
-    let file = place.file;
-    let mut text = format!(in alloc; "{file}:{line}: ")?;
-    push_bytes(&mut text, place.case)?;
-    push_values(&mut text, place.values)?;
-    text.push_str(": ")?;
-    text.push_str(what)?;
-    Ok(text)
-}
+    // Adds what stands for the names of a case's `for`.
+    fn push_values(&mut self, values: &[Named]) {
+        for named in values {
+            self.push(" [");
+            self.push_bytes(&named.name);
+            self.push(" ");
+            self.push_bytes(&named.bytes);
+            self.push("]");
+        }
+    }
 
-// A line that states no more.
-fn line_of(alloc: Global, place: Place<'_>, line: usize, what: &str) -> Result<String, AllocError> {
-    let mut text = statement(alloc, place, line, what)?;
-    text.push('\n')?;
-    Ok(text)
-}
-
-// A line with two numbers.
-fn line_of_numbers(
-    alloc: Global,
-    place: Place<'_>,
-    line: usize,
-    what: &str,
-    wanted: u64,
-    came: u64,
-) -> Result<String, AllocError> {
-    let mut text = statement(alloc, place, line, what)?;
-    write!(text, ": wanted {wanted}, came {came}\n")?;
-    Ok(text)
+    // Adds where something differs, with its line, and what.
+    fn push_place(&mut self, place: Place<'_>, line: usize, what: &str) {
+        self.push(place.file);
+        self.push(":");
+        self.push_number(line as u64);
+        self.push(": ");
+        self.push_bytes(place.case);
+        self.push_values(place.values);
+        self.push(": ");
+        self.push(what);
+    }
 }
 
 // The first place where bytes differ.
@@ -105,35 +99,12 @@ fn first_place(wanted: &[u8], came: &[u8]) -> usize {
     length
 }
 
-// Adds bytes in quotes.
-fn push_quoted(text: &mut String, bytes: &[u8]) -> Result<(), AllocError> {
-    text.push('"')?;
-    push_shown(text, bytes)?;
-    text.push('"')?;
-    Ok(())
-}
-
-// A line with bytes, from the first place on where they differ.
-fn line_of_bytes(
-    alloc: Global,
-    place: Place<'_>,
-    line: usize,
-    what: &str,
-    wanted: &[u8],
-    came: &[u8],
-) -> Result<String, AllocError> {
-    let first = first_place(wanted, came);
-    let (wants, comes) = (wanted.len(), came.len());
-    let mut text = statement(alloc, place, line, what)?;
-    write!(
-        text,
-        ": {wants} and {comes} bytes, from {first} on: wanted "
-    )?;
-    push_quoted(&mut text, wanted.get(first..).unwrap_or_default())?;
-    text.push_str(", came ")?;
-    push_quoted(&mut text, came.get(first..).unwrap_or_default())?;
-    text.push('\n')?;
-    Ok(text)
+/// What differs in a going of a case is said as it is found, and counted.
+#[derive(Drop)]
+pub struct Differences<'a, R> {
+    rt: &'a R,
+    place: Place<'a>,
+    count: u64,
 }
 
 impl<'a, R: Print + AllocGlobal> Differences<'a, R> {
@@ -152,29 +123,53 @@ impl<'a, R: Print + AllocGlobal> Differences<'a, R> {
     }
 
     // Says a line, and counts it.
-    fn say(&mut self, text: Result<String, AllocError>) {
+    fn say(&mut self, mut line: Text) {
+        line.push("\n");
         self.count = self.count.saturating_add(1);
-        let _ = match text {
-            Ok(text) => self.rt.print(text),
-            Err(_) => self.rt.print("out of memory\n"),
+        let _ = if line.is_whole {
+            self.rt.print(line.text.as_str())
+        } else {
+            self.rt.print("out of memory\n")
         };
+    }
+
+    // A line with what differs.
+    fn line_of(&self, line: usize, what: &str) -> Text {
+        let mut text = Text::new(self.rt.alloc());
+        text.push_place(self.place, line, what);
+        text
     }
 
     /// Something differs, of which this is all that is to be said.
     pub fn tell(&mut self, line: usize, what: &str) {
-        let place = self.place;
-        self.say(line_of(self.rt.alloc(), place, line, what));
+        let text = self.line_of(line, what);
+        self.say(text);
     }
 
     /// Two numbers differ.
     pub fn tell_numbers(&mut self, line: usize, what: &str, wanted: u64, came: u64) {
-        let place = self.place;
-        self.say(line_of_numbers(self.rt.alloc(), place, line, what, wanted, came));
+        let mut text = self.line_of(line, what);
+        text.push(": wanted ");
+        text.push_number(wanted);
+        text.push(", came ");
+        text.push_number(came);
+        self.say(text);
     }
 
     /// Bytes differ. They are shown from the first place on where they do.
     pub fn tell_bytes(&mut self, line: usize, what: &str, wanted: &[u8], came: &[u8]) {
-        let place = self.place;
-        self.say(line_of_bytes(self.rt.alloc(), place, line, what, wanted, came));
+        let first = first_place(wanted, came);
+        let mut text = self.line_of(line, what);
+        text.push(": ");
+        text.push_number(wanted.len() as u64);
+        text.push(" and ");
+        text.push_number(came.len() as u64);
+        text.push(" bytes, from ");
+        text.push_number(first as u64);
+        text.push(" on: wanted ");
+        text.push_quoted(wanted.get(first..).unwrap_or_default());
+        text.push(", came ");
+        text.push_quoted(came.get(first..).unwrap_or_default());
+        self.say(text);
     }
 }

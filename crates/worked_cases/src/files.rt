@@ -1,10 +1,10 @@
 //! Files of cases: each case goes for all that its lines `for` say.
+use crate::cursor::NO_MEMORY;
 use crate::differences::{Differences, Place};
-use crate::loops::{bind_next, first_turns, go_on};
+use crate::loops::{Bound, bind_all, first_turns, go_on_before};
 use crate::named::Named;
 use crate::scene::{Scene, Trouble};
 use crate::steps::{Lines, Stopped, go, is_empty, read_setting};
-use crate::wrong::Wrong;
 use std::alloc::Global;
 use std::fs;
 use std::rt::Files;
@@ -27,18 +27,34 @@ impl Tally {
     }
 }
 
+/// A case: its file, its name and its lines.
+#[derive(Clone, Copy)]
+struct Case<'a> {
+    file: &'a str,
+    name: &'a [u8],
+    lines: Lines<'a>,
+}
+
+// How often lines `for` may go, and end one behind the other.
+const MOST_TURNS: u64 = 100_000_000;
+
 // A case goes for these values. What was made for it is taken away then.
 fn go_once<R: Files + Print + AllocGlobal + Threads + Sync>(
     rt: &R,
-    place: Place<'_>,
-    case: Lines<'_>,
+    case: Case<'_>,
+    values: &[Named],
     scene: &mut Scene,
     tally: &mut Tally,
 ) {
+    let place = Place {
+        file: case.file,
+        case: case.name,
+        values,
+    };
     let mut differences = Differences::none(rt, place);
     let shared = scene.lets.len();
-    if let Err((line, wrong)) = go(rt, case, place.values, scene, &mut differences) {
-        differences.tell(line, wrong.said());
+    if let Some((line, why)) = go(rt, case.lines, values, scene, &mut differences) {
+        differences.tell(line, why);
     }
     scene.lets.truncate(shared);
     scene.files.clear();
@@ -46,46 +62,42 @@ fn go_once<R: Files + Print + AllocGlobal + Threads + Sync>(
     tally.count(differences.count());
 }
 
-// Goes by all values of a case.
+// Goes by all values of a case, from these turns on, and answers why it can't.
 fn go_by_values<R: Files + Print + AllocGlobal + Threads + Sync>(
     rt: &R,
-    file: &str,
-    name: &[u8],
-    case: Lines<'_>,
+    case: Case<'_>,
     scene: &mut Scene,
     tally: &mut Tally,
     turns: &mut [u64],
     values: &mut Vec<Named>,
-) -> Result<(), Wrong> {
-    for _going in 0..u64::MAX {
-        if !bind_next(rt.alloc(), case.lines, turns, values)? {
-            return Ok(());
+) -> Option<&'static str> {
+    for _turn in 0..MOST_TURNS {
+        values.clear();
+        let (level, bound) = bind_all(rt.alloc(), case.lines.lines, turns, values);
+        match bound {
+            Bound::Done => go_once(rt, case, values, scene, tally),
+            Bound::Past => {}
+            Bound::Wrong(why) => return Some(why),
         }
-        let place = Place {
-            file,
-            case: name,
-            values,
-        };
-        go_once(rt, place, case, scene, tally);
-        if !go_on(turns) {
-            return Ok(());
+        if !go_on_before(turns, level) {
+            return None;
         }
     }
-    Ok(())
+    None
 }
 
 // The same from the first on.
 fn go_from_first<R: Files + Print + AllocGlobal + Threads + Sync>(
     rt: &R,
-    file: &str,
-    name: &[u8],
-    case: Lines<'_>,
+    case: Case<'_>,
     scene: &mut Scene,
     tally: &mut Tally,
-) -> Result<(), Wrong> {
+) -> Option<&'static str> {
     let mut values = Vec::new(rt.alloc());
-    let mut turns = first_turns(rt.alloc(), case.lines)?;
-    go_by_values(rt, file, name, case, scene, tally, &mut turns, &mut values)
+    match first_turns(rt.alloc(), case.lines.lines) {
+        Some(mut turns) => go_by_values(rt, case, scene, tally, &mut turns, &mut values),
+        None => Some(NO_MEMORY),
+    }
 }
 
 // Says that something of a file isn't understood, and counts it as a case that differs.
@@ -93,7 +105,8 @@ fn tell<R: Print + AllocGlobal>(
     rt: &R,
     file: &str,
     name: &[u8],
-    stopped: Stopped,
+    line: usize,
+    why: &str,
     tally: &mut Tally,
 ) {
     let place = Place {
@@ -101,115 +114,121 @@ fn tell<R: Print + AllocGlobal>(
         case: name,
         values: &[],
     };
-    let (line, wrong) = stopped;
     let mut differences = Differences::none(rt, place);
-    differences.tell(line, wrong.said());
+    differences.tell(line, why);
     tally.count(differences.count());
 }
 
 // Goes by a case. One that goes for nothing isn't understood.
 fn go_by_case<R: Files + Print + AllocGlobal + Threads + Sync>(
     rt: &R,
-    file: &str,
-    name: &[u8],
-    case: Lines<'_>,
+    case: Case<'_>,
     scene: &mut Scene,
     tally: &mut Tally,
 ) {
     let before = tally.cases;
-    if let Err(wrong) = go_from_first(rt, file, name, case, scene, tally) {
-        tell(rt, file, name, (case.first, wrong), tally);
+    let line = case.lines.first;
+    if let Some(why) = go_from_first(rt, case, scene, tally) {
+        tell(rt, case.file, case.name, line, why, tally);
     } else if tally.cases == before {
-        let wrong = Wrong::Form("a case that goes for nothing");
-        tell(rt, file, name, (case.first, wrong), tally);
+        let why = "a case that goes for nothing";
+        tell(rt, case.file, case.name, line, why, tally);
     }
 }
 
-// Whether a line begins a case, and its name.
+// The name of the case that a line begins.
 fn name_of<'a>(line: &'a [u8]) -> Option<&'a [u8]> {
     line.strip_prefix(b"case ")
 }
 
 // How many lines stand before the next that begins a case.
 fn length_of_case(lines: &[&[u8]]) -> usize {
-    for (place, line) in lines.iter().enumerate() {
+    let mut count = 0usize;
+    for line in lines {
         if name_of(line).is_some() {
-            return place;
+            break;
         }
+        count = count.saturating_add(1);
     }
-    lines.len()
+    count
 }
 
 // Takes in the lines before the first case: names that hold in all of them.
-fn read_front<R: Files + AllocGlobal>(
-    rt: &R,
-    lines: &[&[u8]],
-    scene: &mut Scene,
-) -> Result<(), Stopped> {
+fn read_front<R: Files + AllocGlobal>(rt: &R, lines: &[&[u8]], scene: &mut Scene) -> Stopped {
     for (offset, line) in lines.iter().enumerate() {
         let number = offset.saturating_add(1);
-        if !is_empty(line) {
-            if !line.starts_with(b"let ") {
-                return Err((number, Wrong::Form("no case begins before it")));
-            }
-            read_setting(rt, line, scene).map_err(|wrong| (number, wrong))?;
+        if is_empty(line) {
+            continue;
+        }
+        if !line.starts_with(b"let ") {
+            return Some((number, "no case begins before it"));
+        }
+        if let Some(why) = read_setting(rt, line, scene) {
+            return Some((number, why));
         }
     }
-    Ok(())
+    None
 }
 
 // Goes by the cases of lines, behind the front.
-fn go_by_cases<R: Files + Print + AllocGlobal + Threads + Sync>(
+fn go_by_cases<'a, R: Files + Print + AllocGlobal + Threads + Sync>(
     rt: &R,
-    file: &str,
-    lines: &[&[u8]],
+    file: &'a str,
+    lines: &'a [&'a [u8]],
     scene: &mut Scene,
     tally: &mut Tally,
 ) {
     for (place, line) in lines.iter().enumerate() {
         if let Some(name) = name_of(line) {
-            let first = place.saturating_add(1);
-            let rest = lines.get(first..).unwrap_or_default();
-            let case = Lines {
-                first: first.saturating_add(1),
-                lines: rest.get(..length_of_case(rest)).unwrap_or_default(),
+            let behind = lines.get(place.saturating_add(1)..).unwrap_or_default();
+            let lines = Lines {
+                first: place.saturating_add(2),
+                lines: behind.get(..length_of_case(behind)).unwrap_or_default(),
             };
-            go_by_case(rt, file, name, case, scene, tally);
+            go_by_case(rt, Case { file, name, lines }, scene, tally);
         }
     }
 }
 
 // Goes by all lines of a file.
-fn go_by_lines<R: Files + Print + AllocGlobal + Threads + Sync>(
+fn go_by_lines<'a, R: Files + Print + AllocGlobal + Threads + Sync>(
     rt: &R,
-    file: &str,
-    lines: &[&[u8]],
+    file: &'a str,
+    lines: &'a [&'a [u8]],
     tally: &mut Tally,
 ) {
     let mut scene = Scene::empty(rt.alloc());
     let front = lines.get(..length_of_case(lines)).unwrap_or_default();
     match read_front(rt, front, &mut scene) {
-        Ok(()) => go_by_cases(rt, file, lines, &mut scene, tally),
-        Err(stopped) => tell(rt, file, b"", stopped, tally),
+        Some((line, why)) => tell(rt, file, b"", line, why, tally),
+        None => go_by_cases(rt, file, lines, &mut scene, tally),
     }
     if tally.cases == 0 {
-        tell(
-            rt,
-            file,
-            b"",
-            (1, Wrong::Form("a file without a case")),
-            tally,
-        );
+        tell(rt, file, b"", 1, "a file without a case", tally);
     }
 }
 
-// The lines of a text.
-fn lines_of(alloc: Global, text: &[u8]) -> Result<Vec<&[u8]>, Wrong> {
+// The lines of a text, or nothing where there was no memory.
+fn lines_of(alloc: Global, text: &[u8]) -> Option<Vec<&[u8]>> {
     let mut lines = Vec::new(alloc);
+    let mut are_kept = true;
     for line in text.split(|byte| *byte == b'\n') {
-        lines.push(line)?;
+        are_kept &= lines.push(line).is_ok();
     }
-    Ok(lines)
+    are_kept.then_some(lines)
+}
+
+// Goes by all cases of a text.
+fn go_by_text<R: Files + Print + AllocGlobal + Threads + Sync>(
+    rt: &R,
+    file: &str,
+    text: &[u8],
+    tally: &mut Tally,
+) {
+    match lines_of(rt.alloc(), text) {
+        Some(lines) => go_by_lines(rt, file, &lines, tally),
+        None => tell(rt, file, b"", 0, NO_MEMORY, tally),
+    }
 }
 
 /// Goes by all cases of a file, and says what differs.
@@ -219,11 +238,8 @@ pub fn go_by_file<R: Files + Print + AllocGlobal + Threads + Sync>(rt: &R, file:
         differ: 0,
     };
     match fs::read(rt, file) {
-        Ok(text) => match lines_of(rt.alloc(), &text) {
-            Ok(lines) => go_by_lines(rt, file, &lines, &mut tally),
-            Err(wrong) => tell(rt, file, b"", (0, wrong), &mut tally),
-        },
-        Err(_) => tell(rt, file, b"", (0, Wrong::Form("no such file")), &mut tally),
+        Ok(text) => go_by_text(rt, file, &text, &mut tally),
+        Err(_) => tell(rt, file, b"", 0, "no such file", &mut tally),
     }
     tally
 }

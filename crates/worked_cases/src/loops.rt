@@ -1,11 +1,8 @@
 //! The lines `for` of a case: for what it goes.
-use crate::cursor::Cursor;
-use crate::filling::filled;
-use crate::named::{Named, add};
-use crate::wrong::Wrong;
+use crate::cursor::{Cursor, NO_MEMORY};
+use crate::filling::fill_line;
+use crate::named::{Named, add_copy};
 use std::alloc::Global;
-
-const NO_ROW: Wrong = Wrong::Form("a row with too few words");
 
 /// Whether a line is a row of a table.
 pub fn is_row(line: &[u8]) -> bool {
@@ -23,38 +20,55 @@ pub fn is_table(line: &[u8]) -> bool {
     cursor.eat(b"for ") && !cursor.name().is_empty() && !cursor.eat(b" in ")
 }
 
+/// What comes of a line `for` at one of its goings.
+#[derive(Clone, Copy)]
+pub enum Bound {
+    /// Its names are bound.
+    Done,
+    /// It has no such going.
+    Past,
+    /// It isn't understood.
+    Wrong(&'static str),
+}
+
+// What came of it, where names were bound if there was memory.
+fn bound_if(is_kept: bool) -> Bound {
+    if is_kept {
+        Bound::Done
+    } else {
+        Bound::Wrong(NO_MEMORY)
+    }
+}
+
 // The first and the last number of a range, where this is one.
 fn range_of(items: &[u8]) -> Option<(u64, u64)> {
     let mut cursor = Cursor::of(items);
-    let first = cursor.number()?;
-    if !cursor.eat(b"..") {
-        return None;
+    let first = cursor.number();
+    let is_range = cursor.eat(b"..");
+    let last = cursor.last_number();
+    (is_range && cursor.wrong().is_none()).then_some((first, last))
+}
+
+// Binds a name to a number.
+fn bind_number(alloc: Global, name: &[u8], number: u64, values: &mut Vec<Named>) -> Bound {
+    match number.to_string(alloc) {
+        Ok(text) => bound_if(add_copy(alloc, values, name, text.as_bytes())),
+        Err(_) => bound_if(false),
     }
-    let last = cursor.number()?;
-    cursor.is_done().then_some((first, last))
 }
 
 // Binds a name to the number at a place of a range.
-fn bind_number(
+fn bind_in_range(
     alloc: Global,
     name: &[u8],
     range: (u64, u64),
     turn: u64,
     values: &mut Vec<Named>,
-) -> Result<bool, Wrong> {
+) -> Bound {
     let (first, last) = range;
     match first.checked_add(turn) {
-        Some(number) if number <= last => {
-            let text = number.to_string(alloc)?;
-            add(
-                alloc,
-                values,
-                name,
-                Vec::from_slice(alloc, text.as_bytes())?,
-            )?;
-            Ok(true)
-        }
-        _ => Ok(false),
+        Some(number) if number <= last => bind_number(alloc, name, number, values),
+        _ => Bound::Past,
     }
 }
 
@@ -82,37 +96,32 @@ fn bind_word(
     items: &[u8],
     turn: u64,
     values: &mut Vec<Named>,
-) -> Result<bool, Wrong> {
+) -> Bound {
     match word_at(items, turn) {
-        Some(word) => {
-            add(alloc, values, name, Vec::from_slice(alloc, word)?)?;
-            Ok(true)
-        }
-        None => Ok(false),
+        Some(word) => bound_if(add_copy(alloc, values, name, word)),
+        None => Bound::Past,
     }
 }
 
 // Binds each name to a word of a row, and the last one to its rest.
-fn bind_cells(
-    alloc: Global,
-    names: &[u8],
-    row: &[u8],
-    values: &mut Vec<Named>,
-) -> Result<bool, Wrong> {
+fn bind_cells(alloc: Global, names: &[u8], row: &[u8], values: &mut Vec<Named>) -> Bound {
     let mut names = Cursor::of(names);
     let mut row = Cursor::of(row);
+    let (mut is_kept, mut is_long) = (true, true);
     for _name in 0..=names.rest().len() {
         let name = names.until(b" ");
         if !names.eat(b" ") {
-            add(alloc, values, name, Vec::from_slice(alloc, row.rest())?)?;
-            return Ok(true);
-        }
-        add(alloc, values, name, Vec::from_slice(alloc, row.cell())?)?;
-        if !row.eat(b" ") {
+            is_kept &= add_copy(alloc, values, name, row.rest());
             break;
         }
+        is_kept &= add_copy(alloc, values, name, row.cell());
+        is_long &= row.eat(b" ");
     }
-    Err(NO_ROW)
+    if is_long {
+        bound_if(is_kept)
+    } else {
+        Bound::Wrong("a row with too few words")
+    }
 }
 
 // Binds the names of a table to the row at a place among the lines behind it.
@@ -122,14 +131,14 @@ fn bind_row(
     rows: &[&[u8]],
     turn: u64,
     values: &mut Vec<Named>,
-) -> Result<bool, Wrong> {
-    let row = usize::try_from(turn).ok().and_then(|place| rows.get(place));
-    match row {
+) -> Bound {
+    let mut row = rows.iter().skip(turn.min(u64::from(u32::MAX)) as usize);
+    match row.next() {
         Some(row) if is_row(row) => {
-            let cells = row.strip_prefix(b"  ").unwrap_or(row);
+            let cells = row.strip_prefix(b"  ").unwrap_or_default();
             bind_cells(alloc, names, cells, values)
         }
-        _ => Ok(false),
+        _ => Bound::Past,
     }
 }
 
@@ -141,107 +150,74 @@ fn bind_by(
     rows: &[&[u8]],
     turn: u64,
     values: &mut Vec<Named>,
-) -> Result<bool, Wrong> {
+) -> Bound {
     let mut cursor = Cursor::of(header);
     let name = cursor.name();
     if !cursor.eat(b" in ") {
         return bind_row(alloc, header, rows, turn, values);
     }
     match range_of(cursor.rest()) {
-        Some(range) => bind_number(alloc, name, range, turn, values),
+        Some(range) => bind_in_range(alloc, name, range, turn, values),
         None => bind_word(alloc, name, cursor.rest(), turn, values),
     }
 }
 
-// Binds the names of a line `for` for its going of a number, and answers whether there is such. What is bound before
-// is put into the line.
-fn bind(alloc: Global, lines: &[&[u8]], turn: u64, values: &mut Vec<Named>) -> Result<bool, Wrong> {
-    let Some((header, rows)) = lines.split_first() else {
-        return Ok(false);
-    };
-    let header = filled(alloc, header, values)?;
-    let names = header.strip_prefix(b"for ").unwrap_or_default();
-    bind_by(alloc, names, rows, turn, values)
+// Binds the names of a line `for` for its going of a number. What is bound before is put into the line.
+fn bind(alloc: Global, header: &[u8], rows: &[&[u8]], turn: u64, values: &mut Vec<Named>) -> Bound {
+    let mut filled = Vec::new(alloc);
+    match fill_line(alloc, header, values, &mut filled) {
+        Some(why) => Bound::Wrong(why),
+        None => {
+            let names = filled.strip_prefix(b"for ").unwrap_or_default();
+            bind_by(alloc, names, rows, turn, values)
+        }
+    }
 }
 
-/// Where a case is in its lines `for`: a number of a going for each.
-pub type Turns = Vec<u64>;
-
-// Binds the names of all lines `for`. Where one has no more goings, that one by its place among them.
-fn bind_all(
+/// Binds the names of all lines `for` for these turns, up to one that has no such going or isn't understood. It answers how
+/// many came before that, and what came of the last one.
+pub fn bind_all(
     alloc: Global,
     lines: &[&[u8]],
     turns: &[u64],
     values: &mut Vec<Named>,
-) -> Result<Option<usize>, Wrong> {
+) -> (usize, Bound) {
     let mut level = 0usize;
     for (place, line) in lines.iter().enumerate() {
         if is_loop(line) {
             let turn = turns.get(level).copied().unwrap_or(0);
-            if !bind(alloc, lines.get(place..).unwrap_or_default(), turn, values)? {
-                return Ok(Some(level));
+            let rows = lines.get(place.saturating_add(1)..).unwrap_or_default();
+            match bind(alloc, line, rows, turn, values) {
+                Bound::Done => level = level.saturating_add(1),
+                other => return (level, other),
             }
-            level = level.saturating_add(1);
         }
     }
-    Ok(None)
+    (level, Bound::Done)
 }
 
-/// A beginning: the first going of each line `for`.
-pub fn first_turns(alloc: Global, lines: &[&[u8]]) -> Result<Turns, Wrong> {
+/// The first going of each line `for`, or nothing where there was no memory.
+pub fn first_turns(alloc: Global, lines: &[&[u8]]) -> Option<Vec<u64>> {
     let mut turns = Vec::new(alloc);
+    let mut is_kept = true;
     for line in lines {
         if is_loop(line) {
-            turns.push(0)?;
+            is_kept &= turns.push(0).is_ok();
         }
     }
-    Ok(turns)
+    is_kept.then_some(turns)
 }
 
-// Sets the turns from a level on to the first.
-fn begin_from(turns: &mut [u64], level: usize) {
+/// Goes on at the level before this one, from the first going of those behind it, and answers whether there is one.
+pub fn go_on_before(turns: &mut [u64], level: usize) -> bool {
     for turn in turns.iter_mut().skip(level) {
         *turn = 0;
     }
-}
-
-// Goes on at the level before this one, and answers whether there is one.
-fn go_on_before(turns: &mut [u64], level: usize) -> bool {
-    begin_from(turns, level);
-    match level
-        .checked_sub(1)
-        .and_then(|before| turns.get_mut(before))
-    {
+    match turns.get_mut(level.wrapping_sub(1)) {
         Some(turn) => {
             *turn = turn.saturating_add(1);
             true
         }
         None => false,
     }
-}
-
-/// Goes on to what comes next, and answers whether there is such.
-pub fn go_on(turns: &mut [u64]) -> bool {
-    go_on_before(turns, turns.len())
-}
-
-// How often lines `for` may end, one behind the other, before the next going is found.
-const MOST_ENDS: u32 = 1_000_000;
-
-/// Binds the names for the turns, or for the next ones for which there is a going, and answers whether there is one.
-pub fn bind_next(
-    alloc: Global,
-    lines: &[&[u8]],
-    turns: &mut [u64],
-    values: &mut Vec<Named>,
-) -> Result<bool, Wrong> {
-    for _end in 0..MOST_ENDS {
-        values.clear();
-        match bind_all(alloc, lines, turns, values)? {
-            None => return Ok(true),
-            Some(level) if go_on_before(turns, level) => {}
-            Some(_) => return Ok(false),
-        }
-    }
-    Ok(false)
 }

@@ -18,7 +18,6 @@ mod running;
 mod scene;
 mod steps;
 mod wanted;
-mod wrong;
 
 use files::go_by_file;
 use std::rt::Files;

@@ -1,5 +1,4 @@
 //! Bytes by their names.
-use crate::wrong::Wrong;
 use std::alloc::Global;
 
 /// Bytes with a name: a file with its path, or what stands for a name of a `for` or of a `let`.
@@ -20,16 +19,20 @@ pub fn found<'a>(among: &'a [Named], name: &[u8]) -> Option<&'a [u8]> {
     last
 }
 
-/// Adds bytes with a name.
-pub fn add(
-    alloc: Global,
-    among: &mut Vec<Named>,
-    name: &[u8],
-    bytes: Vec<u8>,
-) -> Result<(), Wrong> {
-    let name = Vec::from_slice(alloc, name)?;
-    among.push(Named { name, bytes })?;
-    Ok(())
+/// Adds bytes with a name, and answers whether there was memory for it.
+pub fn add(alloc: Global, among: &mut Vec<Named>, name: &[u8], bytes: Vec<u8>) -> bool {
+    match Vec::from_slice(alloc, name) {
+        Ok(name) => among.push(Named { name, bytes }).is_ok(),
+        Err(_) => false,
+    }
+}
+
+/// The same of bytes that are lent.
+pub fn add_copy(alloc: Global, among: &mut Vec<Named>, name: &[u8], bytes: &[u8]) -> bool {
+    match Vec::from_slice(alloc, bytes) {
+        Ok(bytes) => add(alloc, among, name, bytes),
+        Err(_) => false,
+    }
 }
 
 /// Takes away what has a name.

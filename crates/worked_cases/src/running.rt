@@ -2,11 +2,11 @@
 ghost use Rattle.std.specs.Prelude.{◌≡◌, []};
 
 use crate::comparing::{Came, compare};
+use crate::cursor::NO_MEMORY;
 use crate::differences::Differences;
-use crate::named::{Named, add, found};
-use crate::scene::{Scene, Trouble};
+use crate::named::{Named, add_copy, found};
+use crate::scene::Scene;
 use crate::wanted::Wanted;
-use crate::wrong::Wrong;
 use lif_outside::{Links, MemSink, MemStore, NoGate, SeedLinks};
 use lif_top::lif;
 use logged_store::{Event, Logged};
@@ -61,7 +61,7 @@ fn run_listed<R: Print + AllocGlobal + Threads + Sync>(
     store: &mut Logged<MemStore>,
     say: &mut MemSink,
     differences: &mut Differences<'_, R>,
-) -> Result<(), Wrong> {
+) -> Option<&'static str> {
     let trouble = &scene.trouble;
     let script = Script {
         picks: &trouble.picks,
@@ -71,11 +71,11 @@ fn run_listed<R: Print + AllocGlobal + Threads + Sync>(
         take_fails: &trouble.take_fails,
     };
     let Some(links) = hostile(rt.alloc(), &script) else {
-        return Err(Wrong::Form("links can't go so"));
+        return Some("links can't go so");
     };
     let mut links = watch(rt.alloc(), links);
     run_over(rt, run, scene, store, say, &mut links, differences);
-    Ok(())
+    None
 }
 
 // Runs over the links that are told.
@@ -84,98 +84,117 @@ fn run_with<R: Print + AllocGlobal + Threads + Sync>(
     run: Run<'_>,
     scene: &Scene,
     store: &mut Logged<MemStore>,
+    say: &mut MemSink,
     differences: &mut Differences<'_, R>,
-) -> Result<(), Wrong> {
-    let fails = Vec::from_slice(rt.alloc(), &scene.trouble.say_fails)?;
-    let mut say = MemSink::new(rt.alloc(), fails);
+) -> Option<&'static str> {
     if scene.trouble.is_listed {
-        run_listed(rt, run, scene, store, &mut say, differences)
-    } else {
-        let mut links = watch(rt.alloc(), SeedLinks::new(rt.alloc()));
-        run_over(rt, run, scene, store, &mut say, &mut links, differences);
-        Ok(())
+        return run_listed(rt, run, scene, store, say, differences);
     }
+    let mut links = watch(rt.alloc(), SeedLinks::new(rt.alloc()));
+    run_over(rt, run, scene, store, say, &mut links, differences);
+    None
 }
 
-// Puts files into a store.
-fn put_files(alloc: Global, files: &[Named], store: &mut MemStore) -> Result<(), Wrong> {
+// Puts files into a store, and answers whether their paths are texts and there was memory for them.
+fn put_files(alloc: Global, files: &[Named], store: &mut MemStore) -> bool {
+    let mut are_put = true;
     for file in files {
-        let Ok(path) = str::from_utf8(&file.name) else {
-            return Err(Wrong::Form("a path that isn't text"));
+        are_put &= match str::from_utf8(&file.name) {
+            Ok(path) => store.put_file(alloc, path, &file.bytes).is_ok(),
+            Err(_) => false,
         };
-        store.put_file(alloc, path, &file.bytes)?;
     }
-    Ok(())
+    are_put
 }
 
-// A store with the files of a case, of which the calls fail that are told.
-fn store_of(alloc: Global, scene: &Scene) -> Result<MemStore, Wrong> {
-    let fails = Vec::from_slice(alloc, &scene.trouble.fails)?;
-    let mut store = MemStore::new(alloc, scene.trouble.most.max(1), fails);
-    put_files(alloc, &scene.files, &mut store)?;
-    Ok(store)
+// A store without files, of which the calls fail that are told.
+fn empty_store(alloc: Global, scene: &Scene) -> Option<MemStore> {
+    let fails = Vec::from_slice(alloc, &scene.trouble.fails).ok()?;
+    Some(MemStore::new(alloc, scene.trouble.most.max(1), fails))
 }
 
-// Notes what stands at a path of a store.
-fn note(
-    alloc: Global,
-    path: &str,
-    store: &Logged<MemStore>,
-    files: &mut Vec<Named>,
-) -> Result<(), Wrong> {
-    match store.inner().file(path) {
-        Some(bytes) => {
-            let bytes = Vec::from_slice(alloc, bytes)?;
-            add(alloc, files, path.as_bytes(), bytes)
-        }
-        None => Ok(()),
+// A store with the files of a case.
+fn store_of(alloc: Global, scene: &Scene) -> Option<MemStore> {
+    let mut store = empty_store(alloc, scene)?;
+    put_files(alloc, &scene.files, &mut store).then_some(store)
+}
+
+// A sink of which the puts fail that are told.
+fn sink_of(alloc: Global, scene: &Scene) -> Option<MemSink> {
+    match Vec::from_slice(alloc, &scene.trouble.say_fails) {
+        Ok(fails) => Some(MemSink::new(alloc, fails)),
+        Err(_) => None,
+    }
+}
+
+// Notes what stands at a path of a store, and answers whether there was memory for it.
+fn note(alloc: Global, path: &str, store: &MemStore, files: &mut Vec<Named>) -> bool {
+    match store.file(path) {
+        Some(bytes) => add_copy(alloc, files, path.as_bytes(), bytes),
+        None => true,
     }
 }
 
 // Notes what stands at the path of a file that a call made, where it isn't noted.
-fn note_made(
-    alloc: Global,
-    event: &Event,
-    store: &Logged<MemStore>,
-    files: &mut Vec<Named>,
-) -> Result<(), Wrong> {
+fn note_made(alloc: Global, event: &Event, store: &MemStore, files: &mut Vec<Named>) -> bool {
     match event {
         Event::Created { path } if found(files, path.as_bytes()).is_none() => {
             note(alloc, path.as_str(), store, files)
         }
-        _ => Ok(()),
+        _ => true,
     }
 }
 
-// The files that stand in a store behind a run.
-fn files_behind(
+// Notes the files that stand in a store behind a run, and answers whether there was memory for them.
+fn note_files(
     alloc: Global,
     before: &[Named],
     store: &Logged<MemStore>,
-) -> Result<Vec<Named>, Wrong> {
-    let mut files = Vec::new(alloc);
+    files: &mut Vec<Named>,
+) -> bool {
+    let mut are_noted = true;
     for file in before {
-        note(
-            alloc,
-            str::from_utf8(&file.name).unwrap_or_default(),
-            store,
-            &mut files,
-        )?;
+        let path = str::from_utf8(&file.name).unwrap_or_default();
+        are_noted &= note(alloc, path, store.inner(), files);
     }
     for event in store.log() {
-        note_made(alloc, event, store, &mut files)?;
+        are_noted &= note_made(alloc, event, store.inner(), files);
     }
-    Ok(files)
+    are_noted
 }
 
-/// Runs `lif` in a scene, says what differs, and answers the files that stand there then.
+// Runs `lif` over a store, as `carry_out` does.
+fn run_in<R: Print + AllocGlobal + Threads + Sync>(
+    rt: &R,
+    run: Run<'_>,
+    scene: &Scene,
+    store: &mut Logged<MemStore>,
+    files: &mut Vec<Named>,
+    differences: &mut Differences<'_, R>,
+) -> Option<&'static str> {
+    let Some(mut say) = sink_of(rt.alloc(), scene) else {
+        return Some(NO_MEMORY);
+    };
+    if let Some(why) = run_with(rt, run, scene, store, &mut say, differences) {
+        return Some(why);
+    }
+    let are_noted = note_files(rt.alloc(), &scene.files, store, files);
+    (!are_noted).then_some(NO_MEMORY)
+}
+
+/// Runs `lif` in a scene, says what differs, and notes the files that stand there then. It answers why it can't.
 pub fn carry_out<R: Print + AllocGlobal + Threads + Sync>(
     rt: &R,
     run: Run<'_>,
     scene: &Scene,
+    files: &mut Vec<Named>,
     differences: &mut Differences<'_, R>,
-) -> Result<Vec<Named>, Wrong> {
-    let mut store = Logged::new(rt.alloc(), store_of(rt.alloc(), scene)?);
-    run_with(rt, run, scene, &mut store, differences)?;
-    files_behind(rt.alloc(), &scene.files, &store)
+) -> Option<&'static str> {
+    match store_of(rt.alloc(), scene) {
+        Some(store) => {
+            let mut store = Logged::new(rt.alloc(), store);
+            run_in(rt, run, scene, &mut store, files, differences)
+        }
+        None => Some("a path that isn't text, or no memory for the files"),
+    }
 }

@@ -2,19 +2,14 @@
 use crate::bytes::Names;
 use crate::cursor::Cursor;
 use crate::named::Named;
-use crate::wrong::Wrong;
 use lif_outside::{Call, Fail, Spoil};
-use std::alloc::{AllocError, Global};
-
-const NO_NUMBER: Wrong = Wrong::Form("a number is missing");
-
-const MORE: Wrong = Wrong::Form("more than belongs to the line");
+use std::alloc::Global;
 
 // For so many takes `newest` gives the newest pair.
 const NEWEST: usize = 100_000;
 
 // So many numbers may stand in a line.
-const MOST: usize = 1_000_000;
+const MOST: u64 = 1_000_000;
 
 /// What fails in the next run, and how the links go then.
 #[derive(Drop)]
@@ -75,157 +70,150 @@ impl Scene {
     }
 }
 
-// A number that ends the line.
-fn last_number(cursor: &mut Cursor<'_>) -> Result<u64, Wrong> {
-    let number = cursor.number().ok_or(NO_NUMBER)?;
-    if cursor.is_done() {
-        Ok(number)
-    } else {
-        Err(MORE)
-    }
-}
-
 // The call of a store that is to fail.
-fn store_fail(call: Call, cursor: &mut Cursor<'_>) -> Result<Fail, Wrong> {
-    let nth = cursor.number().ok_or(NO_NUMBER)?;
+fn store_fail(call: Call, cursor: &mut Cursor<'_>) -> Fail {
+    let nth = cursor.number();
     let keep = if call == Call::Append && cursor.eat(b" keep ") {
-        cursor.number().ok_or(NO_NUMBER)?
+        cursor.number()
     } else {
         0
     };
-    if !cursor.is_done() {
-        return Err(MORE);
-    }
+    cursor.end();
     let keep = keep as usize;
-    Ok(Fail { call, nth, keep })
+    Fail { call, nth, keep }
+}
+
+// Adds a call of the store.
+fn add_store_fail(call: Call, cursor: &mut Cursor<'_>, trouble: &mut Trouble) {
+    let fail = store_fail(call, cursor);
+    cursor.keep(trouble.fails.push(fail).is_ok());
+}
+
+// Adds a number that ends the line.
+fn add_number(cursor: &mut Cursor<'_>, numbers: &mut Vec<u64>) {
+    let number = cursor.last_number();
+    cursor.keep(numbers.push(number).is_ok());
 }
 
 /// Takes in a line `fail`, behind that word.
-pub fn add_fail(cursor: &mut Cursor<'_>, trouble: &mut Trouble) -> Result<(), Wrong> {
-    let kind = cursor.until(b" ");
-    cursor.eat(b" ");
-    match kind {
-        b"read" => trouble.fails.push(store_fail(Call::Read, cursor)?)?,
-        b"create" => trouble.fails.push(store_fail(Call::Create, cursor)?)?,
-        b"append" => trouble.fails.push(store_fail(Call::Append, cursor)?)?,
-        b"say" => trouble.say_fails.push(last_number(cursor)?)?,
-        b"put" => {
-            trouble.is_listed = true;
-            trouble.put_fails.push(last_number(cursor)?)?;
-        }
-        b"take" => {
-            trouble.is_listed = true;
-            trouble.take_fails.push(last_number(cursor)?)?;
-        }
-        _ => return Err(Wrong::Form("no such call fails")),
+pub fn add_fail(cursor: &mut Cursor<'_>, trouble: &mut Trouble) {
+    if cursor.eat(b"read ") {
+        add_store_fail(Call::Read, cursor, trouble);
+    } else if cursor.eat(b"create ") {
+        add_store_fail(Call::Create, cursor, trouble);
+    } else if cursor.eat(b"append ") {
+        add_store_fail(Call::Append, cursor, trouble);
+    } else if cursor.eat(b"say ") {
+        add_number(cursor, &mut trouble.say_fails);
+    } else if cursor.eat(b"put ") {
+        trouble.is_listed = true;
+        add_number(cursor, &mut trouble.put_fails);
+    } else if cursor.eat(b"take ") {
+        trouble.is_listed = true;
+        add_number(cursor, &mut trouble.take_fails);
+    } else {
+        cursor.note("no such call fails");
     }
-    Ok(())
 }
 
 /// Takes in a line `reads`, behind that word.
-pub fn set_most(cursor: &mut Cursor<'_>, trouble: &mut Trouble) -> Result<(), Wrong> {
-    match last_number(cursor)? {
-        0 => Err(Wrong::Form("a read that gives nothing")),
-        most => {
-            trouble.most = most as usize;
-            Ok(())
-        }
-    }
+pub fn set_most(cursor: &mut Cursor<'_>, trouble: &mut Trouble) {
+    let most = cursor.last_number();
+    cursor.want(most > 0, "a read that gives nothing");
+    trouble.most = most as usize;
 }
 
-// A number of a list of picks.
-fn pick(cursor: &mut Cursor<'_>) -> Result<u32, Wrong> {
-    let number = cursor.number().ok_or(NO_NUMBER)?;
-    u32::try_from(number).map_err(|_error| Wrong::Form("too great a place"))
-}
-
-// Repeats a list of picks.
-fn repeat(alloc: Global, picks: &mut Vec<u32>, times: u64) -> Result<(), Wrong> {
-    if times.saturating_mul(picks.len() as u64) > MOST as u64 {
-        return Err(Wrong::Form("too many places"));
-    }
-    let once = Vec::from_slice(alloc, picks)?;
-    picks.clear();
+// Adds places so many times, and answers whether there was memory for them.
+fn add_times(picks: &mut Vec<u32>, once: &[u32], times: u64) -> bool {
+    let mut is_kept = true;
     for _time in 0..times {
-        picks.extend_from_slice(&once)?;
+        is_kept &= picks.extend_from_slice(once).is_ok();
     }
-    Ok(())
+    is_kept
+}
+
+// Repeats a list of places.
+fn repeat(alloc: Global, cursor: &mut Cursor<'_>, picks: &mut Vec<u32>) {
+    let times = cursor.number();
+    let is_small = times.saturating_mul(picks.len() as u64) <= MOST;
+    cursor.want(is_small, "too many places");
+    if is_small && let Ok(once) = Vec::from_slice(alloc, picks) {
+        picks.clear();
+        cursor.keep(add_times(picks, &once, times));
+    }
 }
 
 /// Takes in a line `order`, behind that word.
-pub fn set_order(
-    alloc: Global,
-    cursor: &mut Cursor<'_>,
-    trouble: &mut Trouble,
-) -> Result<(), Wrong> {
+pub fn set_order(alloc: Global, cursor: &mut Cursor<'_>, trouble: &mut Trouble) {
     trouble.is_listed = true;
     for _pick in 0..=cursor.rest().len() {
-        trouble.picks.push(pick(cursor)?)?;
-        if cursor.is_done() {
-            return Ok(());
-        }
+        let pick = cursor.number();
+        cursor.want(pick <= MOST, "too great a place");
+        cursor.keep(trouble.picks.push(pick.min(MOST) as u32).is_ok());
         if cursor.eat(b" * ") {
-            let times = last_number(cursor)?;
-            return repeat(alloc, &mut trouble.picks, times);
+            repeat(alloc, cursor, &mut trouble.picks);
+            break;
         }
         if !cursor.eat(b" ") {
             break;
         }
     }
-    Err(MORE)
+    cursor.end();
 }
 
-/// Takes in a line `newest`.
-pub fn set_newest(trouble: &mut Trouble) -> Result<(), AllocError> {
+/// Takes in a line `oldest`, behind that word.
+pub fn set_oldest(cursor: &mut Cursor<'_>, trouble: &mut Trouble) {
+    cursor.end();
     trouble.is_listed = true;
-    trouble.picks.resize(NEWEST, u32::MAX)
 }
 
-// Adds the numbers of a range.
-fn add_range(keeps: &mut Vec<u64>, first: u64, last: u64) -> Result<(), Wrong> {
-    if last > MOST as u64 {
-        return Err(Wrong::Form("too many takes"));
+/// Takes in a line `newest`, behind that word.
+pub fn set_newest(cursor: &mut Cursor<'_>, trouble: &mut Trouble) {
+    cursor.end();
+    trouble.is_listed = true;
+    cursor.keep(trouble.picks.resize(NEWEST, u32::MAX).is_ok());
+}
+
+// Adds the numbers of a range, and answers whether there was memory for them.
+fn add_range(keeps: &mut Vec<u64>, first: u64, last: u64) -> bool {
+    let mut is_kept = true;
+    for number in first..=last.min(MOST) {
+        is_kept &= keeps.push(number).is_ok();
     }
-    for number in first..=last {
-        keeps.push(number)?;
-    }
-    Ok(())
+    is_kept
 }
 
 /// Takes in a line `keep`, behind that word.
-pub fn add_keeps(cursor: &mut Cursor<'_>, trouble: &mut Trouble) -> Result<(), Wrong> {
+pub fn add_keeps(cursor: &mut Cursor<'_>, trouble: &mut Trouble) {
     trouble.is_listed = true;
     for _number in 0..=cursor.rest().len() {
-        let first = cursor.number().ok_or(NO_NUMBER)?;
+        let first = cursor.number();
         let last = if cursor.eat(b"..") {
-            cursor.number().ok_or(NO_NUMBER)?
+            cursor.number()
         } else {
             first
         };
-        add_range(&mut trouble.keeps, first, last)?;
-        if cursor.is_done() {
-            return Ok(());
-        }
+        cursor.want(last <= MOST, "too many takes");
+        cursor.keep(add_range(&mut trouble.keeps, first, last));
         if !cursor.eat(b" ") {
             break;
         }
     }
-    Err(MORE)
-}
-
-// The take, the byte and the mask of a line `spoil`.
-fn spoil(cursor: &mut Cursor<'_>) -> Option<Spoil> {
-    let nth = cursor.number()?;
-    cursor.eat(b" ");
-    let byte = u32::try_from(cursor.number()?).ok()?;
-    cursor.eat(b" ");
-    let mask = u8::try_from(cursor.number()?).ok()?;
-    cursor.is_done().then_some(Spoil { nth, byte, mask })
+    cursor.end();
 }
 
 /// Takes in a line `spoil`, behind that word.
-pub fn add_spoil(cursor: &mut Cursor<'_>, trouble: &mut Trouble) -> Result<(), Wrong> {
+pub fn add_spoil(cursor: &mut Cursor<'_>, trouble: &mut Trouble) {
     trouble.is_listed = true;
-    let spoil = spoil(cursor).ok_or(Wrong::Form("no take, byte and mask"))?;
-    Ok(trouble.spoils.push(spoil)?)
+    let nth = cursor.number();
+    let byte = cursor.next_number();
+    let mask = cursor.next_number();
+    cursor.end();
+    cursor.want(byte < 128 && mask < 256, "no byte of a payload, or no mask");
+    let spoil = Spoil {
+        nth,
+        byte: byte.min(127) as u32,
+        mask: mask.min(255) as u8,
+    };
+    cursor.keep(trouble.spoils.push(spoil).is_ok());
 }

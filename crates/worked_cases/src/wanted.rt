@@ -1,14 +1,9 @@
 //! What is to come of a run.
-use crate::bytes::{Names, read_bytes};
+use crate::bytes::{Names, bytes_behind};
 use crate::cursor::Cursor;
-use crate::wrong::Wrong;
 use lif_outside::Call;
-use std::alloc::{AllocError, Global};
+use std::alloc::Global;
 use std::rt::Files;
-
-const NO_NUMBER: Wrong = Wrong::Form("a number is missing");
-
-const MORE: Wrong = Wrong::Form("more than belongs to the line");
 
 /// What is to stand at a path.
 #[derive(Drop)]
@@ -27,7 +22,7 @@ pub struct WantedFile {
 }
 
 /// What is told of the calls on links, or on the store.
-#[derive(Drop)]
+#[derive(Clone, Copy)]
 pub enum ToldCalls {
     OnStore { call: Call, count: u64 },
     Unopened,
@@ -35,18 +30,26 @@ pub enum ToldCalls {
     Frames(u64),
     FramesOn { count: u64, link: u64 },
     FramesOf { count: u64, generation: u32 },
-    Frame { front: [u8; 12], payload: Vec<u8> },
     Takes(u64),
+}
+
+/// A frame that is told of, by its first bytes, and in which line.
+#[derive(Drop)]
+pub struct WantedFrame {
+    pub line: usize,
+    pub front: [u8; 12],
+    pub payload: Vec<u8>,
 }
 
 /// All that is to come of a run. Each part has its line.
 #[derive(Drop)]
 pub struct Wanted {
     pub run: usize,
-    pub status: Option<(usize, u64)>,
+    pub statuses: Vec<(usize, u64)>,
     pub said: Vec<u8>,
     pub files: Vec<WantedFile>,
     pub calls: Vec<(usize, ToldCalls)>,
+    pub frames: Vec<WantedFrame>,
 }
 
 impl Wanted {
@@ -54,131 +57,136 @@ impl Wanted {
     pub fn nothing(alloc: Global, run: usize) -> Wanted {
         Wanted {
             run,
-            status: None,
+            statuses: Vec::new(alloc),
             said: Vec::new(alloc),
             files: Vec::new(alloc),
             calls: Vec::new(alloc),
+            frames: Vec::new(alloc),
         }
     }
 }
 
+// The words that begin a line which tells what is to come of a run.
+const WORDS: &[&[u8]] = &[
+    b"status",
+    b"says",
+    b"said",
+    b"file",
+    b"made",
+    b"none",
+    b"opened",
+    b"frames",
+    b"frame",
+    b"takes",
+    b"unopened",
+    b"calls",
+];
+
 /// Whether a line tells what is to come of a run.
 pub fn is_wanted(line: &[u8]) -> bool {
     let word = Cursor::of(line).until(b" ");
-    matches!(
-        word,
-        b"status"
-            | b"says"
-            | b"said"
-            | b"file"
-            | b"made"
-            | b"none"
-            | b"opened"
-            | b"frames"
-            | b"frame"
-            | b"takes"
-            | b"unopened"
-            | b"calls"
-    )
-}
-
-// A number that ends the line.
-fn last_number(cursor: &mut Cursor<'_>) -> Result<u64, Wrong> {
-    let number = cursor.number().ok_or(NO_NUMBER)?;
-    if cursor.is_done() {
-        Ok(number)
-    } else {
-        Err(MORE)
+    for other in WORDS {
+        if *other == word {
+            return true;
+        }
     }
+    false
 }
 
-// A number with a space behind it.
-fn next_number(cursor: &mut Cursor<'_>) -> Result<u64, Wrong> {
-    let number = cursor.number().ok_or(NO_NUMBER)?;
-    if cursor.eat(b" ") {
-        Ok(number)
-    } else {
-        Err(NO_NUMBER)
-    }
+// Adds a status, of which a run has one.
+fn add_status(line: usize, cursor: &mut Cursor<'_>, wanted: &mut Wanted) {
+    let status = cursor.last_number();
+    cursor.want(wanted.statuses.is_empty(), "a second status");
+    cursor.keep(wanted.statuses.push((line, status)).is_ok());
 }
 
-// The bytes behind an equals sign, which end the line.
-fn bytes_behind<R: Files + AllocGlobal>(
-    rt: &R,
-    names: Names<'_>,
-    cursor: &mut Cursor<'_>,
-) -> Result<Vec<u8>, Wrong> {
-    if !cursor.eat(b" = ") {
-        return Err(Wrong::Form("no ` = `"));
-    }
-    read_bytes(rt, names, cursor)
+// Adds a line that is said.
+fn add_line(cursor: &mut Cursor<'_>, said: &mut Vec<u8>) {
+    let is_kept = said.extend_from_slice(cursor.rest()).is_ok() && said.push(b'\n').is_ok();
+    cursor.keep(is_kept);
 }
 
-fn set_status(line: usize, cursor: &mut Cursor<'_>, wanted: &mut Wanted) -> Result<(), Wrong> {
-    if wanted.status.is_some() {
-        return Err(Wrong::Form("a second status"));
-    }
-    wanted.status = Some((line, last_number(cursor)?));
-    Ok(())
-}
-
-fn add_line(text: &[u8], said: &mut Vec<u8>) -> Result<(), AllocError> {
-    said.extend_from_slice(text)?;
-    said.push(b'\n')?;
-    Ok(())
-}
-
-fn add_file(
-    line: usize,
-    path: Vec<u8>,
-    content: Content,
-    wanted: &mut Wanted,
-) -> Result<(), Wrong> {
-    wanted.files.push(WantedFile {
-        line,
-        path,
-        content,
-    })?;
-    Ok(())
-}
-
-// A path that ends the line, of which no bytes are told.
+// Adds a file, of which no bytes are told.
 fn add_path(
     alloc: Global,
     line: usize,
     cursor: &mut Cursor<'_>,
     content: Content,
     wanted: &mut Wanted,
-) -> Result<(), Wrong> {
-    let path = cursor.word(alloc)?;
-    if !cursor.is_done() {
-        return Err(MORE);
-    }
-    add_file(line, path, content, wanted)
+) {
+    let path = cursor.word(alloc);
+    cursor.end();
+    let file = WantedFile {
+        line,
+        path,
+        content,
+    };
+    cursor.keep(wanted.files.push(file).is_ok());
 }
 
-// The number of a generation, which ends the line.
-fn generation(cursor: &mut Cursor<'_>) -> Result<u32, Wrong> {
-    match u32::try_from(last_number(cursor)?) {
-        Ok(number) => Ok(number),
-        Err(_) => Err(Wrong::Form("no generation has such a number")),
-    }
+// Adds a file with its bytes.
+fn add_file<R: Files + AllocGlobal>(
+    rt: &R,
+    names: Names<'_>,
+    line: usize,
+    cursor: &mut Cursor<'_>,
+    wanted: &mut Wanted,
+) {
+    let path = cursor.word(rt.alloc());
+    let content = Content::These(bytes_behind(rt, names, cursor));
+    let file = WantedFile {
+        line,
+        path,
+        content,
+    };
+    cursor.keep(wanted.files.push(file).is_ok());
+}
+
+// Adds what is told of calls.
+fn add_told(line: usize, cursor: &mut Cursor<'_>, calls: ToldCalls, wanted: &mut Wanted) {
+    cursor.end();
+    cursor.keep(wanted.calls.push((line, calls)).is_ok());
 }
 
 // The counts of a line `frames`.
-fn frames(cursor: &mut Cursor<'_>) -> Result<ToldCalls, Wrong> {
-    let count = cursor.number().ok_or(NO_NUMBER)?;
+fn frames(cursor: &mut Cursor<'_>) -> ToldCalls {
+    let count = cursor.number();
     if cursor.eat(b" on ") {
-        let link = last_number(cursor)?;
-        Ok(ToldCalls::FramesOn { count, link })
+        let link = cursor.number();
+        ToldCalls::FramesOn { count, link }
     } else if cursor.eat(b" of ") {
-        let generation = generation(cursor)?;
-        Ok(ToldCalls::FramesOf { count, generation })
-    } else if cursor.is_done() {
-        Ok(ToldCalls::Frames(count))
+        let number = cursor.number();
+        cursor.want(
+            number <= u64::from(u32::MAX),
+            "no generation has such a number",
+        );
+        let generation = number.min(u64::from(u32::MAX)) as u32;
+        ToldCalls::FramesOf { count, generation }
     } else {
-        Err(MORE)
+        ToldCalls::Frames(count)
     }
+}
+
+// The number and the room of a line `opened`.
+fn opened(cursor: &mut Cursor<'_>) -> ToldCalls {
+    let seed = cursor.number();
+    let room = cursor.next_number();
+    ToldCalls::Opened { seed, room }
+}
+
+// The count of a line `calls`.
+fn store_calls(cursor: &mut Cursor<'_>) -> ToldCalls {
+    let call = if cursor.eat(b"read") {
+        Call::Read
+    } else if cursor.eat(b"create") {
+        Call::Create
+    } else {
+        let is_append = cursor.eat(b"append");
+        cursor.want(is_append, "no such call");
+        Call::Append
+    };
+    let count = cursor.next_number();
+    ToldCalls::OnStore { call, count }
 }
 
 // The first bytes of a frame.
@@ -190,124 +198,97 @@ fn front(link: u32, piece: u8, generation: u32) -> [u8; 12] {
 }
 
 // The first bytes of the frame that a line `frame` tells of.
-fn front_in(cursor: &mut Cursor<'_>) -> Result<[u8; 12], Wrong> {
-    let link = next_number(cursor)?;
-    let piece = next_number(cursor)?;
-    let generation = cursor.number().ok_or(NO_NUMBER)?;
-    match (
-        u32::try_from(link),
-        u8::try_from(piece),
-        u32::try_from(generation),
-    ) {
-        (Ok(link), Ok(piece), Ok(generation)) => Ok(front(link, piece, generation)),
-        _ => Err(Wrong::Form("no frame has such numbers")),
-    }
+fn front_in(cursor: &mut Cursor<'_>) -> [u8; 12] {
+    let link = cursor.number();
+    let piece = cursor.next_number();
+    let generation = cursor.next_number();
+    let most = u64::from(u32::MAX);
+    let is_frame = link <= most && piece < 256 && generation <= most;
+    cursor.want(is_frame, "no frame has such numbers");
+    front(
+        link.min(most) as u32,
+        piece.min(255) as u8,
+        generation.min(most) as u32,
+    )
 }
 
-// The frame of a line, with zeros up to its whole payload.
-fn frame<R: Files + AllocGlobal>(
+// Adds the frame of a line, with zeros up to its whole payload.
+fn add_frame<R: Files + AllocGlobal>(
     rt: &R,
     names: Names<'_>,
+    line: usize,
     cursor: &mut Cursor<'_>,
-) -> Result<ToldCalls, Wrong> {
-    let front = front_in(cursor)?;
-    let mut payload = bytes_behind(rt, names, cursor)?;
-    if payload.len() > 128 {
-        return Err(Wrong::Form("a payload of more than 128 bytes"));
-    }
-    payload.resize(128, 0)?;
-    Ok(ToldCalls::Frame { front, payload })
-}
-
-// The number and the room of a line `opened`.
-fn opened(cursor: &mut Cursor<'_>) -> Result<ToldCalls, Wrong> {
-    let seed = next_number(cursor)?;
-    let room = last_number(cursor)?;
-    Ok(ToldCalls::Opened { seed, room })
-}
-
-// The count of a line `calls`.
-fn store_calls(cursor: &mut Cursor<'_>) -> Result<ToldCalls, Wrong> {
-    let call = match cursor.until(b" ") {
-        b"read" => Call::Read,
-        b"create" => Call::Create,
-        b"append" => Call::Append,
-        _ => return Err(Wrong::Form("no such call")),
+    wanted: &mut Wanted,
+) {
+    let front = front_in(cursor);
+    let mut payload = bytes_behind(rt, names, cursor);
+    cursor.want(payload.len() <= 128, "a payload of more than 128 bytes");
+    cursor.keep(payload.resize(128, 0).is_ok());
+    let frame = WantedFrame {
+        line,
+        front,
+        payload,
     };
-    cursor.eat(b" ");
-    let count = last_number(cursor)?;
-    Ok(ToldCalls::OnStore { call, count })
+    cursor.keep(wanted.frames.push(frame).is_ok());
 }
 
-// That no call was made on the links, which ends the line.
-fn unopened(cursor: &Cursor<'_>) -> Result<ToldCalls, Wrong> {
-    if cursor.is_done() {
-        Ok(ToldCalls::Unopened)
+// Takes in a line on calls, and answers whether it is one.
+fn add_calls(line: usize, cursor: &mut Cursor<'_>, wanted: &mut Wanted) -> bool {
+    let calls = if cursor.eat(b"opened ") {
+        opened(cursor)
+    } else if cursor.eat(b"frames ") {
+        frames(cursor)
+    } else if cursor.eat(b"takes ") {
+        ToldCalls::Takes(cursor.number())
+    } else if cursor.eat(b"calls ") {
+        store_calls(cursor)
+    } else if cursor.eat(b"unopened") {
+        ToldCalls::Unopened
     } else {
-        Err(MORE)
-    }
+        return false;
+    };
+    add_told(line, cursor, calls, wanted);
+    true
 }
 
-// Takes in a line on files.
+// Takes in a line on a file or a frame.
 fn add_content<R: Files + AllocGlobal>(
     rt: &R,
     names: Names<'_>,
     line: usize,
-    word: &[u8],
     cursor: &mut Cursor<'_>,
     wanted: &mut Wanted,
-) -> Result<(), Wrong> {
-    match word {
-        b"made" => add_path(rt.alloc(), line, cursor, Content::Any, wanted),
-        b"none" => add_path(rt.alloc(), line, cursor, Content::NoFile, wanted),
-        _ => {
-            let path = cursor.word(rt.alloc())?;
-            let bytes = bytes_behind(rt, names, cursor)?;
-            add_file(line, path, Content::These(bytes), wanted)
-        }
+) {
+    if cursor.eat(b"file ") {
+        add_file(rt, names, line, cursor, wanted);
+    } else if cursor.eat(b"made ") {
+        add_path(rt.alloc(), line, cursor, Content::Any, wanted);
+    } else if cursor.eat(b"none ") {
+        add_path(rt.alloc(), line, cursor, Content::NoFile, wanted);
+    } else if cursor.eat(b"frame ") {
+        add_frame(rt, names, line, cursor, wanted);
+    } else {
+        cursor.note("no such line");
     }
 }
 
-// Takes in a line on calls.
-fn add_calls<R: Files + AllocGlobal>(
-    rt: &R,
-    names: Names<'_>,
-    line: usize,
-    word: &[u8],
-    cursor: &mut Cursor<'_>,
-    wanted: &mut Wanted,
-) -> Result<(), Wrong> {
-    let calls = match word {
-        b"opened" => opened(cursor)?,
-        b"frames" => frames(cursor)?,
-        b"frame" => frame(rt, names, cursor)?,
-        b"calls" => store_calls(cursor)?,
-        b"unopened" => unopened(cursor)?,
-        _ => ToldCalls::Takes(last_number(cursor)?),
-    };
-    wanted.calls.push((line, calls))?;
-    Ok(())
-}
-
-/// Takes in a line that tells what is to come.
+/// Takes in a line that tells what is to come, and answers what is wrong with it.
 pub fn add_wanted<R: Files + AllocGlobal>(
     rt: &R,
     names: Names<'_>,
     line: usize,
     text: &[u8],
     wanted: &mut Wanted,
-) -> Result<(), Wrong> {
+) -> Option<&'static str> {
     let mut cursor = Cursor::of(text);
-    let word = cursor.until(b" ");
-    if matches!(word, b"said") {
-        wanted.said = bytes_behind(rt, names, &mut cursor)?;
-        return Ok(());
+    if cursor.eat(b"status ") {
+        add_status(line, &mut cursor, wanted);
+    } else if cursor.eat(b"says ") {
+        add_line(&mut cursor, &mut wanted.said);
+    } else if cursor.eat(b"said") {
+        wanted.said = bytes_behind(rt, names, &mut cursor);
+    } else if !add_calls(line, &mut cursor, wanted) {
+        add_content(rt, names, line, &mut cursor, wanted);
     }
-    cursor.eat(b" ");
-    match word {
-        b"status" => set_status(line, &mut cursor, wanted),
-        b"says" => Ok(add_line(cursor.rest(), &mut wanted.said)?),
-        b"file" | b"made" | b"none" => add_content(rt, names, line, word, &mut cursor, wanted),
-        _ => add_calls(rt, names, line, word, &mut cursor, wanted),
-    }
+    cursor.wrong()
 }
