@@ -16,4 +16,5 @@ pub mod StreamingLaws
 pub mod TallyLaws
 pub mod Turning
 pub mod WindowLaws
+pub mod WordLaws
 pub mod TurnLaws

@@ -1,4 +1,5 @@
 pub mod Paths
+pub mod Launch
 pub mod Promises
 pub mod Run
 pub mod Send

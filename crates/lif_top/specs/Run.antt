@@ -10,8 +10,8 @@ use Rattle.top_base.specs.declared.outcome.Outcome.{Outcome}
 use Rattle.top_base.specs.declared.status.Status.{Status}
 use Rattle.top_base.specs.declared.status.Status.TheVariants.{OutOfMemory}
 use Rattle.lif_top.specs.Promises.{Promises, misuse}
-use Rattle.lif_top.specs.declared.running.Words.{Words}
-use Rattle.lif_top.specs.declared.running.Words.TheVariants.{Given, NoMemory, NotText}
+use Rattle.system_files.specs.declared.words.Words.{Words}
+use Rattle.system_files.specs.declared.words.Words.TheVariants.{Given, NoMemory, NotText}
 
 -- there was no memory for the words
 abbrev pub no_memory : Outcome

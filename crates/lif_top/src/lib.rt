@@ -1,14 +1,14 @@
 //! The program: words to commands, and what they do.
 //!
-//! There is one call, `lif`, and `run`, which makes it with the words as a system gave them (`given_words`) and ends with
-//! the number of its status. Read `specs/Promises.antt`, the clause of `lif`, and `specs/Send/Command.antt`, the four words of `send`.
+//! There is one call, `lif`; `run`, which makes it with the words as a system gave them and ends with the number of its
+//! status; and `launch`, which is a run over the words, the files and the output of a system. Read `specs/Promises.antt`, the clause of `lif`, and `specs/Send/Command.antt`, the four words of `send`.
 //! docs/ARCHITECTURE.md has the way from `lif` down to 'the sink's file is the source'.
 #![tactic(auto)]
 
 mod delivering;
 mod delivery;
 mod demo;
-mod given;
+mod launching;
 mod paths;
 mod preparing;
 mod program;
@@ -18,7 +18,8 @@ mod streaming;
 mod tally;
 
 pub use code_file::CodeRefusal;
-pub use given::given_words;
+pub use launching::launch;
 pub use program::lif;
-pub use running::{Words, run};
+pub use running::run;
+pub use system_files::Words;
 pub use top_base::{NetWhy, Status};

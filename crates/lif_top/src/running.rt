@@ -11,18 +11,8 @@ use lif_outside::{Links, NoGate, Sink, Store};
 use std::alloc::Global;
 use std::process::ExitCode;
 use std::thread::Threads;
+use system_files::Words;
 use top_base::Status;
-
-/// The words after the program's name, as the system gave them.
-#[derive(Drop)]
-pub enum Words {
-    /// All of them are text.
-    Given(Vec<String>),
-    /// One of them isn't text.
-    NotText,
-    /// There was no memory for them.
-    NoMemory,
-}
 
 // Does what the words say, and tells how it ended.
 fn end_of<S: Store, C: Sink, L: Links, R: Threads + Sync>(

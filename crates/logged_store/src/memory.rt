@@ -1,13 +1,11 @@
-//! A system whose files lie in memory, of which one call fails, and which has handles for so many files.
-ghost use Rattle.std.specs.Prelude.{◌≤◌, length, IfOk};
+//! What a system holds in memory: its files, and the numbers of those that are open.
+ghost use Rattle.std.specs.Prelude.{◌≤◌, length, IfOk, IsErr};
 
-use std::alloc::{AllocError, Allocator, Global};
+use std::alloc::{AllocError, Global};
 use std::cell::{Cell, RefCell};
-use std::fs::{Metadata, OpenFile, OpenOptions};
+use std::fs::{Metadata, OpenOptions};
 use std::io;
-use std::io::{Empty, ErrorKind, Read, Seek, SeekFrom, Write};
-use std::rc::Rc;
-use std::rt::Files;
+use std::io::ErrorKind;
 
 // A read or a write moves at most so many bytes.
 const AT_ONCE: usize = 1500;
@@ -15,16 +13,42 @@ const AT_ONCE: usize = 1500;
 // What the system answers where it has no handle left.
 const NO_HANDLE: i32 = 24;
 
+/// The path of the folder that all files lie in.
+pub const ROOT: &str = "/";
+
+// The number of standard output.
+const OUTPUT: usize = 1;
+
 // A file by its path.
 #[derive(Drop)]
 struct Held {
     path: String,
     bytes: Vec<u8>,
+    kind: Kind,
 }
 
-// What the handles share. The calls are numbered from 1 on, in order.
+#[derive(Clone, Copy, PartialEq, Eq)]
+enum Kind {
+    Regular,
+    // It can't be moved in, and be opened once.
+    Pipe,
+    OpenedPipe,
+}
+
+// What has the number of an open file.
+#[derive(Clone, Copy)]
+enum Holder {
+    // Standard input, output or error.
+    Stream,
+    // What is open for reads.
+    Reader,
+    // A file that is open for appends, by its place.
+    Writer(usize),
+}
+
+/// What the handles of a system share. The calls are numbered from 1 on, in order.
 #[derive(Drop)]
-struct Memory {
+pub struct Memory {
     alloc: Global,
     held: RefCell<Vec<Held>>,
     calls: Cell<u64>,
@@ -32,11 +56,70 @@ struct Memory {
     // Whether a call has failed, and whether more than files being closed came behind it.
     failed: Cell<bool>,
     went_on: Cell<bool>,
-    open: Cell<usize>,
-    most_open: usize,
+    numbers: RefCell<Vec<Option<Holder>>>,
+    said: RefCell<Vec<u8>>,
+}
+
+fn busy<T>() -> io::Result<T>
+    ensures { IsErr result }
+{
+    Err(io::Error::from(ErrorKind::ResourceBusy))
+}
+
+fn missing<T>() -> io::Result<T>
+    ensures { IsErr result }
+{
+    Err(io::Error::from(ErrorKind::NotFound))
+}
+
+fn unsupported<T>() -> io::Result<T>
+    ensures { IsErr result }
+{
+    Err(io::Error::from(ErrorKind::Unsupported))
+}
+
+// The numbers of standard input, output and error, and so many that are free.
+fn numbers(alloc: Global, free: usize) -> Result<Vec<Option<Holder>>, AllocError> {
+    let mut numbers = Vec::new(alloc);
+    for _ in 0..3 {
+        numbers.push(Some(Holder::Stream))?;
+    }
+    for _ in 0..free {
+        numbers.push(None)?;
+    }
+    Ok(numbers)
 }
 
 impl Memory {
+    /// No files. The call of this number fails, where it is made, and at most so many files are open at once.
+    pub fn new(alloc: Global, failing: u64, most_open: usize) -> Result<Memory, AllocError> {
+        Ok(Memory {
+            alloc,
+            held: RefCell::new(Vec::new(alloc)),
+            calls: Cell::new(0),
+            failing,
+            failed: Cell::new(false),
+            went_on: Cell::new(false),
+            numbers: RefCell::new(numbers(alloc, most_open)?),
+            said: RefCell::new(Vec::new(alloc)),
+        })
+    }
+
+    /// What memory is asked of.
+    pub fn allocator(&self) -> Global {
+        self.alloc
+    }
+
+    /// How many calls were made.
+    pub fn calls(&self) -> u64 {
+        self.calls.get()
+    }
+
+    /// Whether a call was made behind one that failed, other than that a file was closed.
+    pub fn went_on(&self) -> bool {
+        self.went_on.get()
+    }
+
     // Counts a call, and answers whether it is the one that fails.
     fn count(&self) -> bool {
         let turn = self.calls.get().saturating_add(1);
@@ -44,8 +127,8 @@ impl Memory {
         turn == self.failing
     }
 
-    // Counts a call, which may be the one that fails.
-    fn turn(&self) -> io::Result<()> {
+    /// Counts a call, which may be the one that fails.
+    pub fn turn(&self) -> io::Result<()> {
         if self.failed.get() {
             self.went_on.set(true);
         }
@@ -56,119 +139,44 @@ impl Memory {
         Ok(())
     }
 
-    // Counts a file that is closed. Nobody is told where that fails.
-    fn close(&self) {
-        let _fails = self.count();
-        self.open.set(self.open.get().saturating_sub(1));
-    }
-
     // The number of the file of a path.
     fn place_of(&self, path: &str) -> io::Result<usize> {
         let Ok(held) = self.held.try_borrow() else {
-            return Err(io::Error::from(ErrorKind::ResourceBusy));
+            return busy();
         };
         match held.iter().position(|file| file.path.as_str() == path) {
             Some(place) => Ok(place),
-            None => Err(io::Error::from(ErrorKind::NotFound)),
+            None => missing(),
         }
     }
 
     // Adds a file of a path.
-    fn add_file(&self, path: &str) -> io::Result<()> {
+    fn add_file(&self, path: &str, bytes: &[u8], kind: Kind) -> io::Result<()> {
         let file = Held {
             path: String::from_str(self.alloc, path)?,
-            bytes: Vec::new(self.alloc),
+            bytes: bytes.to_vec(self.alloc)?,
+            kind,
         };
         let Ok(mut held) = self.held.try_borrow_mut() else {
-            return Err(io::Error::from(ErrorKind::ResourceBusy));
+            return busy();
         };
         held.push(file)?;
         Ok(())
     }
 
-    // Empties the file of a path, or adds one.
-    fn make(&self, path: &str) -> io::Result<()> {
-        match self.place_of(path) {
-            Ok(place) => self.empty(place),
-            Err(_) => self.add_file(path),
-        }
-    }
-
-    // Takes all bytes from a file.
-    fn empty(&self, place: usize) -> io::Result<()> {
-        let Ok(mut held) = self.held.try_borrow_mut() else {
-            return Err(io::Error::from(ErrorKind::ResourceBusy));
-        };
-        match held.get_mut(place) {
-            Some(file) => {
-                file.bytes.clear();
-                Ok(())
-            }
-            None => Err(io::Error::from(ErrorKind::NotFound)),
-        }
-    }
-
-    // Adds bytes to a file.
-    fn add(&self, place: usize, bytes: &[u8]) -> io::Result<()> {
-        let Ok(mut held) = self.held.try_borrow_mut() else {
-            return Err(io::Error::from(ErrorKind::ResourceBusy));
-        };
-        match held.get_mut(place) {
-            Some(file) => Ok(file.bytes.extend_from_slice(bytes)?),
-            None => Err(io::Error::from(ErrorKind::NotFound)),
-        }
-    }
-
-    // Copies bytes of a file from a place on, and answers how many.
-    fn copy(&self, place: usize, at: usize, into: &mut [u8]) -> io::Result<usize>
-        ensures { IfOk result (λ n. n ≤ length into.old) }
-    {
-        let Ok(held) = self.held.try_borrow() else {
-            return Err(io::Error::from(ErrorKind::ResourceBusy));
-        };
-        let Some(rest) = held.get(place).and_then(|file| file.bytes.get(at..)) else {
-            return Ok(0);
-        };
-        let count = rest.len().min(into.len()).min(AT_ONCE);
-        into[..count].copy_from_slice(&rest[..count]);
-        Ok(count)
-    }
-}
-
-/// The system.
-#[derive(Drop)]
-pub struct MemFiles {
-    memory: Rc<Memory>,
-}
-
-impl MemFiles {
-    /// No files. The call of this number fails, where it is made, and at most so many files are open at once.
-    pub fn new(alloc: Global, failing: u64, most_open: usize) -> Result<MemFiles, AllocError> {
-        let memory = Memory {
-            alloc,
-            held: RefCell::new(Vec::new(alloc)),
-            calls: Cell::new(0),
-            failing,
-            failed: Cell::new(false),
-            went_on: Cell::new(false),
-            open: Cell::new(0),
-            most_open,
-        };
-        Ok(MemFiles {
-            memory: Rc::new(alloc, memory)?,
-        })
-    }
-
-    /// Puts a file of these bytes there. That is no call.
+    /// Puts a file of these bytes there, where none is.
     pub fn put(&self, path: &str, bytes: &[u8]) -> io::Result<()> {
-        self.memory.make(path)?;
-        let place = self.memory.place_of(path)?;
-        self.memory.add(place, bytes)
+        self.add_file(path, bytes, Kind::Regular)
+    }
+
+    /// Puts a pipe there that gives these bytes, where none is.
+    pub fn put_pipe(&self, path: &str, bytes: &[u8]) -> io::Result<()> {
+        self.add_file(path, bytes, Kind::Pipe)
     }
 
     /// Whether a file is there and holds the front of these bytes, or all.
     pub fn holds(&self, path: &str, bytes: &[u8], whole: bool) -> bool {
-        let Ok(held) = self.memory.held.try_borrow() else {
+        let Ok(held) = self.held.try_borrow() else {
             return false;
         };
         let Some(file) = held.iter().find(|file| file.path.as_str() == path) else {
@@ -182,157 +190,192 @@ impl MemFiles {
         }
     }
 
-    /// Whether a file was opened, moved in, read, written or flushed behind a call that failed.
-    pub fn went_on(&self) -> bool {
-        self.memory.went_on.get()
-    }
-
-    /// How many calls were made.
-    pub fn calls(&self) -> u64 {
-        self.memory.calls.get()
-    }
-}
-
-/// An open file. Bytes that are written go to its end.
-pub struct MemFile {
-    memory: Rc<Memory>,
-    place: usize,
-    at: usize,
-}
-
-impl Drop for MemFile {
-    fn drop(self) {
-        let MemFile {
-            memory,
-            place: _,
-            at: _,
-        } = self;
-        memory.close();
-    }
-}
-
-impl Read for MemFile {
-    fn read(&mut self, buf: &mut [u8]) -> io::Result<usize> {
-        self.memory.turn()?;
-        let count = self.memory.copy(self.place, self.at, buf)?;
-        self.at = self.at.saturating_add(count);
-        Ok(count)
-    }
-}
-
-impl Write for MemFile {
-    fn write(&mut self, buf: &[u8]) -> io::Result<usize> {
-        self.memory.turn()?;
-        let count = buf.len().min(AT_ONCE);
-        self.memory.add(self.place, &buf[..count])?;
-        Ok(count)
-    }
-
-    fn flush(&mut self) -> io::Result<()> {
-        self.memory.turn()
-    }
-}
-
-impl Seek for MemFile {
-    fn seek(&mut self, to: SeekFrom) -> io::Result<u64> {
-        self.memory.turn()?;
-        match to {
-            SeekFrom::Start(at) => {
-                self.at = at as usize;
-                Ok(at)
+    /// Makes a file of so many bytes: only none.
+    pub fn empty(&self, place: usize, length: u64) -> io::Result<()> {
+        let Ok(mut held) = self.held.try_borrow_mut() else {
+            return busy();
+        };
+        match held.get_mut(place) {
+            Some(file) if length == 0 && file.kind == Kind::Regular => {
+                file.bytes.clear();
+                Ok(())
             }
-            _ => Err(io::Error::from(ErrorKind::Unsupported)),
+            _ => unsupported(),
         }
     }
-}
 
-fn unsupported<T>() -> io::Result<T> {
-    Err(io::Error::from(ErrorKind::Unsupported))
-}
-
-impl OpenFile for MemFile {
-    fn metadata(&self) -> io::Result<Metadata> {
-        unsupported()
+    /// Adds the front of some bytes to a file, and answers how many.
+    pub fn add(&self, place: usize, bytes: &[u8]) -> io::Result<usize>
+        ensures { IfOk result (λ n. n ≤ length bytes.now) }
+    {
+        let count = bytes.len().min(AT_ONCE);
+        let Ok(mut held) = self.held.try_borrow_mut() else {
+            return busy();
+        };
+        let Some(file) = held.get_mut(place) else {
+            return missing();
+        };
+        file.bytes.extend_from_slice(&bytes[..count])?;
+        Ok(count)
     }
 
-    fn set_len(&self, _size: u64) -> io::Result<()> {
-        unsupported()
+    /// Copies bytes of a file from a place on, and answers how many.
+    pub fn copy(&self, place: usize, at: usize, into: &mut [u8]) -> io::Result<usize>
+        ensures { IfOk result (λ n. n ≤ length into.old) }
+    {
+        let Ok(held) = self.held.try_borrow() else {
+            return busy();
+        };
+        let Some(rest) = held.get(place).and_then(|file| file.bytes.get(at..)) else {
+            return Ok(0);
+        };
+        let count = rest.len().min(into.len()).min(AT_ONCE);
+        into[..count].copy_from_slice(&rest[..count]);
+        Ok(count)
     }
 
-    fn sync_all(&self) -> io::Result<()> {
-        unsupported()
-    }
-
-    fn sync_data(&self) -> io::Result<()> {
-        unsupported()
-    }
-}
-
-impl Files for MemFiles {
-    type File = MemFile;
-
-    type Dir = Empty;
-
-    fn open_file(&self, how: &OpenOptions, path: &str) -> io::Result<MemFile> {
-        self.memory.turn()?;
-        let open = self.memory.open.get();
-        if open >= self.memory.most_open {
-            return Err(io::Error::from_raw_os_error(NO_HANDLE));
+    // What kind of file it is, and how long.
+    fn kind_of(&self, place: usize) -> io::Result<(Kind, usize)> {
+        let Ok(held) = self.held.try_borrow() else {
+            return busy();
+        };
+        match held.get(place) {
+            Some(file) => Ok((file.kind, file.bytes.len())),
+            None => missing(),
         }
-        if how.asks_create() {
-            self.memory.make(path)?;
+    }
+
+    /// What is told of a file: of a pipe that it is no regular one.
+    pub fn metadata(&self, place: usize) -> io::Result<Metadata> {
+        match self.kind_of(place)? {
+            (Kind::Regular, length) => Ok(Metadata::of_file(length as u64)),
+            _ => Ok(Metadata::of_symlink(0)),
         }
-        let place = self.memory.place_of(path)?;
-        let memory = self.memory.clone()?;
-        memory.open.set(open + 1);
-        Ok(MemFile {
-            memory,
-            place,
-            at: 0,
-        })
     }
 
-    fn open_dir(&self, _path: &str) -> io::Result<Empty> {
-        unsupported()
+    /// Whether a file can be moved in.
+    pub fn is_regular(&self, place: usize) -> bool {
+        matches!(self.kind_of(place), Ok((Kind::Regular, _)))
     }
 
-    fn metadata(&self, _path: &str) -> io::Result<Metadata> {
-        unsupported()
+    // Notes that a file is opened. A pipe is once.
+    fn note_opened(&self, place: usize) -> io::Result<()> {
+        let Ok(mut held) = self.held.try_borrow_mut() else {
+            return busy();
+        };
+        let Some(file) = held.get_mut(place) else {
+            return missing();
+        };
+        match file.kind {
+            Kind::Regular => Ok(()),
+            Kind::Pipe => {
+                file.kind = Kind::OpenedPipe;
+                Ok(())
+            }
+            Kind::OpenedPipe => Err(io::Error::from(ErrorKind::BrokenPipe)),
+        }
     }
 
-    fn symlink_metadata(&self, _path: &str) -> io::Result<Metadata> {
-        unsupported()
+    // The place of the file of a path, which is made where it is asked for and none is.
+    fn place_by(&self, how: &OpenOptions, path: &str) -> io::Result<usize> {
+        if how.asks_create() && self.place_of(path).is_err() {
+            self.put(path, &[])?;
+        }
+        let place = self.place_of(path)?;
+        if how.asks_truncate() {
+            self.empty(place, 0)?;
+        }
+        self.note_opened(place)?;
+        Ok(place)
     }
 
-    fn copy(&self, _from: &str, _to: &str) -> io::Result<u64> {
-        unsupported()
+    // The least number that is free.
+    fn free_number(&self) -> io::Result<usize> {
+        let Ok(numbers) = self.numbers.try_borrow() else {
+            return busy();
+        };
+        match numbers.iter().position(|holder| holder.is_none()) {
+            Some(number) => Ok(number),
+            None => Err(io::Error::from_raw_os_error(NO_HANDLE)),
+        }
     }
 
-    fn rename(&self, _from: &str, _to: &str) -> io::Result<()> {
-        unsupported()
+    // Says what has a number.
+    fn set_number(&self, number: usize, holder: Option<Holder>) -> io::Result<()> {
+        let Ok(mut numbers) = self.numbers.try_borrow_mut() else {
+            return busy();
+        };
+        match numbers.get_mut(number) {
+            Some(entry) => {
+                *entry = holder;
+                Ok(())
+            }
+            None => missing(),
+        }
     }
 
-    fn remove_file(&self, _path: &str) -> io::Result<()> {
-        unsupported()
+    /// Opens the file of a path, and answers its number and its place; the folder has none.
+    pub fn open(&self, how: &OpenOptions, path: &str) -> io::Result<(usize, Option<usize>)> {
+        let number = self.free_number()?;
+        if path == ROOT {
+            self.set_number(number, Some(Holder::Reader))?;
+            return Ok((number, None));
+        }
+        let place = self.place_by(how, path)?;
+        let holder = if how.asks_append() {
+            Holder::Writer(place)
+        } else {
+            Holder::Reader
+        };
+        self.set_number(number, Some(holder))?;
+        Ok((number, Some(place)))
     }
 
-    fn create_dir(&self, _path: &str) -> io::Result<()> {
-        unsupported()
+    /// Counts a file that is closed, or one of the standard streams. Nobody is told where that fails.
+    pub fn close(&self, number: usize) {
+        let _fails = self.count();
+        let _closed = self.set_number(number, None);
     }
 
-    fn remove_dir(&self, _path: &str) -> io::Result<()> {
-        unsupported()
+    // What has the number of standard output.
+    fn output(&self) -> io::Result<Option<Holder>> {
+        let Ok(numbers) = self.numbers.try_borrow() else {
+            return busy();
+        };
+        match numbers.get(OUTPUT) {
+            Some(holder) => Ok(*holder),
+            None => Ok(None),
+        }
     }
 
-    fn remove_dir_all<B: Allocator>(&self, _alloc: B, _path: &str) -> io::Result<()> {
-        unsupported()
+    // Adds bytes to what was said.
+    fn add_said(&self, bytes: &[u8]) -> io::Result<usize>
+        ensures { IfOk result (λ n. n ≤ length bytes.now) }
+    {
+        let count = bytes.len().min(AT_ONCE);
+        let Ok(mut said) = self.said.try_borrow_mut() else {
+            return busy();
+        };
+        said.extend_from_slice(&bytes[..count])?;
+        Ok(count)
     }
-}
 
-impl Alloc for MemFiles {
-    type A = Global;
+    /// Puts the front of some bytes on standard output, or on what has its number, and answers how many.
+    pub fn say(&self, bytes: &[u8]) -> io::Result<usize>
+        ensures { IfOk result (λ n. n ≤ length bytes.now) }
+    {
+        match self.output()? {
+            Some(Holder::Stream) => self.add_said(bytes),
+            Some(Holder::Writer(place)) => self.add(place, bytes),
+            _ => unsupported(),
+        }
+    }
 
-    fn alloc(&self) -> Global {
-        self.memory.alloc
+    /// Whether these bytes were said.
+    pub fn has_said(&self, bytes: &[u8]) -> bool {
+        match self.said.try_borrow() {
+            Ok(said) => said.as_slice() == bytes,
+            Err(_) => false,
+        }
     }
 }

@@ -1,6 +1,6 @@
 -- Maps from paths, after a handle was set or taken.
 use Rattle.std.proofs.Common.{◌≡◌, ◌≢◌, ◌⊎◌, ℕ, List, Bool, true, false, cond, ◌∙◌, sym, subst, inl, inr, refl, string_bytes}
-use Rattle.std.specs.Prelude.{Option, Some, None, Result, Ok, Err, OnOk, OnErr, IfSome, IfNone}
+use Rattle.std.specs.Prelude.{Option, Some, None, Result, Ok, Err, OnOk, OnErr, IfOk, IfSome, IfNone}
 use Rattle.std.specs.HashMap.{HashMap, UpdatesBy, Updates, IsUnchanged, get_by_text}
 use Rattle.std.specs.Str.{bytes_eq}
 use Rattle.std.specs.String.{string_eq}
@@ -24,6 +24,15 @@ then_same {old = old} first same = subst (SameOrNone old) (sym same) first
 pub on_err : {T E P : Type 0} (r : Result T E) → P → OnErr r P
 on_err (Ok x) p = tt
 on_err (Err e) p = p
+
+-- what holds where all went well leads on
+pub ok_then : {T E P Q : Type 0} (r : Result T E) → OnOk r P → (P → Q) → OnOk r Q
+ok_then (Ok x) p on = on p
+ok_then (Err e) p on = tt
+
+pub if_ok_then : {T E : Type 0} {P Q : T → Type 0} (r : Result T E) → IfOk r P → ((x : T) → P x → Q x) → IfOk r Q
+if_ok_then (Ok x) p on = on x p
+if_ok_then (Err e) p on = tt
 
 -- none stays none
 pub none_stays : {X : Type 0} {old new : Option X} → old ≡ None → SameOrNone old new → new ≡ None

@@ -1,12 +1,16 @@
--- Which files are kept open, and what an append to one of them does.
+-- Which files are kept open, and what a read or an append does to one of them.
 use Rattle.std.specs.Prelude.{◌≡◌, ◌≢◌, ◌⊎◌, ℕ, List, Option, Some, None}
 use Rattle.std.specs.HashMap.{get_by_text, hash_map_len}
 use Rattle.std.specs.Io.KnownBytes.{Appends}
+use Rattle.std.specs.declared.io.Read.{Ghosts as ReadGhosts}
+use Rattle.std.specs.declared.io.Seek.{Ghosts as SeekGhosts}
+use Rattle.system_files.specs.declared.handle.Handle.{Handle}
 use Rattle.system_files.specs.declared.kept.KeptFiles.{KeptFiles}
+use Rattle.system_files.specs.Handle.{file_of, GivesFrom}
 
 module _ {F : Type 0} where
   -- the handle that is kept of a path
-  abbrev pub handle_of : KeptFiles F → List ℕ → Option F
+  abbrev pub handle_of : KeptFiles F → List ℕ → Option (Handle F)
   handle_of kept path = get_by_text kept.files path
 
   -- how many are kept
@@ -26,20 +30,18 @@ module _ {F : Type 0} where
     abbrev pub OnlyClosesOthers : KeptFiles F → KeptFiles F → Type 0
     OnlyClosesOthers old new = (other : List ℕ) → other ≢ path → (handle_of new other ≡ handle_of old other) ⊎ (handle_of new other ≡ None)
 
-    module _ (contents : F → Option (List ℕ)) (bytes : List ℕ) where
-      -- the file of a path is kept, and gained these bytes
-      pub record Gains (old new : KeptFiles F) : Type 0 where
-        pub before : F
-        pub after : F
-        pub was : handle_of old path ≡ Some before
-        pub is : handle_of new path ≡ Some after
-        pub gained : Appends (contents before) (contents after) bytes
+    -- the file of a path is kept, and gave these bytes from a place on
+    pub record GivesOn (seek : SeekGhosts F) (read : ReadGhosts F) (at room : ℕ) (bytes : List ℕ) (old new : KeptFiles F) : Type 0 where
+      pub before : Handle F
+      pub after : Handle F
+      pub was : handle_of old path ≡ Some before
+      pub is : handle_of new path ≡ Some after
+      pub gave : GivesFrom seek read at room bytes before after
 
-      -- A file gained these bytes: that which was kept of the path, or one that was opened for want of it. No other
-      -- is kept of the path.
-      pub record GainsOrOpens (old new : KeptFiles F) : Type 0 where
-        pub before : F
-        pub after : F
-        pub was : (handle_of old path ≡ Some before) ⊎ (handle_of old path ≡ None)
-        pub is : (handle_of new path ≡ Some after) ⊎ (handle_of new path ≡ None)
-        pub gained : Appends (contents before) (contents after) bytes
+    -- the file of a path is kept, and gained these bytes
+    pub record Gains (contents : F → Option (List ℕ)) (bytes : List ℕ) (old new : KeptFiles F) : Type 0 where
+      pub before : Handle F
+      pub after : Handle F
+      pub was : handle_of old path ≡ Some before
+      pub is : handle_of new path ≡ Some after
+      pub gained : Appends (contents (file_of before)) (contents (file_of after)) bytes

@@ -1,4 +1,7 @@
+pub mod Handle
 pub mod Kept
-pub mod Reading
+pub mod Known
+pub mod Open
 pub mod Say
 pub mod Store
+pub mod Words

@@ -5,11 +5,16 @@ use Rattle.lif_outside.specs.Events.{Event}
 use Rattle.lif_outside.specs.Files.{Files}
 use Rattle.system_files.specs.declared.store.FileStore.{FileStore}
 use Rattle.system_files.specs.declared.kept.KeptFiles.{KeptFiles}
+use Rattle.system_files.specs.Open.{sources_of, sinks_of}
 
 module _ {R F D : Type 0} where
-  -- the files that are kept open
-  abbrev pub kept_of : FileStore R F D → KeptFiles F
-  kept_of store = store.kept
+  -- the files that are open for reads
+  abbrev pub sources_in : FileStore R F D → KeptFiles F
+  sources_in store = sources_of store.open_files
+
+  -- the files that are open for appends
+  abbrev pub sinks_in : FileStore R F D → KeptFiles F
+  sinks_in store = sinks_of store.open_files
 
   -- how often a read has failed
   abbrev pub read_faults_of : FileStore R F D → ℕ

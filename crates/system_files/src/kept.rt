@@ -1,19 +1,18 @@
-//! The files that bytes are added to, which are kept open for the next ones.
-ghost use Rattle.std.specs.Prelude.{◌≡◌, ◌⊎◌, ◌<◌, ℕ, List, None, Some, IsTrue, IfSome, IfNone, IfOk, OnOk, OnErr};
-ghost use Rattle.std.specs.Io.KnownBytes.{Appends};
+//! The files that are kept open for the next reads or appends.
+ghost use Rattle.std.specs.Prelude.{◌≡◌, ◌⊎◌, ◌≤◌, ◌<◌, ◌^◌, ℕ, List, None, Some, IsTrue, IfSome, IfNone, IfOk, OnOk, OnErr, length, take, drop};
 
-use crate::pieces::write_full;
+use crate::handle::Handle;
 use indexmap::IndexMap;
 use std::alloc::Global;
 use std::io;
-use std::io::Write;
+use std::io::{Read, Seek, Write};
 
-/// How many files are kept open at most, where the system has handles for them.
+/// How many files are kept open at most, of those that may be closed.
 pub const MOST_OPEN: usize = 512;
 
-/// The files that are kept open for bytes at their ends, by their paths.
+/// Files that are kept open, by their paths.
 pub struct KeptFiles<F> {
-    files: IndexMap<String, F>,
+    files: IndexMap<String, Handle<F>>,
 }
 
 // Whoever lets them go makes this one call, in place of going through all that a map is made of.
@@ -43,12 +42,21 @@ impl<F: Drop> KeptFiles<F> {
         let _closed = self.files.swap_remove(path);
     }
 
-    /// Closes the file that was kept first, and answers whether there was one.
+    // The first of those that may be closed, by its place.
+    fn first_to_close(&self) -> Option<usize> {
+        self.files.values().position(|handle| !handle.stays())
+    }
+
+    /// Closes the file that was kept first, of those that may be closed, and answers whether there was one.
     pub fn close_first(&mut self) -> bool
         ensures fewer { IsTrue result → count_of self.new < count_of self.old }
+        ensures no_more { count_of self.new ≤ count_of self.old }
         ensures rest { OnlyCloses self.old self.new }
     {
-        self.files.shift_remove_index(0).is_some()
+        match self.first_to_close() {
+            Some(place) => self.files.shift_remove_index(place).is_some(),
+            None => false,
+        }
     }
 
     // Where the most are kept, closes that which was kept first.
@@ -62,16 +70,43 @@ impl<F: Drop> KeptFiles<F> {
 
     /// Keeps a file, where there is memory for its path. Where the most are kept, that which was kept first is
     /// closed.
-    pub fn keep(&mut self, alloc: Global, path: &str, file: F)
+    pub fn keep(&mut self, alloc: Global, path: &str, handle: Handle<F>)
         requires { handle_of self.old path.now ≡ None }
-        ensures kept { (handle_of self.new path.now ≡ Some file)
+        ensures kept { (handle_of self.new path.now ≡ Some handle)
             ⊎ (handle_of self.new path.now ≡ None) }
         ensures others { OnlyClosesOthers path.now self.old self.new }
     {
         self.make_room();
         if let Ok(path) = String::from_str(alloc, path) {
-            let _kept = self.files.insert(path, file);
+            let _kept = self.files.insert(path, handle);
         }
+    }
+}
+
+impl<F: Read + Seek + Drop> KeptFiles<F> {
+    ghost use Rattle.system_files.specs.Kept.{handle_of, KeepsOthers, GivesOn};
+
+    /// Reads from a place of the file of a path, where it is kept. Where that fails, the file is closed.
+    pub fn read_from(&mut self, path: &str, at: u64, into: &mut [u8]) -> Option<io::Result<usize>>
+        requires { at ≤ 2 ^ 41 }
+        ensures absent { IfNone result (handle_of self.old path.now ≡ None) }
+        ensures still { IfNone result (handle_of self.new path.now ≡ None) }
+        ensures idle { IfNone result (into.new ≡ into.old) }
+        ensures count { IfSome result (λ outcome. IfOk outcome (λ n. n ≤ length into.old)) }
+        ensures rest { IfSome result
+            (λ outcome. IfOk outcome (λ n. drop n into.new ≡ drop n into.old)) }
+        ensures gives { IfSome result (λ outcome. IfOk outcome
+            (λ n. GivesOn path.now F.Seek F.Read at (length into.old) (take n into.new) self.old self.new)) }
+        ensures closes { IfSome result
+            (λ outcome. OnErr outcome (handle_of self.new path.now ≡ None)) }
+        ensures others { KeepsOthers path.now self.old self.new }
+    {
+        let handle = self.files.get_mut(path)?;
+        let outcome = handle.read_from(at, into);
+        if outcome.is_err() {
+            self.close(path);
+        }
+        Some(outcome)
     }
 }
 
@@ -88,19 +123,11 @@ impl<F: Write + Drop> KeptFiles<F> {
             (λ outcome. OnErr outcome (handle_of self.new path.now ≡ None)) }
         ensures others { KeepsOthers path.now self.old self.new }
     {
-        let file = self.files.get_mut(path)?;
-        let outcome = write_full(file, bytes);
+        let handle = self.files.get_mut(path)?;
+        let outcome = handle.append(bytes);
         if outcome.is_err() {
             self.close(path);
         }
         Some(outcome)
     }
-}
-
-/// Adds bytes at the end of a file that was opened for that.
-pub fn append_opened<F: Write + Drop>(mut file: F, bytes: &[u8]) -> io::Result<F>
-    ensures { IfOk result (λ after. Appends (F.contents file) (F.contents after) bytes.now) }
-{
-    write_full(&mut file, bytes)?;
-    Ok(file)
 }

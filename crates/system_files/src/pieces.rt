@@ -1,8 +1,7 @@
 //! Reads and writes, piece by piece, until all is done.
-ghost use Rattle.std.specs.Prelude.{◌≡◌, ℕ, ◌<◌, ◌≤◌, List, Some, length, take, drop, OnOk, OnErr, IfOk};
+ghost use Rattle.std.specs.Prelude.{◌≡◌, ℕ, ◌<◌, ◌≤◌, length, take, drop, OnOk, OnErr, IfOk};
 ghost use Rattle.std.specs.Io.KnownBytes.{Appends, Consumes, IsAtEnd, Keeps, ReadConsumes, WriteAppends};
 ghost use Rattle.std.specs.Io.Seek.{MovesTo};
-ghost use Rattle.system_files.specs.Reading.{GivesFrom, ReadsStream};
 
 use std::io;
 use std::io::{ErrorKind, Read, Seek, SeekFrom, Write};
@@ -79,22 +78,6 @@ pub fn read_full<F: Read>(file: &mut F, into: &mut [u8]) -> io::Result<usize>
         filled += count;
     }
     Ok(filled)
-}
-
-/// Reads from a place on to the front of a buffer, and answers how many bytes came.
-pub fn read_from<F: Read + Seek>(file: &mut F, at: u64, into: &mut [u8]) -> io::Result<usize>
-    ensures count { IfOk result (λ n. n ≤ length into.old) }
-    ensures rest { IfOk result (λ n. drop n into.new ≡ drop n into.old) }
-    ensures bytes { IfOk result
-        (λ n. GivesFrom F.Seek F.Read at (length into.old) (take n into.new) file.old file.new) }
-
-    // Where a file tells its place and its stream, and reads give that: these are its bytes from there on.
-    ensures stream { IfOk result (λ n. ReadsStream F.Seek F.Read → (was : ℕ) (held : List ℕ)
-        → F.stream_position file.old ≡ Some was → F.stream_bytes file.old ≡ Some held
-        → take n into.new ≡ take (length into.old) (drop at held)) }
-{
-    move_to(file, at)?;
-    read_full(file, into)
 }
 
 // Writes once, and again where a signal interrupts it.

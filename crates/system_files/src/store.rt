@@ -3,25 +3,29 @@ ghost use Rattle.std.specs.Prelude.{◌≡◌, ◌≤◌, ◌^◌, ◌∷◌, []
 ghost use Rattle.lif_outside.specs.AccountLaws.{accounts_none, accounts_then};
 ghost use Rattle.lif_outside.specs.Counts.{one_more};
 ghost use Rattle.lif_outside.specs.Events.{read_event, create_event, append_event};
-ghost use Rattle.system_files.specs.Store.{kept_of, read_faults_of, write_faults_of, path_read_faults, path_write_faults, any_path, no_files, calls_on_files};
-ghost use Rattle.system_files.specs.Kept.{handle_of, GainsOrOpens};
-ghost use Rattle.system_files.specs.Reading.{GivesFrom};
+ghost use Rattle.system_files.specs.Store.{sources_in, sinks_in, read_faults_of, write_faults_of, path_read_faults, path_write_faults, any_path, no_files, calls_on_files};
+ghost use Rattle.system_files.specs.Kept.{handle_of, OnlyCloses, OnlyClosesOthers};
+ghost use Rattle.system_files.specs.Open.{GivesOrOpens, GainsOrOpens};
 
 use crate::faults::counted;
-use crate::files::{append_to, create_empty, read_at};
-use crate::kept::KeptFiles;
+use crate::files::{append_to, create_empty, note_named, read_at};
+use crate::open::OpenFiles;
 use lif_outside::{Failed, Store};
+use std::alloc::AllocError;
 use std::rt::Files;
 
 /// The files of a system, by their paths. It tells nothing of what they hold, and doesn't force what was
-/// written out of the system's memory. A file that was appended to stays open for the next append, until it is
-/// made anew, an append to it fails, or a handle is wanted; at most 512 are open so, and one more closes that
-/// which was opened first.
+/// written out of the system's memory.
+///
+/// A file that was read or made stays open for the next read or append, until a call on it fails or a handle is wanted; at
+/// most 512 of each are open so, and one more closes that which was opened first. What isn't a regular file, as a pipe, a
+/// terminal or a device, is neither emptied nor closed before the store is let go, and is read without being moved where
+/// reads follow one another. A regular file isn't made, and is left as it is, where it was read, or where another path
+/// leads to it that was made or named (`name`): then the create fails.
 #[derive(Drop)]
 pub struct FileStore<'r, R: Files> {
     rt: &'r R,
-    // Those that were appended to.
-    kept: KeptFiles<R::File>,
+    open_files: OpenFiles<R::File>,
     read_faults: u64,
     write_faults: u64,
 }
@@ -34,10 +38,18 @@ impl<'r, R: Files + AllocGlobal> FileStore<'r, R> {
     {
         FileStore {
             rt,
-            kept: KeptFiles::new(rt.alloc()),
+            open_files: OpenFiles::new(rt.alloc()),
             read_faults: 0,
             write_faults: 0,
         }
+    }
+
+    /// Notes that a path is named: where it leads to a regular file, this isn't made under another path.
+    pub fn name(&mut self, path: &str) -> Result<(), AllocError>
+        ensures reads { read_faults_of self.new ≡ read_faults_of self.old }
+        ensures writes { write_faults_of self.new ≡ write_faults_of self.old }
+    {
+        note_named(self.rt, &mut self.open_files, path)
     }
 
     /// How often a read has failed.
@@ -79,10 +91,14 @@ impl<'r, R: Files + AllocGlobal> Store for FileStore<'r, R> {
         ensures call { calls_on_files
             (read_event path.now at (length into.old) result into.new ∷ []) self.old self.new }
 
-        // What came was read from there in some file that was opened.
-        ensures bytes { IfOk result (λ n. (opened : _) × (read : _)
-            × GivesFrom R.File.Seek R.File.Read at (length into.old)
-            (take n into.new) opened read) }
+        // What came was read from there on, in the file that was open of the path, or in one that was opened for want
+        // of it.
+        ensures bytes { IfOk result (λ n. GivesOrOpens path.now R.File.Seek R.File.Read at
+            (length into.old) (take n into.new) (sources_in self.old) (sources_in self.new)) }
+
+        // Other files are as before, or closed.
+        ensures others { OnlyClosesOthers path.now (sources_in self.old) (sources_in self.new) }
+        ensures sinks { OnlyCloses (sinks_in self.old) (sinks_in self.new) }
 
         // A fault is counted exactly where the read fails.
         ensures faults_ok { OnOk result (read_faults_of self.new ≡ read_faults_of self.old) }
@@ -90,15 +106,19 @@ impl<'r, R: Files + AllocGlobal> Store for FileStore<'r, R> {
             (read_faults_of self.new ≡ one_more (read_faults_of self.old)) }
         ensures writes { write_faults_of self.new ≡ write_faults_of self.old }
     {
-        let outcome = read_at(self.rt, &mut self.kept, path, at, into);
+        let outcome = read_at(self.rt, &mut self.open_files, path, at, into);
         counted(outcome, &mut self.read_faults)
     }
 
     fn create(&mut self, path: &str) -> Result<(), Failed>
         ensures call { calls_on_files (create_event path.now result ∷ []) self.old self.new }
 
-        // The next append opens the file again.
-        ensures closed { handle_of (kept_of self.new) path.now ≡ None }
+        // Where it fails, no file is open for appends to the path.
+        ensures closes { OnErr result (handle_of (sinks_in self.new) path.now ≡ None) }
+
+        // Other files are as before, or closed.
+        ensures others { OnlyClosesOthers path.now (sinks_in self.old) (sinks_in self.new) }
+        ensures sources { OnlyCloses (sources_in self.old) (sources_in self.new) }
 
         // A fault is counted exactly where the create fails.
         ensures faults_ok { OnOk result (write_faults_of self.new ≡ write_faults_of self.old) }
@@ -106,7 +126,7 @@ impl<'r, R: Files + AllocGlobal> Store for FileStore<'r, R> {
             (write_faults_of self.new ≡ one_more (write_faults_of self.old)) }
         ensures reads { read_faults_of self.new ≡ read_faults_of self.old }
     {
-        let outcome = create_empty(self.rt, &mut self.kept, path);
+        let outcome = create_empty(self.rt, &mut self.open_files, path);
         counted(outcome, &mut self.write_faults)
     }
 
@@ -115,9 +135,14 @@ impl<'r, R: Files + AllocGlobal> Store for FileStore<'r, R> {
         ensures call { calls_on_files
             (append_event path.now bytes.now result ∷ []) self.old self.new }
 
-        // All bytes went to the file that is kept of the path, or to one that was opened for want of it.
+        // All bytes went to the file that was open of the path, or to one that was opened for want of it.
         ensures gains { OnOk result (GainsOrOpens path.now R.File.contents bytes.now
-            (kept_of self.old) (kept_of self.new)) }
+            (sinks_in self.old) (sinks_in self.new)) }
+        ensures closes { OnErr result (handle_of (sinks_in self.new) path.now ≡ None) }
+
+        // Other files are as before, or closed.
+        ensures others { OnlyClosesOthers path.now (sinks_in self.old) (sinks_in self.new) }
+        ensures sources { OnlyCloses (sources_in self.old) (sources_in self.new) }
 
         // A fault is counted exactly where the append fails.
         ensures faults_ok { OnOk result (write_faults_of self.new ≡ write_faults_of self.old) }
@@ -125,7 +150,7 @@ impl<'r, R: Files + AllocGlobal> Store for FileStore<'r, R> {
             (write_faults_of self.new ≡ one_more (write_faults_of self.old)) }
         ensures reads { read_faults_of self.new ≡ read_faults_of self.old }
     {
-        let outcome = append_to(self.rt, &mut self.kept, path, bytes);
+        let outcome = append_to(self.rt, &mut self.open_files, path, bytes);
         counted(outcome, &mut self.write_faults)
     }
 }

@@ -4,9 +4,12 @@ ghost use Rattle.std.specs.Prelude.{OnOk};
 mod file_stores;
 mod links;
 mod logs;
+mod names;
 mod pieces;
 mod sinks;
 mod stores;
+mod streams;
+mod systems;
 mod writers;
 
 use lif_outside::{Call, Fail, Failed, Store};

@@ -95,15 +95,22 @@ const ON_DISK: &[Step] = &[
     Step::Read("another", 0, 1, b"z..."),
     Step::Append("disk-store-test", SEVENS),
     Step::Read("disk-store-test", 5, 5000, SEVENS),
-    Step::Create("disk-store-test"),
-    Step::Read("disk-store-test", 0, 0, DOTS),
+    Step::Create("made-anew"),
+    Step::Append("made-anew", b"ab"),
+    Step::Create("made-anew"),
+    Step::Read("made-anew", 0, 0, DOTS),
     Step::Faults(0, 0),
+    // What was read isn't made anew.
+    Step::CreateFails("disk-store-test"),
+    Step::Read("disk-store-test", 0, 4, b"abcd"),
+    Step::Faults(0, 1),
     Step::Remove("disk-store-test"),
     Step::Remove("another"),
-    Step::ReadFails("disk-store-test", 0),
-    Step::AppendFails("disk-store-test"),
+    Step::Remove("made-anew"),
+    Step::ReadFails("no-such-file", 0),
+    Step::AppendFails("no-such-file"),
     Step::CreateFails("no-such-folder/file"),
-    Step::Faults(1, 2),
+    Step::Faults(1, 3),
 ];
 
 #[test]
@@ -268,11 +275,11 @@ fn length_of(rt: &HostRuntime, path: &str) -> Option<u64> {
     }
 }
 
-// Whether a file that is made, and becomes 5,000,000 bytes long, is read far behind its start and made anew.
+// Whether a file that is made, and becomes 5,000,000 bytes long, is made anew.
 fn is_made_anew(rt: &HostRuntime, store: &mut FileStore<HostRuntime>, path: &str) -> bool {
     store.create(path).is_ok()
         && is_lengthened(rt, path, 5_000_000)
-        && store.read(path, 4_000_000, &mut [1; 9]) == Ok(9)
+        && length_of(rt, path) == Some(5_000_000)
         && store.create(path).is_ok()
 }
 

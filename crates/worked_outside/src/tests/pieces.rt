@@ -1,9 +1,10 @@
 //! What no clause says: that all moves while there is room, and that all that was written is flushed.
-ghost use Rattle.std.specs.Prelude.{◌≡◌, length, take, drop, IfOk};
+ghost use Rattle.std.specs.Prelude.{◌≡◌, ◌≤◌, ◌^◌, length, take, drop, IfOk};
 
 use std::io;
 use std::io::{Cursor, ErrorKind, Read, Write};
-use system_files::pieces::{read_from, read_full, write_full};
+use system_files::handle::Handle;
+use system_files::pieces::{read_full, write_full};
 
 // Four bytes that move one by one. Before each of them calls are interrupted, and past the end a write fails.
 #[derive(Drop)]
@@ -101,7 +102,7 @@ fn writes_all(interrupts: u32) -> bool {
 
 // The first number of interrupted calls by which not all moves.
 fn wrong_interrupts() -> Option<u32> {
-    for interrupts in [0, 1, 5] {
+    for interrupts in [0, 1, 5, 999] {
         if !reads_all(interrupts) || !writes_all(interrupts) {
             return Some(interrupts);
         }
@@ -112,6 +113,20 @@ fn wrong_interrupts() -> Option<u32> {
 #[test]
 fn moves_all_by_pieces(rt: HostRuntime) {
     assert!(rt; wrong_interrupts().is_none());
+}
+
+// Whether a call that is interrupted a thousand times isn't tried again.
+fn gives_up() -> bool {
+    let mut slow = Slow::new(*b"abcd", 1000);
+    let mut into = *b"....";
+    failure(write_full(&mut slow, b"a")) == Some(ErrorKind::TimedOut)
+        && slow.left == 0
+        && matches!(read_full(&mut Slow::new(*b"abcd", 1000), &mut into), Err(error) if error.kind() == ErrorKind::TimedOut)
+}
+
+#[test]
+fn interrupted_calls_are_tried_a_thousand_times(rt: HostRuntime) {
+    assert!(rt; gives_up());
 }
 
 // Whether a flush that fails is told, once all is written.
@@ -129,10 +144,11 @@ fn a_flush_that_fails_is_told(rt: HostRuntime) {
 
 // Reads from memory, which tells its place and its bytes: those from the place on come.
 fn read_in_memory(held: &[u8], at: u64, into: &mut [u8]) -> io::Result<usize>
+    requires { at ≤ 2 ^ 41 }
     ensures { IfOk result (λ n. take n into.new ≡ take (length into.old) (drop at held.now)) }
 {
-    let mut file = Cursor::new(held);
-    let count = read_from(&mut file, at, into)?;
+    let mut file = Handle::opened(Cursor::new(held), false);
+    let count = file.read_from(at, into)?;
     Ok(count)
 }
 

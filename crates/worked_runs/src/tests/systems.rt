@@ -2,6 +2,7 @@
 //! file.
 mod failing;
 mod given_words;
+mod launching;
 mod missing_words;
 
 use lif_outside::{MemSink, SeedLinks, Store};

@@ -11,8 +11,8 @@ use std::test::Fail;
 use std::thread::Threads;
 use system_files::FileStore;
 
-// A code for two sinks, each with two links from the source. The first of the second sink carries the sum of both rows.
-const TWO_SINKS: &[u8] = b"LIFC\x01\x08\x02\
+/// A code for two sinks, each with two links from the source. The first of the second sink carries the sum of both rows.
+pub const TWO_SINKS: &[u8] = b"LIFC\x01\x08\x02\
     \x00\x03\x01s\x02t1\x02t2\
     \x00\x04\
     \x01a\x00\x00\x00\x01\
@@ -29,12 +29,14 @@ const TWO_SINKS: &[u8] = b"LIFC\x01\x08\x02\
     \x00\x00\x00\x01\x01\x00\x00\x01\
     \x00\x02\x00\x03\x01\x01\x00\x01";
 
-const WORDS: &[&str] = &["send", "code", "none", "1", "source", "out"];
+/// The words of a run.
+pub const WORDS: &[&str] = &["send", "code", "none", "1", "source", "out"];
 
-// More calls than a run makes.
-const MOST_CALLS: u64 = 10_000;
+/// More calls than a run makes.
+pub const MOST_CALLS: u64 = 10_000;
 
-const SENT: &[u8] = b"sent 10000 bytes in 5 generations to 2 sinks\n";
+/// What is said of a source of 10,000 bytes.
+pub const SENT: &[u8] = b"sent 10000 bytes in 5 generations to 2 sinks\n";
 
 // Whether a call is the failure of another.
 fn is_failed(last: &Event, next: &Event) -> bool {

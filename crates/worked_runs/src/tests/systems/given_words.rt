@@ -1,8 +1,8 @@
 //! The words that the system gives: each as it is, an empty one too, and one that isn't text.
-use lif_top::{Words, given_words};
 use std::alloc::Global;
 use std::env::FillError;
 use std::rt::Env;
+use system_files::{Words, words_of};
 
 // A system that gives these words, the program's name first.
 #[derive(Drop)]
@@ -41,7 +41,7 @@ fn are(words: &[String], want: &[&str]) -> bool {
 
 // Whether the words behind the program's name are handed on exactly.
 fn gives(alloc: Global, given: &'static [&'static [u8]], want: &[&str]) -> bool {
-    match given_words(&(Given(given), alloc)) {
+    match words_of(&(Given(given), alloc)) {
         Words::Given(words) => are(&words, want),
         _ => false,
     }
@@ -59,7 +59,7 @@ const FIRST_NO_TEXT: &[&[u8]] = &[b"lif", b"\xc3", b"order"];
 
 // Whether words aren't handed on, since one isn't text.
 fn has_no_text(alloc: Global, given: &'static [&'static [u8]]) -> bool {
-    matches!(given_words(&(Given(given), alloc)), Words::NotText)
+    matches!(words_of(&(Given(given), alloc)), Words::NotText)
 }
 
 #[test]
