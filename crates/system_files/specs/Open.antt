@@ -5,7 +5,6 @@ use Rattle.std.specs.declared.io.Read.{Ghosts as ReadGhosts}
 use Rattle.std.specs.declared.io.Seek.{Ghosts as SeekGhosts}
 use Rattle.system_files.specs.declared.handle.Handle.{Handle}
 use Rattle.system_files.specs.declared.kept.KeptFiles.{KeptFiles}
-use Rattle.system_files.specs.declared.known.KnownFiles.{KnownFiles}
 use Rattle.system_files.specs.declared.open.OpenFiles.{OpenFiles}
 use Rattle.system_files.specs.Handle.{file_of, place_of, GivesFrom}
 use Rattle.system_files.specs.Kept.{handle_of, count_of, OnlyCloses}

@@ -1,5 +1,4 @@
 use Rattle.std.proofs.Common.{◌∙◌}
-use Rattle.lif_outside.specs.Calls.{Objects}
 use Rattle.lif_top.proofs.WordLaws.{gives-named}
 use Rattle.lif_top.proofs.launching.launch.Goals as goal
 
