@@ -37,8 +37,8 @@ impl<'c, F: Field + Send + Sync> Delivery<'c, F> {
     ghost use Rattle.lif_top.specs.Send.Streaming.{StopsStreaming, StreamsAll};
 
     /// Reads the file of a path from its start, and carries its blocks window by window as they come; what comes of them is
-    /// added to the sinks' files, generation by generation, in each of them sink by sink. Of the source no more is held
-    /// than a window and what is read at a time. It takes no memory.
+    /// added to the sinks' files, generation by generation, in each of them sink by sink. Of the source are held what is
+    /// read at a time, what is gathered for a window, and the blocks of the window carried last. It takes no memory.
     pub fn stream<S: Store, K: Links, G: Gate + Sync, R: Threads + Sync>(
         &mut self,
         rt: &R,
