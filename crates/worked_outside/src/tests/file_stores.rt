@@ -1,4 +1,5 @@
 //! What no clause says: what the files of the system hold, and which calls fail.
+use super::make;
 use lif_outside::{Failed, Store};
 use logged_store::{MemFiles, varied_bytes};
 use std::alloc::{AllocError, Global};
@@ -15,9 +16,13 @@ const DOTS: &[u8] = &[b'.'; 5000];
 // How many files are appended to by turns: more than stay open.
 const MANY: u32 = 600;
 
-// A call of a store or of the system, and what comes of it.
-enum Step {
+/// A call of a store or of the system, and what comes of it.
+#[derive(Clone, Copy)]
+pub enum Step {
     Create(&'static str),
+    // The file is made with these bytes.
+    Make(&'static str, &'static [u8]),
+    Name(&'static str),
     Append(&'static str, &'static [u8]),
     // From a place on so many bytes come, and a buffer of dots is this one then.
     Read(&'static str, u32, usize, &'static [u8]),
@@ -50,6 +55,8 @@ fn gives(
 fn goes(rt: &HostRuntime, store: &mut FileStore<HostRuntime>, step: &Step) -> bool {
     match step {
         Step::Create(path) => store.create(path).is_ok(),
+        Step::Make(path, bytes) => make(store, path, bytes).is_ok(),
+        Step::Name(path) => store.name(path).is_ok(),
         Step::Append(path, bytes) => store.append(path, bytes).is_ok(),
         Step::Read(path, at, count, buffer) => gives(store, path, *at, *count, buffer),
         Step::CreateFails(path) => store.create(path).is_err(),
@@ -76,8 +83,8 @@ fn first_wrong(
     None
 }
 
-// Whether all steps go as they say, with a new store.
-fn go(rt: &HostRuntime, steps: &[Step]) -> bool {
+/// Whether all steps go as they say, with a new store.
+pub fn go(rt: &HostRuntime, steps: &[Step]) -> bool {
     first_wrong(rt, &mut FileStore::new(rt), steps).is_none()
 }
 

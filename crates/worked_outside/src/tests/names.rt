@@ -1,14 +1,23 @@
 //! Files to which several paths lead: what was read, made or named by one isn't made by another.
-use lif_outside::{Failed, Store};
+use super::file_stores::{Step, go};
 use std::os::unix::fs::symlink;
 use std::{fs, io};
-use system_files::FileStore;
 
-// A folder of this test alone, a path in it, and others that lead to the same file.
+// A folder of this test alone, with a file of these bytes.
 const FOLDER: &str = "two-names-test";
 
 const PATH: &str = "two-names-test/first";
 
+const KEPT: &[u8] = b"kept";
+
+// How a store comes to know the file, and leaves it as it is.
+const WAYS: &[Step] = &[
+    Step::Read(PATH, 0, 4, KEPT),
+    Step::Make(PATH, KEPT),
+    Step::Name(PATH),
+];
+
+// Other paths that lead to it.
 const OTHERS: &[&str] = &[
     "two-names-test/./first",
     "two-names-test//first",
@@ -17,122 +26,96 @@ const OTHERS: &[&str] = &[
     "two-names-test/soft",
 ];
 
-// How a store comes to know a file.
-#[derive(Clone, Copy)]
-enum Way {
-    Reads,
-    Makes,
-    Names,
-}
+// Steps with a new store each, behind which the file is as it was.
+const KEEPING: &[&[Step]] = &[
+    // A file of which two paths were named isn't made by either.
+    &[
+        Step::Name(PATH),
+        Step::Name("two-names-test/soft"),
+        Step::CreateFails(PATH),
+        Step::CreateFails("two-names-test/soft"),
+        Step::Faults(0, 2),
+    ],
+    // One file may be read by two paths, and a path at which nothing is may be named and made.
+    &[
+        Step::Read(PATH, 0, 4, b"kept.."),
+        Step::Read("two-names-test/soft", 1, 3, b"ept.."),
+        Step::Name("two-names-test/new"),
+        Step::Create("two-names-test/new"),
+        Step::Faults(0, 0),
+    ],
+    // A device may be made by several paths, though it was read and named.
+    &[
+        Step::Read("/dev/null", 0, 0, b"..."),
+        Step::Name("/dev/./null"),
+        Step::Make("/dev//null", b"abc"),
+        Step::Create("/dev/null"),
+        Step::Faults(0, 0),
+    ],
+    // What was read isn't made anew by its own path either.
+    &[Step::Read(PATH, 0, 4, KEPT), Step::CreateFails(PATH)],
+];
 
-const WAYS: &[Way] = &[Way::Reads, Way::Makes, Way::Names];
+// Steps with a new store each, behind which the file is empty.
+const EMPTYING: &[&[Step]] = &[
+    &[Step::Make(PATH, KEPT), Step::Create(PATH)],
+    &[Step::Name(PATH), Step::Create(PATH)],
+];
 
 // Makes the folder with the file and what leads to it.
 fn make_folder(rt: &HostRuntime) -> io::Result<()> {
     let _ = fs::remove_dir_all(rt, FOLDER);
     fs::create_dir(rt, FOLDER)?;
-    fs::write(rt, PATH, b"kept")?;
+    fs::write(rt, PATH, KEPT)?;
     fs::hard_link(rt, PATH, "two-names-test/hard")?;
     symlink(rt, "first", "two-names-test/soft")
 }
 
-// Lets a store know the file.
-fn know(store: &mut FileStore<HostRuntime>, way: Way) -> Result<(), Failed> {
-    match way {
-        Way::Reads => match store.read(PATH, 0, &mut [0; 9]) {
-            Ok(_) => Ok(()),
-            Err(failed) => Err(failed),
-        },
-        Way::Makes => {
-            store.create(PATH)?;
-            store.append(PATH, b"kept")
-        }
-        Way::Names => match store.name(PATH) {
-            Ok(()) => Ok(()),
-            Err(_) => Err(Failed),
-        },
-    }
-}
-
-// Whether the file holds what it held.
-fn is_kept(rt: &HostRuntime) -> bool {
+// Whether the file holds these bytes.
+fn holds(rt: &HostRuntime, bytes: &[u8]) -> bool {
     match fs::read(rt, PATH) {
-        Ok(bytes) => bytes.as_slice() == b"kept".as_slice(),
+        Ok(held) => held.as_slice() == bytes,
         Err(_) => false,
     }
 }
 
-// Whether a store that knows the file makes none by another path, and counts that, and the file stays as it is.
-fn refuses(rt: &HostRuntime, way: Way, other: &str) -> bool {
-    let mut store = FileStore::new(rt);
-    know(&mut store, way).is_ok()
-        && store.create(other) == Err(Failed)
-        && (store.read_faulted(), store.write_faulted()) == (0, 1)
-        && is_kept(rt)
-}
-
-// Whether it is so for each way and each path.
-fn refuses_all(rt: &HostRuntime) -> bool {
+// Whether a store that knows the file in each way makes none by another path, counts that, and leaves the file as it is.
+fn refuse(rt: &HostRuntime, other: &'static str) -> bool {
     for way in WAYS {
-        for other in OTHERS {
-            if !refuses(rt, *way, other) {
-                return false;
-            }
+        let steps = [*way, Step::CreateFails(other), Step::Faults(0, 1)];
+        if !go(rt, &steps) || !holds(rt, KEPT) {
+            return false;
         }
     }
     true
 }
 
-// Whether the file is emptied by the path by which it was made or named, and not where it was read.
-fn empties(rt: &HostRuntime, way: Way) -> bool {
-    let mut store = FileStore::new(rt);
-    know(&mut store, way).is_ok() && store.create(PATH).is_ok() && !is_kept(rt)
+// Whether it is so by each of the other paths.
+fn refuse_all(rt: &HostRuntime) -> bool {
+    for other in OTHERS {
+        if !refuse(rt, other) {
+            return false;
+        }
+    }
+    true
 }
 
-// Whether a file of two paths that were both named isn't made by either.
-fn named_twice(rt: &HostRuntime) -> bool {
-    let mut store = FileStore::new(rt);
-    store.name(PATH).is_ok()
-        && store.name("two-names-test/soft").is_ok()
-        && store.create(PATH).is_err()
-        && store.create("two-names-test/soft").is_err()
-        && is_kept(rt)
+// Whether all steps go as they say, and the file holds these bytes behind each.
+fn go_all(rt: &HostRuntime, all: &[&[Step]], bytes: &[u8]) -> bool {
+    for steps in all {
+        if make_folder(rt).is_err() || !go(rt, steps) || !holds(rt, bytes) {
+            return false;
+        }
+    }
+    true
 }
 
-// Whether one file may be read by two paths, and a path at which nothing is may be named and made.
-fn are_left_alone(rt: &HostRuntime) -> bool {
-    let mut store = FileStore::new(rt);
-    let mut into = *b"......";
-    store.read(PATH, 0, &mut into) == Ok(4)
-        && store.read("two-names-test/soft", 1, &mut into) == Ok(3)
-        && into == *b"eptt.."
-        && store.name("two-names-test/new").is_ok()
-        && store.create("two-names-test/new").is_ok()
-        && (store.read_faulted(), store.write_faulted()) == (0, 0)
-}
-
-// Whether a device may be made by several paths, though it was read and named.
-fn devices_are_left_alone(rt: &HostRuntime) -> bool {
-    let mut store = FileStore::new(rt);
-    store.read("/dev/null", 0, &mut [0; 3]) == Ok(0)
-        && store.name("/dev/./null").is_ok()
-        && store.create("/dev//null").is_ok()
-        && store.append("/dev//null", b"abc").is_ok()
-        && store.create("/dev/null").is_ok()
-        && store.write_faulted() == 0
-}
-
-// Whether a file is kept, or emptied, as it should be, in a folder that is made for each.
+// Whether the file is kept, or emptied, as it should be.
 fn are_kept(rt: &HostRuntime) -> bool {
     make_folder(rt).is_ok()
-        && refuses_all(rt)
-        && named_twice(rt)
-        && are_left_alone(rt)
-        && devices_are_left_alone(rt)
-        && !empties(rt, Way::Reads)
-        && empties(rt, Way::Makes)
-        && make_folder(rt).is_ok()
-        && empties(rt, Way::Names)
+        && refuse_all(rt)
+        && go_all(rt, KEEPING, KEPT)
+        && go_all(rt, EMPTYING, b"")
         && fs::remove_dir_all(rt, FOLDER).is_ok()
 }
 
