@@ -1,9 +1,9 @@
 -- What calls on links account for: none, one, and one after another.
-use Rattle.std.specs.Prelude.{◌≡◌, ◌≤◌, ℕ, Bool, true, List, [], ◌∷◌, ◌++◌, ◌<◌, Option, IsPermutation, length, slice_index_or}
+use Rattle.std.specs.Prelude.{◌≡◌, ◌≤◌, ℕ, Bool, true, false, List, [], ◌∷◌, ◌++◌, ◌<◌, Option, IsPermutation, length, slice_index_or}
 use Rattle.std.proofs.Common.{refl, sym, ◌∙◌, ap, subst, ⊎_elim, inl}
 use Rattle.std.proofs.Math.Bool.{or-false}
 use Rattle.std.proofs.Math.Nat.{le_refl, le_trans}
-use Rattle.std.proofs.lemmas.Bool.{or_cases, false≢true}
+use Rattle.std.proofs.lemmas.Bool.{or_cases, or_parts, false≢true}
 use Rattle.std.proofs.lemmas.List.{append-nil, append_assoc}
 use Rattle.std.proofs.lemmas.List.Folds.{list_any-append}
 use Rattle.std.proofs.lemmas.List.Sorted.{IsPermutation-sym, IsPermutation-to_front}
@@ -54,6 +54,7 @@ module _ {L : Type 0} (holds : L → InFlight) (faithful : L → Bool) (faults :
     gives = becomes_same (λ held. sym (append-nil held));
     count = le_refl (faults at);
     failed = λ is. absurd (false≢true is);
+    steady = λ is. refl;
   }
 
   pub links_then : (first later : List Move) (a b c : L) → LinksAccounts holds faithful faults sent given first a b → LinksAccounts holds faithful faults sent given later b c
@@ -69,19 +70,24 @@ module _ {L : Type 0} (holds : L → InFlight) (faithful : L → Bool) (faults :
         (λ before. rose_then _ _ _ (one.failed before) other.count)
         (λ after. then_rose _ _ _ one.count (other.failed after))
         (or_cases _ _ (sym (list_any-append is_fault first later) ∙ is));
+    steady = λ is.
+        let none = or_parts _ _ (sym (list_any-append is_fault first later) ∙ is) in
+        other.steady none.1 ∙ one.steady none.0;
   }
 
   -- one call
   pub one_move : (move : Move) (old new : L) → Moves (faithful old) move (holds old) (holds new) → faithful new ≡ faithful old
       → Becomes (sent old) (sent new) (Adds (pairs_put (move ∷ []))) → Becomes (given old) (given new) (Adds (flights_given (move ∷ [])))
-      → faults old ≤ faults new → (is_fault move ≡ true → Rose (faults old) (faults new)) → LinksAccounts holds faithful faults sent given (move ∷ []) old new
-  one_move move old new does same sends gives count failed = record {
+      → faults old ≤ faults new → (is_fault move ≡ true → Rose (faults old) (faults new)) → (is_fault move ≡ false → faults new ≡ faults old)
+      → LinksAccounts holds faithful faults sent given (move ∷ []) old new
+  one_move move old new does same sends gives count failed steady = record {
     follows = (holds new, does, refl);
     same_faithful = same;
     sends = sends;
     gives = gives;
     count = count;
     failed = λ is. failed (sym (or-false (is_fault move)) ∙ is);
+    steady = λ is. steady (sym (or-false (is_fault move)) ∙ is);
   }
 
 -- the last pair that flies was put there

@@ -71,7 +71,7 @@ pub trait Links {
         → moves later b c → moves (first ++ later) a c };
 
     /// What flies follows the calls, and so do the pairs put and given, where they are told. The count doesn't fall,
-    /// and a put or a take that failed has raised it.
+    /// a put or a take that failed has raised it, and where none failed it stays.
     ghost accounts: { (made : List Move) (old new : Self) → moves made old new
         → LinksAccounts (holding flying room opened_with repeats) faithful faults sent given
         made old new };

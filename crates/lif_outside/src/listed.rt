@@ -165,6 +165,7 @@ impl Links for ListLinks {
         ensures call { moves_in (open_move seed most result ∷ []) self.old self.new }
         ensures room { OnOk result ((held_in self.new).room ≡ most) }
         ensures counted { CountsNothing self.old self.new }
+        ensures faults { faults_in self.new ≡ faults_in self.old }
     {
         self.flying.reserve(most as usize)?;
         self.room = most;

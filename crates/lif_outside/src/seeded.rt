@@ -78,6 +78,7 @@ impl Links for SeedLinks {
         ensures call { moves_by (open_move seed most result ∷ []) self.old self.new }
         ensures room { OnOk result ((held_by self.new).room ≡ most) }
         ensures generator { OnOk result (generator_in self.new ≡ generator_for seed) }
+        ensures same_generator { OnErr result (generator_in self.new ≡ generator_in self.old) }
     {
         self.flying.reserve(most as usize)?;
         self.room = most;

@@ -17,4 +17,5 @@ accounts_inside inside holds faithful faults sent given moves old new accounts =
   gives = accounts.gives;
   count = accounts.count;
   failed = accounts.failed;
+  steady = accounts.steady;
 }

@@ -21,7 +21,7 @@ returns-then-contains-clause-call c =
     one_move held_in faithful_ones faults_in sent_in given_in take_failed c.args.self.now _
     (is_untaken _ _ _ c.args.self.now.keeps.items _ _ c.count_one-nth.ensures.later) refl
     (becomes_same {f = Some c.args.self.now.sent.items} (λ held. sym (append-nil held))) (becomes_same {f = Some c.args.self.now.given.items} (λ held. sym (append-nil held)))
-    c.failed.ensures.later (λ is. omega (arith, c.failed.ensures.after))
+    c.failed.ensures.later (λ is. omega (arith, c.failed.ensures.after)) (λ is. absurd (false≢true (sym is)))
 
 -- where nothing was found, nothing flies
 nothing_flies : (c : goal.After-self-then-is_empty-1) → c.args.self.now.flying.items ≡ []
@@ -34,14 +34,14 @@ returns-then-is_empty-clause-call c =
     one_move held_in faithful_ones faults_in sent_in given_in took_none c.args.self.now _
     (nothing_flies c, is_untaken _ _ _ c.args.self.now.keeps.items _ _ c.count_one-nth.ensures.later) refl
     (becomes_same {f = Some c.args.self.now.sent.items} (λ held. sym (append-nil held))) (becomes_same {f = Some c.args.self.now.given.items} (λ held. sym (append-nil held)))
-    (le_refl c.args.self.now.faults) (λ is. absurd (false≢true is))
+    (le_refl c.args.self.now.faults) (λ is. absurd (false≢true is)) (λ is. refl)
 
 pub returns-then-is_err-clause-call : goal.returns-then-is_err-clause-call
 returns-then-is_err-clause-call c =
     one_move held_in faithful_ones faults_in sent_in given_in take_failed c.args.self.now _
     (is_untaken _ _ _ c.args.self.now.keeps.items _ _ c.count_one-nth.ensures.later) refl
     (becomes_same {f = Some c.args.self.now.sent.items} (λ held. sym (append-nil held))) (becomes_told (unpushed _ _ _ _ c.push.ensures.items c.if-is_err.ensures.negation))
-    c.failed-then-is_err.ensures.later (λ is. omega (arith, c.failed-then-is_err.ensures.after))
+    c.failed-then-is_err.ensures.later (λ is. omega (arith, c.failed-then-is_err.ensures.after)) (λ is. absurd (false≢true (sym is)))
 
 -- how many fly
 count : (c : goal.After-self-2-1) → c.len.result ≡ length c.args.self.now.flying.items
@@ -73,7 +73,7 @@ returns-clause-call c =
     c.keeps_next-is_kept.ensures c.let_go.ensures.items c.count_one-nth.ensures.later c.count_one-nth.ensures.after (within c) (flew c))
     (record { same_room = refl; same_seed = refl }))
     refl (becomes_same {f = Some c.args.self.now.sent.items} (λ held. sym (append-nil held)))
-    (becomes_told (pushed _ _ _ _ c.push.ensures.items c.if-is_err.ensures.negation)) (le_refl c.args.self.now.faults) (λ is. absurd (false≢true is))
+    (becomes_told (pushed _ _ _ _ c.push.ensures.items c.if-is_err.ensures.negation)) (le_refl c.args.self.now.faults) (λ is. absurd (false≢true is)) (λ is. refl)
 
 pub returns-clause-picked : goal.returns-clause-picked
 returns-clause-picked c = λ flight is.

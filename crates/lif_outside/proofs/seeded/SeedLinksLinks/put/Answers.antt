@@ -10,4 +10,4 @@ pub returns-clause-call : goal.returns-clause-call
 returns-clause-call c =
     one_move held_by always no_faults untold untold _ _ _
     (is_put _ _ _ (pushed _ _ _ _ c.push.ensures.items c.if-is_err.ensures.negation) refl (record { same_room = refl; same_seed = refl }))
-    refl becomes_untold becomes_untold (le_refl 0) (λ is. absurd cc)
+    refl becomes_untold becomes_untold (le_refl 0) (λ is. absurd cc) (λ is. refl)

@@ -30,7 +30,7 @@ returns-clause-call c =
     (subst (λ left. IsPermutation c.args.self.now.flying.items (c.swap_remove.result ∷ left)) (sym c.swap_remove.ensures.items)
     (IsPermutation-swap_remove _ _ _ (within c) c.swap_remove.ensures.value))
     (le_refl 0) (record { same_room = refl; same_seed = refl }))
-    refl becomes_untold becomes_untold (le_refl 0) (λ is. absurd cc)
+    refl becomes_untold becomes_untold (le_refl 0) (λ is. absurd cc) (λ is. refl)
 
 pub returns-clause-picked : goal.returns-clause-picked
 returns-clause-picked c = λ flight is.
