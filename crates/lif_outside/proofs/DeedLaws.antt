@@ -8,13 +8,13 @@ use Rattle.lif_outside.specs.Accounts.{StoreAccounts, SinkAccounts}
 use Rattle.lif_outside.specs.Calls.{Deeds, Objects, Outside, outside_after, outside_before}
 use Rattle.lif_outside.specs.Counts.{Rose}
 use Rattle.lif_outside.specs.Events.{read_failed, create_failed, append_failed, Follow}
-use Rattle.lif_outside.specs.LinksAccounts.{LinksAccounts, holding}
-use Rattle.lif_outside.specs.Moves.{FollowMoves, is_fault}
+use Rattle.lif_outside.specs.LinksAccounts.{Adds, LinksAccounts, holding}
+use Rattle.lif_outside.specs.Moves.{FollowMoves, flights_given, is_fault}
 use Rattle.lif_outside.specs.Puts.{put_failed, Grow}
 use Rattle.lif_outside.specs.Told.{Becomes}
 
--- Where files and bytes are told, they follow the calls and the puts, and what flies on links follows the calls on them. Each
--- failed one has raised its count.
+-- Where files, bytes and the pairs given are told, they follow the calls and the puts, and what flies on links follows the calls on
+-- them. Each failed one has raised its count.
 pub record Accounted (deeds : Deeds) (before after : Outside) : Type 0 where
   pub files : Becomes before.files after.files (Follow deeds.calls.on_store)
   pub failed_read : (path : List ℕ) (at room : ℕ) → Contains deeds.calls.on_store (read_failed path at room) → Rose (before.read_faults path) (after.read_faults path)
@@ -22,6 +22,7 @@ pub record Accounted (deeds : Deeds) (before after : Outside) : Type 0 where
   pub failed_append : (path bytes : List ℕ) → Contains deeds.calls.on_store (append_failed path bytes) → Rose (before.write_faults path) (after.write_faults path)
   pub said : Becomes before.said after.said (Grow deeds.puts)
   pub failed_put : (bytes : List ℕ) → Contains deeds.puts (put_failed bytes) → Rose before.say_faults after.say_faults
+  pub gives : Becomes before.given after.given (Adds (flights_given deeds.calls.on_links))
   pub moved : FollowMoves before.faithful deeds.calls.on_links before.in_flight after.in_flight
   pub failed_move : list_any is_fault deeds.calls.on_links ≡ true → Rose before.link_faults after.link_faults
 
@@ -36,6 +37,7 @@ Accounted-from_calls o deeds store say links = record {
   failed_append = store.failed_append;
   said = say.content;
   failed_put = say.failed;
+  gives = links.gives;
   moved = links.follows;
   failed_move = links.failed;
 }

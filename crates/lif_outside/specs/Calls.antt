@@ -1,5 +1,6 @@
 -- The words on calls, at a store, a sink and links that are known by their bounds.
 use Rattle.std.specs.Prelude.{◌≡◌, ℕ, Bool, List, [], ◌++◌, Option}
+use Rattle.lif_outside.specs.declared.links.Flight.{Flight}
 use Rattle.lif_outside.specs.declared.links.Links.{Ghosts as LinksGhosts}
 use Rattle.lif_outside.specs.declared.sink.Sink.{Ghosts as SinkGhosts}
 use Rattle.lif_outside.specs.declared.store.Store.{Ghosts as StoreGhosts}
@@ -94,8 +95,8 @@ pub record Does {S C L : Type 0} {g : StoreGhosts S} {h : SinkGhosts C} {k : Lin
   pub on_links : k.moves deeds.calls.on_links o.links_old o.links_new
   pub holds : P deeds
 
--- The outside at a moment: what is told of files and of what is said, what flies on links, whether they give each frame as it
--- was put, and the counts of faults.
+-- The outside at a moment: what is told of files, of what is said and of the pairs that links gave, what flies on links, whether
+-- they give each frame as it was put, and the counts of faults.
 pub record Outside : Type 0 where
   pub files : Option Files
   pub read_faults : List ℕ → ℕ
@@ -103,6 +104,7 @@ pub record Outside : Type 0 where
   pub said : Option (List ℕ)
   pub say_faults : ℕ
   pub in_flight : InFlight
+  pub given : Option (List Flight)
   pub faithful : Bool
   pub link_faults : ℕ
 
@@ -114,6 +116,7 @@ outside_at g h k store say links = record {
   said = h.written say;
   say_faults = h.faults say;
   in_flight = holding k.flying k.room k.opened_with k.repeats links;
+  given = k.given links;
   faithful = k.faithful links;
   link_faults = k.faults links;
 }

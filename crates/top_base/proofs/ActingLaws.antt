@@ -40,6 +40,7 @@ later_accounted deeds before after first later are keeps accounted =
       failed_append = λ path bytes there. accounted.failed_append path bytes (among _ there);
       said = accounted.said;
       failed_put = accounted.failed_put;
+      gives = accounted.gives;
       moved = accounted.moved;
       failed_move = accounted.failed_move;
     }
