@@ -172,8 +172,8 @@ module _ (faithful : Bool) (demo : Demo) where
     due = λ outcome deeds before after accounted runs inputs. due_with outcome.status outcome.line deeds.calls inputs runs;
     lines = λ outcome calls runs not. line_with outcome.status outcome.line calls runs not;
     causes = λ outcome calls runs. failed_with outcome.status outcome.line calls runs;
-    alike = λ one other due due'. ap any_cycle (due.0 ∙ sym due'.0);
-    faultless = λ expected outcome calls before after due runs change works. faultless_with outcome.status outcome.line calls before after runs change works;
+    alike = λ due owed is is_owed. ap any_cycle (is.0 ∙ sym is_owed);
+    faultless = λ owed outcome calls before after is_owed runs change works. faultless_with outcome.status outcome.line calls before after runs change works;
   }
 
   -- the words were a form

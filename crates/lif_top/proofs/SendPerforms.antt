@@ -34,7 +34,7 @@ use Rattle.top_base.specs.declared.status.Status.{Status}
 use Rattle.top_base.specs.declared.status.Status.TheVariants.{Done, LinkFault, OutOfMemory, ReadFault, SamePath, TooLong, UnknownPattern, Usage, WriteFault}
 use Rattle.lif_top.specs.Send.Changes.{Changes, ChangesTo}
 use Rattle.lif_top.specs.Send.Command.{send_command}
-use Rattle.lif_top.specs.Send.Due.{DueOf, DueWith, NoFault}
+use Rattle.lif_top.specs.Send.Due.{DueOf, DueWith, NoFault, OwedOf}
 use Rattle.lif_top.specs.Send.Carried.{AreCarried}
 use Rattle.lif_top.specs.Send.Given.{outputs_of, pattern_in}
 use Rattle.lif_top.specs.Send.Runs.{AfterCreates, AtRest, Broken, Carries, RunsCode, Sends, deliveries}
@@ -194,7 +194,7 @@ module _ (faithful : Bool) (send : Send) where
   faultless LinkFault line files before after told (code, broken) works = absurd (works.links_worked broken.rose)
   faultless status line files before after told change works = refl
 
-  sends_well : ActsWell code_limit IsCodeOf RefusesCode send.code (Sends faithful send) (DueOf send) (Changes faithful send) (NoFault send)
+  sends_well : ActsWell code_limit IsCodeOf RefusesCode send.code (Sends faithful send) (OwedOf send) (DueOf send) (Changes faithful send) (NoFault send)
   sends_well = record {
     changes = λ code outcome deeds before after accounted held runs. changes_with send code faithful deeds before after accounted held outcome.status outcome.line runs;
     due = λ code outcome deeds before after accounted runs inputs.
@@ -203,14 +203,14 @@ module _ (faithful : Bool) (send : Send) where
     lines = λ code outcome calls runs not. line_with code outcome.status outcome.line calls runs not;
     causes = λ code outcome calls runs. failed_with code outcome.status outcome.line calls runs;
     used = λ code outcome calls runs is. subst (λ status. RunsCode faithful send code status outcome.line calls) is runs;
-    alike = λ code files one other due due'. ap any_cycle (same_due code (files send.source) one.status one.line other.status other.line due due');
+    alike = λ code files due owed is is_owed. ap any_cycle (same_due code (files send.source) due.status due.line owed is_owed.0 is is_owed.1);
     lost = λ outcome before after. lost outcome.status outcome.line before after;
     faultless = λ outcome files before after. faultless outcome.status outcome.line files before after;
   }
 
   pub send_known : IsKnown (send_command faithful send)
-  send_known = acts_known code_limit IsCodeOf RefusesCode send.code (Sends faithful send) (DueOf send) (Changes faithful send) (NoFault send) code_input sends_well
+  send_known = acts_known code_limit IsCodeOf RefusesCode send.code (Sends faithful send) (OwedOf send) (DueOf send) (Changes faithful send) (NoFault send) code_input sends_well
 
   -- the words were a form
   pub send_used : (outcome : Outcome) (calls : Calls) → (send_command faithful send).runs outcome calls → outcome.status ≢ Usage
-  send_used = acts_used code_limit IsCodeOf RefusesCode send.code (Sends faithful send) (DueOf send) (Changes faithful send) (NoFault send) code_input sends_well
+  send_used = acts_used code_limit IsCodeOf RefusesCode send.code (Sends faithful send) (OwedOf send) (DueOf send) (Changes faithful send) (NoFault send) code_input sends_well

@@ -14,7 +14,7 @@ use Rattle.sink_decoder.specs.Receiving.{Receiver, sink_plan_of}
 use Rattle.node_stations.specs.Delivering.{AtSink}
 use Rattle.node_stations.specs.Opening.{IsAt, IsBegunAt, IsOpened, IsSinkOf, demand_of}
 use Rattle.node_stations.specs.Shown.{IsReplaced}
-use Rattle.node_stations.specs.Table.{ArePlanned, HasBegun, HaveBegun, relays_of, sinks_of}
+use Rattle.node_stations.specs.Table.{AreOpened, ArePlanned, HasBegun, HaveBegun, IsOpenedNode, relays_of, sinks_of}
 use Rattle.node_stations.specs.declared.station.Station.{Station}
 
 -- of each item of a list this holds, by its place
@@ -52,7 +52,7 @@ each_made f P xs each k y found = let from = made_of f xs k y found in subst (P 
 module _ {F : Type 0} (code : Code) (pattern : ℕ) where
   -- the station of a node, before any generation
   pub record IsStationOf (node : ℕ) (station : Station F) : Type 0 where
-    pub plan : station.node.plan ≡ plan_of code pattern node
+    pub node_is : IsOpenedNode code pattern node station.node
     pub sink : IsSinkOf code pattern node station.sink
 
   -- the stations of the first so many nodes
@@ -75,17 +75,29 @@ module _ {F : Type 0} (code : Code) (pattern : ℕ) where
       }
 
   -- those of all nodes
-  pub are_planned : (count : ℕ) (stations : List (Station F)) → AreFirst count stations → count ≡ length code.net.nodes
-      → ArePlanned code pattern (relays_of stations) (sinks_of stations)
-  are_planned count stations first all =
+  pub are_opened : (count : ℕ) (stations : List (Station F)) → AreFirst count stations → count ≡ length code.net.nodes
+      → AreOpened code pattern (relays_of stations) (sinks_of stations)
+  are_opened count stations first all =
       record {
         count = length-map stations (λ station. station.node) ∙ first.made ∙ all;
-        plans = each_made (λ station. station.node) (λ node relay. relay.plan ≡ plan_of code pattern node) stations
-            (λ node station found. (first.each node station found).plan);
+        nodes = each_made (λ station. station.node) (λ node relay. IsOpenedNode code pattern node relay) stations
+            (λ node station found. (first.each node station found).node_is);
         receivers = record {
           count = length-map stations (λ station. station.sink) ∙ first.made ∙ all;
-          at = each_made (λ station. station.sink) (λ node sink. IsAt IsPlanned (place_of code node) sink) stations
-              (λ node station found. planned (place_of code node) station.sink (first.each node station found).sink);
+          at = each_made (λ station. station.sink) (λ node sink. IsAt (IsOpened code pattern) (place_of code node) sink) stations
+              (λ node station found. (first.each node station found).sink);
+        };
+      }
+
+  -- and they have their plans
+  pub opened-planned : (relays : List Relay) (sinks : List (Option Receiver)) → AreOpened code pattern relays sinks → ArePlanned code pattern relays sinks
+  opened-planned relays sinks opened =
+      record {
+        count = opened.count;
+        plans = λ node relay found. (opened.nodes node relay found).plan;
+        receivers = record {
+          count = opened.receivers.count;
+          at = λ node sink found. planned (place_of code node) sink (opened.receivers.at node sink found);
         };
       }
     where

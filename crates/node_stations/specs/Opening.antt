@@ -22,6 +22,7 @@ pub record AreSinks (code : Code) (sinks : List (Option Receiver)) (P : ℕ → 
 -- the sink of a place, before any generation
 pub record IsOpened (code : Code) (pattern place : ℕ) (sink : Receiver) : Type 0 where
   pub plan : sink.plan ≡ sink_plan_of code (demand_of code pattern place)
+  pub first : sink.first ≡ 0
   pub count : sink.count ≡ 0
 
 -- the sink at a node, where it is one

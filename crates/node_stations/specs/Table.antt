@@ -5,7 +5,7 @@ use Rattle.node_program.specs.declared.code.Code.{Code}
 use Rattle.relay_node.specs.Relay.{HasNothing, Relay}
 use Rattle.sink_decoder.specs.Receiving.{Receiver, sink_plan_of}
 use Rattle.node_stations.specs.Delivering.{AtSink}
-use Rattle.node_stations.specs.Opening.{AreSinks, IsBegunAt, demand_of}
+use Rattle.node_stations.specs.Opening.{AreSinks, IsBegunAt, IsOpened, demand_of}
 use Rattle.node_stations.specs.declared.station.Station.{Station}
 
 -- the nodes of some stations, and the sinks at them
@@ -20,6 +20,19 @@ pub record ArePlanned (code : Code) (pattern : ℕ) (relays : List Relay) (sinks
   pub count : length relays ≡ length code.net.nodes
   pub plans : (node : ℕ) (relay : Relay) → slice_get relays node ≡ Some relay → relay.plan ≡ plan_of code pattern node
   pub receivers : AreSinks code sinks (λ place sink. sink.plan ≡ sink_plan_of code (demand_of code pattern place))
+
+-- the node of a number, before any generation: nothing came, and nothing was given
+pub record IsOpenedNode (code : Code) (pattern node : ℕ) (relay : Relay) : Type 0 where
+  pub plan : relay.plan ≡ plan_of code pattern node
+  pub first : relay.first ≡ 0
+  pub count : relay.count ≡ 0
+  pub nothing : HasNothing relay
+
+-- there is one for each node of a code, and each node and each sink is as it is before any generation
+pub record AreOpened (code : Code) (pattern : ℕ) (relays : List Relay) (sinks : List (Option Receiver)) : Type 0 where
+  pub count : length relays ≡ length code.net.nodes
+  pub nodes : (node : ℕ) (relay : Relay) → slice_get relays node ≡ Some relay → IsOpenedNode code pattern node relay
+  pub receivers : AreSinks code sinks (IsOpened code pattern)
 
 -- a node that has begun these generations, of which nothing came and nothing was given
 pub record HasBegun (first count : ℕ) (old new : Relay) : Type 0 where

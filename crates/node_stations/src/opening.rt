@@ -1,7 +1,7 @@
 //! The stations of a code, as they are made.
 ghost use Rattle.std.specs.Prelude.{◌<◌, IfOk, length};
 ghost use Rattle.gf_tables.specs.Kind.{IsOfKind};
-ghost use Rattle.node_stations.specs.Table.{ArePlanned, relays_of, sinks_of};
+ghost use Rattle.node_stations.specs.Table.{AreOpened, relays_of, sinks_of};
 
 use crate::station::Station;
 use code_checker::Checked;
@@ -11,7 +11,8 @@ use node_plans::Wiring;
 use std::alloc::{AllocError, Global};
 use std::sync::Arc;
 
-/// The stations of all nodes of a code under a pattern, before any generation. `F` is the code's field.
+/// The stations of all nodes of a code under a pattern, before any generation: nothing came, and nothing was
+/// given. `F` is the code's field.
 /// They share the tables of the code's links, of its sinks and of products, so that nodes, links,
 /// operands, sinks and decoders are gone over once.
 pub fn open_stations<F: Field>(
@@ -22,7 +23,7 @@ pub fn open_stations<F: Field>(
     requires pattern { pattern < length code.now.net.patterns }
     requires field { IsOfKind code.now.field F.SIZE F.BYTES F.MARK F.product }
     ensures { IfOk result (λ stations.
-        ArePlanned code.now pattern (relays_of stations.items) (sinks_of stations.items)) }
+        AreOpened code.now pattern (relays_of stations.items) (sinks_of stations.items)) }
 {
     let wiring = Wiring::of(alloc, code.code(), pattern)?;
     let tables = Arc::new(alloc, RowTables::new())?;

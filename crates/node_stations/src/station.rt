@@ -32,8 +32,8 @@ pub struct Station<F> {
 }
 
 impl<F: Field> Station<F> {
-    ghost use Rattle.node_plans.specs.Plans.{plan_of};
     ghost use Rattle.node_stations.specs.Opening.{IsBegunAt};
+    ghost use Rattle.node_stations.specs.Table.{IsOpenedNode};
     ghost use Rattle.relay_node.specs.Relay.{HasNothing};
 
     /// The station of a node, before any generation: its sink is that of the node's demand, where the node is a sink.
@@ -50,8 +50,7 @@ impl<F: Field> Station<F> {
         requires node { node < length code.now.net.nodes }
         requires field { IsOfKind code.now.field F.SIZE F.BYTES F.MARK F.product }
         requires wiring { IsWiringOf code.now pattern wiring.now }
-        ensures plan { IfOk result (λ station. station.node.plan ≡ plan_of code.now pattern node) }
-        ensures count { IfOk result (λ station. station.node.count ≡ 0) }
+        ensures node { IfOk result (λ station. IsOpenedNode code.now pattern node station.node) }
         ensures sink { IfOk result (λ station. IsSinkOf code.now pattern node station.sink) }
     {
         let sink = open_sink(alloc, code, pattern, node, wiring, tables)?;

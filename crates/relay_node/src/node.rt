@@ -6,6 +6,7 @@ ghost use Rattle.gf_tables.specs.Kind.{IsOfKind};
 ghost use Rattle.net_model.specs.Limits.{most_links};
 ghost use Rattle.node_plans.specs.Plans.{IsPlan, input_count, plan_of, sums_of};
 ghost use Rattle.node_plans.specs.Wired.{HasPlaces, IsWiringOf};
+ghost use Rattle.due_sums.specs.Waiting as waiting;
 ghost use Rattle.due_sums.specs.Waiting.{AreSums};
 ghost use Rattle.relay_node.specs.Relay.{IsNode};
 ghost use Rattle.relay_node.specs.Summands.{summands_of};
@@ -63,6 +64,7 @@ fn work_of(alloc: Global, plan: &Plan, places: &[u32]) -> Result<(DueSums, Summa
     requires sums { AreSums (input_count plan.now) (sums_of plan.now) }
     requires few_links { length plan.now.ins ≤ most_links }
     ensures node { IfOk result (λ work. IsNode plan.now places.now 0 0 work.0) }
+    ensures nothing { IfOk result (λ work. waiting.HasNothing work.0) }
     ensures summands { IfOk result (λ work. work.1 ≡ summands_of plan.now) }
 {
     let sums = sum_table(alloc, plan, places)?;
@@ -84,6 +86,7 @@ fn planned(
     requires wiring { IsWiringOf code.now pattern wiring.now }
     ensures plan { IfOk result (λ all. all.0 ≡ plan_of code.now pattern node) }
     ensures node { IfOk result (λ all. IsNode all.0 wiring.now.places 0 0 all.1) }
+    ensures nothing { IfOk result (λ all. waiting.HasNothing all.1) }
     ensures summands { IfOk result (λ all. all.2 ≡ summands_of all.0) }
 {
     let plan = wiring.plan(alloc, code, pattern, node)?;
@@ -111,7 +114,8 @@ impl<F: Field> Node<F> {
     ghost use Rattle.node_program.specs.declared.code.Code.{Code};
     ghost use Rattle.relay_node.specs.Relay.{Gains, Gives, HasNothing, IsBegun, IsDue, IsFed, TakesTraffic, has_input};
 
-    /// The node of a number, before any generation. `F` is the code's field. It takes all memory that the work needs.
+    /// The node of a number, before any generation, to which nothing came and which gave nothing. `F` is the code's field.
+    /// It takes all memory that the work needs.
     pub fn open(
         alloc: Global,
         code: &Checked,
@@ -122,7 +126,9 @@ impl<F: Field> Node<F> {
         requires node { node < length code.now.net.nodes }
         requires field { IsOfKind code.now.field F.SIZE F.BYTES F.MARK F.product }
         ensures plan { IfOk result (λ opened. opened.plan ≡ plan_of code.now pattern node) }
+        ensures first { IfOk result (λ opened. opened.first ≡ 0) }
         ensures count { IfOk result (λ opened. opened.count ≡ 0) }
+        ensures nothing { IfOk result HasNothing }
     {
         let wiring = Wiring::of(alloc, code.code(), pattern)?;
         let tables = Arc::new(alloc, RowTables::new())?;
@@ -144,7 +150,9 @@ impl<F: Field> Node<F> {
         requires field { IsOfKind code.now.field F.SIZE F.BYTES F.MARK F.product }
         requires wiring { IsWiringOf code.now pattern wiring.now }
         ensures plan { IfOk result (λ opened. opened.plan ≡ plan_of code.now pattern node) }
+        ensures first { IfOk result (λ opened. opened.first ≡ 0) }
         ensures count { IfOk result (λ opened. opened.count ≡ 0) }
+        ensures nothing { IfOk result HasNothing }
     {
         let (places, tables) = shared(wiring.places(), tables)?;
         let (plan, sums, summands) = planned(alloc, code.code(), pattern, node, wiring)?;

@@ -1,6 +1,6 @@
 -- A window that was carried, told by the calls on the links alone.
-use Rattle.std.specs.Prelude.{◌≡◌, ◌<◌, ◌≤◌, ◌+◌, ◌||◌, ◌∷◌, ◌↔◌, ℕ, Bool, true, false, List, [], Option, length, map}
-use Rattle.std.proofs.Common.{◌∙◌, ap, refl, subst, sym}
+use Rattle.std.specs.Prelude.{◌≡◌, ◌<◌, ◌≤◌, ◌+◌, ◌||◌, ◌∷◌, ◌↔◌, ℕ, Bool, true, false, List, [], Option, count_by, length, map}
+use Rattle.std.proofs.Common.{◌∙◌, ap, arith, refl, subst, sym}
 use Rattle.std.proofs.Math.Bool.{or-false}
 use Rattle.coded_traffic.specs.Traffic.{IsKey, Key, Window, block_at, is_same_key, key_of}
 use Rattle.generation_frame.specs.declared.frame.Packet.{Packet}
@@ -20,8 +20,9 @@ use Rattle.sink_decoder.specs.Receiving.{Receiver}
 use Rattle.relay_runner.proofs.CameLaws.{relayed-told}
 use Rattle.relay_runner.proofs.FaithfulLaws.{decodes-of, held-of, held-sent, quiet}
 use Rattle.relay_runner.proofs.GivenLaws.{packets_in-given, payload-flights, run-fit}
+use Rattle.relay_runner.proofs.WellLaws.{one_empty}
 use Rattle.relay_runner.specs.Carried.{CarriesWindow, HasCarriedBy}
-use Rattle.relay_runner.specs.Carrying.{Carries}
+use Rattle.relay_runner.specs.Carrying.{Carries, finds_nothing}
 use Rattle.relay_runner.specs.Decoding.{with_decoded}
 use Rattle.relay_runner.specs.Delivered.{packet_given}
 use Rattle.relay_runner.specs.Runner.{IsSameWork}
@@ -92,9 +93,9 @@ module _ (code : Code) (pattern : ℕ) (window : Window) (run : List Delivery) (
 
 -- a runner that has carried the window of its first number and its count has sent it
 pub sends : {L : Type 0} (g : LinksGhosts L) (runner : Running) (window : Window) → runner.first ≡ window.first
-    → runner.count ≡ length window.blocks → IsAccepted runner.code → (before now : L)
+    → runner.count ≡ length window.blocks → 1 ≤ length window.blocks → IsAccepted runner.code → (before now : L)
     → Carries g runner.code runner.pattern window before now runner.relays runner.sinks → CarriesWindow g window before now runner
-sends g runner window same_first same_count accepted before now carries =
+sends g runner window same_first same_count some accepted before now carries =
     let under = carries.carried in
     let code = runner.code in
     let pattern = runner.pattern in
@@ -109,6 +110,7 @@ sends g runner window same_first same_count accepted before now carries =
         well = under.well;
         front = carries.front;
         ended = carries.ended;
+        few_empty = omega (arith, some, ap (count_by finds_nothing) carries.ended, one_empty carries.front carries.found);
         packets = under.state.sent;
         puts = under.puts;
         once = carries.reaches.sent_once;
@@ -134,10 +136,10 @@ sends g runner window same_first same_count accepted before now carries =
 
 -- and so has one that began it and did the same work
 pub has-sent : {L : Type 0} (g : LinksGhosts L) (start now : Running) → IsSameWork start now → (window : Window) → start.first ≡ window.first
-    → start.count ≡ length window.blocks → IsAccepted start.code → (before after : L)
+    → start.count ≡ length window.blocks → 1 ≤ length window.blocks → IsAccepted start.code → (before after : L)
     → Carries g start.code start.pattern window before after now.relays now.sinks → CarriesWindow g window before after now
-has-sent g start now work window same_first same_count accepted before after carries =
-    sends g now window (work.first ∙ same_first) (work.count ∙ same_count) (subst IsAccepted (sym work.code) accepted) before after
+has-sent g start now work window same_first same_count some accepted before after carries =
+    sends g now window (work.first ∙ same_first) (work.count ∙ same_count) some (subst IsAccepted (sym work.code) accepted) before after
     (subst (λ (code : Code). Carries g code now.pattern window before after now.relays now.sinks) (sym work.code)
     (subst (λ (pattern : ℕ). Carries g start.code pattern window before after now.relays now.sinks) (sym work.pattern) carries))
 

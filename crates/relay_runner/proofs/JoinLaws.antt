@@ -35,6 +35,7 @@ use Rattle.relay_core.specs.Core.{has_key, key_on, payload_of, summed, times_of}
 use Rattle.relay_core.specs.Runs.{AreRelayed}
 use Rattle.relay_runner.proofs.GivenLaws.{payload-none}
 use Rattle.relay_runner.specs.Carried.{IsCarried, packets_given}
+use Rattle.relay_runner.specs.Carrying.{finds_nothing}
 use Rattle.relay_runner.specs.Showing.{packets_in}
 
 -- a range, and then what follows it
@@ -316,6 +317,7 @@ module _ {faithful : Bool} {code : Code} {pattern : ℕ} {first second : Window}
     well = list_any-append is_fault m1 m2 ∙ ap (λ b. b || list_any is_fault m2) one.well ∙ other.well;
     front = m1 ++ other.front;
     ended = ap (λ moves. m1 ++ moves) other.ended ∙ sym (append_assoc m1 other.front (took_none ∷ []));
+    few_empty = omega (arith, one.few_empty, other.few_empty, sum_by-append (λ move. cond (finds_nothing move) 1 0) m1 m2, length-append first.blocks second.blocks);
     packets = packets;
     puts = subst (λ (flights : List Flight). IsPermutation flights (pairs_put both)) (sym (map-append flight_of one.packets other.packets))
         (subst (λ (flights : List Flight). IsPermutation (map flight_of one.packets ++ map flight_of other.packets) flights) (sym (pairs_put-append m1 m2))

@@ -15,6 +15,7 @@ pub mod PlannedLaws
 pub mod ReceivingLaws
 pub mod RunningLaws
 pub mod SinkStepLaws
+pub mod StandingLaws
 pub mod StartingLaws
 pub mod StationLaws
 pub mod StepLaws

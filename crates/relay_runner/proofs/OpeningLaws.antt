@@ -48,7 +48,7 @@ same_found : {X : Type 0} (one other : X) → Some one ≡ Some other → one �
 same_found one other same = cc
 
 -- what holds of the sink at a place where something else does
-at_place : (P Q : ℕ → Receiver → Type 0) → ((place : ℕ) (sink : Receiver) → P place sink → Q place sink)
+pub at_place : (P Q : ℕ → Receiver → Type 0) → ((place : ℕ) (sink : Receiver) → P place sink → Q place sink)
     → (place : Option ℕ) (sink : Option Receiver) → IsAt P place sink → IsAt Q place sink
 at_place P Q then None sink is = is
 at_place P Q then (Some place) sink is = (is.0, is.1, then place is.0 is.2)

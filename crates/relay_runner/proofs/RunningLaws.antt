@@ -1,5 +1,6 @@
 -- A run of a window at work: how it begins, goes on and ends.
 use Rattle.std.specs.Prelude.{◌≡◌, ◌<◌, ◌≤◌, ◌∷◌, ◌++◌, ℕ, Bool, false, List, [], Option, Some, get_or, length, slice_get}
+use Rattle.std.specs.List.{list_any}
 use Rattle.std.proofs.Common.{arith, ap, refl, subst, sym, ◌∙◌}
 use Rattle.std.proofs.lemmas.List.{length-map}
 use Rattle.coded_traffic.specs.Traffic.{Window, room_for}
@@ -22,8 +23,9 @@ use Rattle.relay_runner.proofs.PlannedLaws.{planned}
 use Rattle.relay_runner.proofs.StationLaws.{node-at, node-replaced, same-sinks, with_node}
 use Rattle.relay_runner.proofs.StoppingLaws.{stops-first}
 use Rattle.relay_runner.proofs.UnderwayLaws.{carries, has_carried, stops-carrying, underway-first, underway-more, underway-none}
+use Rattle.relay_runner.proofs.WellLaws.{puts-busy, still-busy}
 use Rattle.relay_runner.specs.Carried.{IsStopped}
-use Rattle.relay_runner.specs.Carrying.{Carries, IsUnderway}
+use Rattle.relay_runner.specs.Carrying.{Carries, IsUnderway, finds_nothing}
 use Rattle.relay_runner.specs.Runner.{IsSameWork}
 use Rattle.relay_runner.specs.Running.{CanStart, HasCarried, IsRunning, Running, Starts}
 use Rattle.relay_runner.specs.Stepping.{Steps, StopsStepping}
@@ -36,6 +38,8 @@ pub record IsOnWay {L : Type 0} (g : LinksGhosts L) (start now : Running) (befor
   pub can : CanStart start
   pub under : (window : Window) → Starts start.code start.pattern window start.relays start.sinks
       → IsUnderway g start.code start.pattern window before after now.relays now.sinks
+  pub busy : (window : Window) (starts : Starts start.code start.pattern window start.relays start.sinks)
+      → list_any finds_nothing (under window starts).moves ≡ false
 
 -- links of which the calls can be joined
 abbrev pub Joins : {L : Type 0} → LinksGhosts L → Type 0
@@ -73,13 +77,24 @@ module _ {L : Type 0} (g : LinksGhosts L) {F : Type 0} (code : Code) (pattern : 
         before after stops.calls
 
     -- what it puts is the run of no steps
-    pub first-under : Account g → (new : Relay) (after : L) → PutsDue g before after station.node new
-        → IsUnderway g code pattern window before after (relays_of (after_puts new)) (sinks_of (after_puts new))
-    first-under accounts new after due =
-        subst (λ (sinks : List (Option Receiver)). IsUnderway g code pattern window before after (relays_of (after_puts new)) sinks)
+    first-busy-under : Account g → (new : Relay) (after : L) → PutsDue g before after station.node new
+        → (under : IsUnderway g code pattern window before after (relays_of (after_puts new)) (sinks_of (after_puts new)))
+        × (list_any finds_nothing under.moves ≡ false)
+    first-busy-under accounts new after due =
+        subst (λ (sinks : List (Option Receiver)). (under : IsUnderway g code pattern window before after (relays_of (after_puts new)) sinks)
+        × (list_any finds_nothing under.moves ≡ false))
         (sym (same-sinks stations place station is new))
         (underway-first g code pattern window accounts (relays_of stations) (sinks_of stations) starts station.node new at_source due.puts.packets
-        due.puts.given due.none (relays_of (after_puts new)) (replaced new) before after quiet due.puts.calls)
+        due.puts.given due.none (relays_of (after_puts new)) (replaced new) before after quiet due.puts.calls, puts-busy due.puts.packets)
+
+    pub first-under : Account g → (new : Relay) (after : L) → PutsDue g before after station.node new
+        → IsUnderway g code pattern window before after (relays_of (after_puts new)) (sinks_of (after_puts new))
+    first-under accounts new after due = (first-busy-under accounts new after due).0
+
+    -- none of it is a take
+    pub first-busy : (accounts : Account g) (new : Relay) (after : L) (due : PutsDue g before after station.node new)
+        → list_any finds_nothing (first-under accounts new after due).moves ≡ false
+    first-busy accounts new after due = (first-busy-under accounts new after due).1
 
     -- and the stations keep their plans
     pub first-planned : Account g → (new : Relay) (after : L) → PutsDue g before after station.node new
@@ -124,6 +139,7 @@ module _ {L : Type 0} (g : LinksGhosts L) {F : Type 0} (code : Code) (pattern : 
         work = record { code = refl; pattern = refl; first = refl; count = refl; next = refl };
         can = subst CanStart (sym view) can;
         under = λ window starts. first-under window starts accounts new after due;
+        busy = λ window starts. first-busy window starts accounts new after due;
       })
 
 -- what is said of the code and the pattern of a runner, said of those with which it began
@@ -176,6 +192,8 @@ module _ {L : Type 0} (g : LinksGhosts L) (start now : Running) (before mid : L)
           under = λ window starts.
               underway-more g start.code start.pattern window accounts joins before mid after now.relays now.sinks next.relays next.sinks
               (way.under window starts) (step window starts);
+          busy = λ window starts.
+              still-busy (way.under window starts).moves _ (way.busy window starts) (puts-busy (step window starts).more);
         }
 
     -- and what is left to be done is less
@@ -219,7 +237,7 @@ module _ {L : Type 0} (g : LinksGhosts L) (start now : Running) (before mid : L)
       let follows = (accounts (took_none ∷ []) mid after none).follows in
       let still_quiet : g.flying after ≡ [] = ap (λ (held : InFlight). held.flying) follows.2 ∙ follows.1.1.same_flying ∙ quiet in
       subst (λ (runner : Running). Carries g start.code start.pattern window before after runner.relays runner.sinks) (sym same)
-      (carries g start.code start.pattern window before after now.relays now.sinks ended.0 under.moves ended.1 still_quiet)
+      (carries g start.code start.pattern window before after now.relays now.sinks ended.0 under.moves ended.1 (way.busy window starts) still_quiet)
 
 -- a runner that has carried the window of its first number and its count
 pub has-carried : {L : Type 0} (g : LinksGhosts L) (start now : Running) → IsSameWork start now → (window : Window) → start.first ≡ window.first

@@ -36,7 +36,7 @@ pub record IsReadySource (code : Code) (from many : ℕ) (relay : Relay) : Type 
   pub size : code.rate * row_bytes ≡ relay.plan.rate * row_bytes
 
 -- as many blocks as the window has
-window-count : (code : Code) (first : ℕ) (blocks : List ℕ) → length (window_from code first blocks).blocks ≡ count_in code blocks
+pub window-count : (code : Code) (first : ℕ) (blocks : List ℕ) → length (window_from code first blocks).blocks ≡ count_in code blocks
 window-count code first blocks = length-map-range_with_len (block_of (code.rate * row_bytes) blocks) 0 (count_in code blocks)
 
 -- the blocks are a window of the code

@@ -1,5 +1,6 @@
 -- Calls on links that are a run of a window: how they begin, how they go on, and what they are where they end.
-use Rattle.std.specs.Prelude.{◌≡◌, ◌++◌, ◌∷◌, ℕ, true, IsPermutation, List, [], Option, Some, length, map, slice_get}
+use Rattle.std.specs.Prelude.{◌≡◌, ◌++◌, ◌∷◌, ℕ, true, false, IsPermutation, List, [], Option, Some, length, map, slice_get}
+use Rattle.std.specs.List.{list_any}
 use Rattle.std.proofs.Common.{◌∙◌, ap, refl, subst, sym}
 use Rattle.std.proofs.lemmas.List.{append-nil, append_assoc, map-append, nil_from_length}
 use Rattle.std.proofs.lemmas.List.Elements.{All-nil, All-push}
@@ -30,7 +31,7 @@ use Rattle.relay_runner.proofs.GivenLaws.{packets_in-given, run-fit}
 use Rattle.relay_runner.proofs.OpeningLaws.{opened}
 use Rattle.relay_runner.proofs.WellLaws.{puts-well, still-well}
 use Rattle.relay_runner.specs.Carried.{IsStopped, packets_given}
-use Rattle.relay_runner.specs.Carrying.{Carries, IsUnderway}
+use Rattle.relay_runner.specs.Carrying.{Carries, IsUnderway, finds_nothing}
 use Rattle.relay_runner.specs.Delivered.{packet_given}
 use Rattle.relay_runner.specs.Running.{HasCarried, IsRunning, Running, Starts}
 use Rattle.relay_runner.specs.Showing.{packets_in}
@@ -77,8 +78,9 @@ has_carried g runner window same_first same_count before now carries =
 module _ {L : Type 0} (g : LinksGhosts L) (code : Code) (pattern : ℕ) (window : Window) where
   -- calls that are a run, of which the last found nothing, and after which nothing flies, carry the window
   pub carries : (before now : L) (relays : List Relay) (sinks : List (Option Receiver)) (under : IsUnderway g code pattern window before now relays sinks)
-      → (front : List Move) → under.moves ≡ front ++ took_none ∷ [] → g.flying now ≡ [] → Carries g code pattern window before now relays sinks
-  carries before now relays sinks under front ended quiet =
+      → (front : List Move) → under.moves ≡ front ++ took_none ∷ [] → list_any finds_nothing front ≡ false → g.flying now ≡ []
+      → Carries g code pattern window before now relays sinks
+  carries before now relays sinks under front ended found quiet =
       let none : under.state.flying ≡ [] =
       none-permuted under.state.flying (packets_in (g.flying now)) under.running.shown.flies (ap packets_in quiet) in
       let reaches = run-reaches code pattern window under.run under.state under.running.is_window.blocks under.running.is_run in
@@ -88,6 +90,7 @@ module _ {L : Type 0} (g : LinksGhosts L) (code : Code) (pattern : ℕ) (window 
         carried = under;
         front = front;
         ended = ended;
+        found = found;
         quiet = quiet;
         reaches = reaches;
         held = first-held code pattern under.run (opening code pattern window) under.state under.running.is_run;

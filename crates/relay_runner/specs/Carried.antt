@@ -1,5 +1,5 @@
 -- Blocks that are carried over links, told by the calls on the links alone, whatever these gave and in whatever order.
-use Rattle.std.specs.Prelude.{◌≡◌, ◌<◌, ◌≤◌, ◌+◌, ◌↔◌, ℕ, Bool, true, false, IsPermutation, List, [], ◌∷◌, ◌++◌, length, map}
+use Rattle.std.specs.Prelude.{◌≡◌, ◌<◌, ◌≤◌, ◌+◌, ◌↔◌, ℕ, Bool, true, false, IsPermutation, List, [], ◌∷◌, ◌++◌, count_by, length, map}
 use Rattle.std.specs.List.{list_any}
 use Rattle.coded_traffic.specs.Traffic.{IsKey, Key, Window, block_at, traffic_of}
 use Rattle.generation_frame.specs.declared.frame.Packet.{Packet}
@@ -11,6 +11,7 @@ use Rattle.node_stations.specs.Opening.{demand_of}
 use Rattle.node_stations.specs.Putting.{flight_of}
 use Rattle.relay_core.specs.Core.{Delivery, RelayState, has_key, held_of, times_of}
 use Rattle.relay_core.specs.Runs.{AreRelayed}
+use Rattle.relay_runner.specs.Carrying.{finds_nothing}
 use Rattle.relay_runner.specs.Delivered.{packet_given}
 use Rattle.relay_runner.specs.Running.{IsRunning, Running}
 use Rattle.relay_runner.specs.Showing.{packets_in}
@@ -24,11 +25,12 @@ packets_given moves = packets_in (flights_given moves)
 -- no other did; what was put on a link that leaves the source is of the traffic, and on another the sum of what came. By
 -- faithful links the pairs put are the traffic, and what came decodes to the blocks at each sink.
 pub record IsCarried (faithful : Bool) (code : Code) (pattern : ℕ) (window : Window) (moves : List Move) : Type 0 where
-  -- the links weren't opened, no call failed, and the last take found nothing
+  -- the links weren't opened, no call failed, the last take found nothing, and at most one did for each block
   pub closed : list_any is_open moves ≡ false
   pub well : list_any is_fault moves ≡ false
   pub front : List Move
   pub ended : moves ≡ front ++ took_none ∷ []
+  pub few_empty : count_by finds_nothing moves ≤ length window.blocks
   -- what was put, and what came
   pub packets : List Packet
   pub puts : IsPermutation (map flight_of packets) (pairs_put moves)

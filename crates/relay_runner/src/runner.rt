@@ -72,8 +72,8 @@ impl<'c, F: Field> Runner<'c, F> {
     ghost use Rattle.relay_runner.specs.Running.{AreBlocks, CanStart, HasCarried, IsRunning, StandAt, Starts, count_in, window_from};
     ghost use Rattle.relay_runner.specs.Stepping.{Steps, StopsStepping};
 
-    /// A runner of a code under a pattern. It takes all memory that the work needs, and opens the links with the number
-    /// given and room for the frames of a window of 4 generations. `F` is the code's field.
+    /// A runner of a code under a pattern, to which nothing came. It takes all memory that the work needs, and opens the
+    /// links with the number given and room for the frames of a window of 4 generations. `F` is the code's field.
     pub fn open<K: Links>(
         alloc: Global,
         code: &'c Checked,
@@ -88,6 +88,8 @@ impl<'c, F: Field> Runner<'c, F> {
         ensures pattern { IfOk result (λ runner. runner.pattern ≡ pattern) }
         ensures next { IfOk result (λ runner. runner.next ≡ 0) }
         ensures works { IfOk result (λ runner. runner.has_failed ≡ false) }
+        ensures stand { IfOk result
+            (λ runner. StandAt code.now pattern runner.relays runner.sinks []) }
         ensures opened { OnOk result (K.moves (opened seed (room_for code.now) ∷ [])
             links.old links.new) }
         ensures refused { OnErr result (IsRefused K.moves seed

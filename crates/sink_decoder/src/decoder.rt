@@ -73,6 +73,7 @@ impl<F: Field> Decoder<F> {
         requires field { IsOfKind code.now.field F.SIZE F.BYTES F.MARK F.product }
         ensures plan { IfOk result
             (λ sink. sink.plan ≡ sink_plan_of code.now (number_of code.now.net demand)) }
+        ensures first { IfOk result (λ sink. sink.first ≡ 0) }
         ensures count { IfOk result (λ sink. sink.count ≡ 0) }
     {
         let live = live_links(alloc, code.code(), demand.pattern)?;
@@ -97,6 +98,7 @@ impl<F: Field> Decoder<F> {
             → slice_get live.now e ≡ Some (is_live_in code.now demand.pattern e) }
         ensures plan { IfOk result
             (λ sink. sink.plan ≡ sink_plan_of code.now (number_of code.now.net demand)) }
+        ensures first { IfOk result (λ sink. sink.first ≡ 0) }
         ensures count { IfOk result (λ sink. sink.count ≡ 0) }
     {
         let code = code.code();

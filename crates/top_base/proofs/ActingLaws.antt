@@ -14,7 +14,7 @@ use Rattle.lif_outside.proofs.FaultLaws.{HaveFailed, failed-append}
 use Rattle.lif_outside.specs.Files.{Files}
 use Rattle.lif_outside.specs.Moves as moves
 use Rattle.lif_outside.specs.Told.{Told}
-use Rattle.top_base.specs.Acting.{Due, DueAfter, LeavesUnread, Runs, RunsAfter}
+use Rattle.top_base.specs.Acting.{Due, DueAfter, LeavesUnread, Owed, OwedAfter, Runs, RunsAfter}
 use Rattle.top_base.specs.Inputs.{HoldsInput, Loses, Reads, is_lost}
 use Rattle.top_base.proofs.InputLaws.{AreAlikeResults, IsInput, IsOfInputs, alike_results, loses-failed, loses-line, loses-lost, loses-rose, reads-held, reads-keep, reads-unfailed}
 use Rattle.top_base.proofs.LeavingLaws.{KeepAll, follow_later, happen_parts, keep_files, later_among, told_at, told_both}
@@ -85,12 +85,13 @@ module _ {X : Type 0} (limit : ℕ) (Is : List ℕ → X → Type 0) (Refuses : 
     holds = (Ok x, record { first = one.made; later = other.calls.on_store; events_are = refl; holds_first = one.holds; holds_later = other.holds });
   }
 
-  module _ (Acts : X → Outcome → Calls → Type 0) (DueOf : X → Files → Outcome → Type 0) (Changes : Outcome → Outside → Outside → Type 0) (NoFault : Outside → Outside → Type 0) where
+  module _ (Acts : X → Outcome → Calls → Type 0) (OwedOf : X → Files → Status → Type 0) (DueOf : X → Files → Outcome → Type 0) (Changes : Outcome → Outside → Outside → Type 0)
+      (NoFault : Outside → Outside → Type 0) where
     abbrev pub acts : Behaviour
     acts = record {
       runs = Runs limit Is Refuses Acts path;
       changes = Changes;
-      due = by_files (Due limit Is Refuses DueOf path);
+      due = by_files (Owed limit Is Refuses OwedOf path) (Due limit Is Refuses DueOf path);
       no_fault = NoFault;
     }
 
@@ -103,7 +104,7 @@ module _ {X : Type 0} (limit : ℕ) (Is : List ℕ → X → Type 0) (Refuses : 
       pub lines : (x : X) (outcome : Outcome) (calls : Calls) → Acts x outcome calls → IsFalse (is_of_inputs outcome.status) → outcome.line ≡ fault_line outcome.status
       pub causes : (x : X) (outcome : Outcome) (calls : Calls) → Acts x outcome calls → HaveFailedBy outcome.status calls
       pub used : (x : X) (outcome : Outcome) (calls : Calls) → Acts x outcome calls → outcome.status ≢ Usage
-      pub alike : (x : X) (files : Files) (one other : Outcome) → DueOf x files one → DueOf x files other → AreAlike one.status other.status
+      pub alike : (x : X) (files : Files) (due : Outcome) (owed : Status) → DueOf x files due → OwedOf x files owed → AreAlike due.status owed
       pub lost : (outcome : Outcome) (before after : Outside) → IsTrue (is_lost outcome.status) → LeavesUnread path outcome.status before after → Changes outcome before after
       pub faultless : (outcome : Outcome) (files : Files) (before after : Outside) → before.files ≡ Some files → Changes outcome before after → NoFault before after → IsFalse (is_fault outcome.status)
 
@@ -192,14 +193,14 @@ module _ {X : Type 0} (limit : ℕ) (Is : List ℕ → X → Type 0) (Refuses : 
                 ∙ sym (lost_unlinked refused.status (loses-lost limit Is Refuses input path refused.status refused.line calls.on_store lost));
           })
 
-      -- one status is due at most
-      alike_after : (files : Files) (one other : Result X Outcome) (outcome outcome' : Outcome) → AreAlikeResults limit Is Refuses one other → DueAfter limit Is Refuses DueOf files one outcome
-          → DueAfter limit Is Refuses DueOf files other outcome' → AreAlike outcome.status outcome'.status
-      alike_after files (Ok x) (Ok y) outcome outcome' same due due' = well.alike y files outcome outcome' (subst (λ x. DueOf x files outcome) same due) due'
-      alike_after files (Ok x) (Err refused) outcome outcome' same due due' = absurd same
-      alike_after files (Err refused) (Ok y) outcome outcome' same due due' = absurd same
-      alike_after files (Err refused) (Err refused') outcome outcome' same due due' =
-          ap (λ (o : Outcome). any_cycle o.status) due ∙ same ∙ ap (λ (o : Outcome). any_cycle o.status) (sym due')
+      -- what is due has the status that is owed
+      alike_after : (files : Files) (one other : Result X Outcome) (due : Outcome) (owed : Status) → AreAlikeResults limit Is Refuses one other → DueAfter limit Is Refuses DueOf files one due
+          → OwedAfter limit Is Refuses OwedOf files other owed → AreAlike due.status owed
+      alike_after files (Ok x) (Ok y) due owed same is is_owed = well.alike y files due owed (subst (λ x. DueOf x files due) same is) is_owed
+      alike_after files (Ok x) (Err refused) due owed same is is_owed = absurd same
+      alike_after files (Err refused) (Ok y) due owed same is is_owed = absurd same
+      alike_after files (Err refused) (Err refused') due owed same is is_owed =
+          ap (λ (o : Outcome). any_cycle o.status) is ∙ same ∙ ap any_cycle (sym is_owed)
 
       -- what has to be known of the command
       pub acts_known : IsKnown acts
@@ -208,8 +209,8 @@ module _ {X : Type 0} (limit : ℕ) (Is : List ℕ → X → Type 0) (Refuses : 
         due = due;
         lines = lines;
         causes = causes;
-        alike = λ files one other due due'. alike_after files due.0 due'.0 one other (alike_results limit Is Refuses input (files path) due.0 due'.0 due.1 due'.1) due.2 due'.2;
-        faultless = λ expected outcome calls before after due runs change no_fault. well.faultless outcome due.0 before after due.1 change no_fault;
+        alike = λ files due owed is is_owed. alike_after files is.0 is_owed.0 due owed (alike_results limit Is Refuses input (files path) is.0 is_owed.0 is.1 is_owed.1) is.2 is_owed.2;
+        faultless = λ owed outcome calls before after is_owed runs change no_fault. well.faultless outcome is_owed.0 before after is_owed.1 change no_fault;
       }
 
       -- the words were a form

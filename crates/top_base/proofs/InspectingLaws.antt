@@ -31,29 +31,29 @@ faultless path WriteFault before after left well = absurd left
 faultless path LinkFault before after left well = absurd left
 faultless path status before after left well = refl
 
-module _ {X : Type 0} (limit : ℕ) (Is : List ℕ → X → Type 0) (Refuses : List ℕ → Status → List ℕ → Type 0) (Ends : X → Outcome → Type 0) where
+module _ {X : Type 0} (limit : ℕ) (Is : List ℕ → X → Type 0) (Refuses : List ℕ → Status → List ℕ → Type 0) (Ends : X → Outcome → Type 0) (Owes : X → Status → Type 0) where
   -- the calls of such a command, where the input was had: it finds something, or there is no memory; and where it wasn't had
   module _ {S : Type 0} {calls : List Event → S → S → Type 0} {a b : S} (path : List ℕ) where
     pub inspects_had : (x : X) (outcome : Outcome) → ByCalls calls a b (Reads limit Is Refuses path (Ok x)) → Ends x outcome ⊎ IsNoMemory outcome
-        → ByCalls calls a b (λ events. (inspects limit Is Refuses Ends path).runs outcome (store_calls events))
+        → ByCalls calls a b (λ events. (inspects limit Is Refuses Ends Owes path).runs outcome (store_calls events))
     inspects_had x outcome by found =
-        let only = runs_only limit Is Refuses path (Finds limit Is Refuses Ends) in
+        let only = runs_only limit Is Refuses path (Finds limit Is Refuses Ends Owes) in
         calls_weaker _ _ by (λ made reads. ⊎_elim
         (λ ends. only (Ok x) outcome made reads (ends, refl))
         (λ lost. only (Err outcome) outcome made (forgotten limit Is Refuses path x made outcome reads lost) (refl, refl))
         found)
 
-    pub inspects_lost : (outcome : Outcome) → ByCalls calls a b (Reads limit Is Refuses path (Err outcome)) → ByCalls calls a b (λ events. (inspects limit Is Refuses Ends path).runs outcome (store_calls events))
-    inspects_lost outcome by = runs_lost limit Is Refuses path (Finds limit Is Refuses Ends) outcome by
+    pub inspects_lost : (outcome : Outcome) → ByCalls calls a b (Reads limit Is Refuses path (Err outcome)) → ByCalls calls a b (λ events. (inspects limit Is Refuses Ends Owes path).runs outcome (store_calls events))
+    inspects_lost outcome by = runs_lost limit Is Refuses path (Finds limit Is Refuses Ends Owes) outcome by
 
-  -- what has to be known of its outcomes: the status comes of the inputs, the words were a form, and there is one status
+  -- what has to be known of its outcomes: the status comes of the inputs, the words were a form, and it is the one that is owed
   pub record EndsWell : Type 0 where
     pub of_inputs : (x : X) (outcome : Outcome) → Ends x outcome → IsTrue (is_of_inputs outcome.status)
     pub used : (x : X) (outcome : Outcome) → Ends x outcome → outcome.status ≢ Usage
-    pub alike : (x : X) (one other : Outcome) → Ends x one → Ends x other → AreAlike one.status other.status
+    pub alike : (x : X) (outcome : Outcome) (owed : Status) → Ends x outcome → Owes x owed → AreAlike outcome.status owed
 
   module _ (input : IsInput limit Is Refuses) (well : EndsWell) (path : List ℕ) where
-    finds_well : ActsWell limit Is Refuses path (Finds limit Is Refuses Ends) (λ x files. Ends x) (λ outcome. LeavesUnread path outcome.status) (ReadsWell path)
+    finds_well : ActsWell limit Is Refuses path (Finds limit Is Refuses Ends Owes) (λ x files. Owes x) (λ x files. Ends x) (λ outcome. LeavesUnread path outcome.status) (ReadsWell path)
     finds_well = record {
       changes = λ x outcome deeds before after accounted held runs.
           unchanged path outcome.status before after (well.of_inputs x outcome runs.0)
@@ -68,9 +68,9 @@ module _ {X : Type 0} (limit : ℕ) (Is : List ℕ → X → Type 0) (Refuses : 
     }
 
     -- what has to be known of the command
-    pub inspects_known : IsKnown (inspects limit Is Refuses Ends path)
-    inspects_known = acts_known limit Is Refuses path _ _ _ _ input finds_well
+    pub inspects_known : IsKnown (inspects limit Is Refuses Ends Owes path)
+    inspects_known = acts_known limit Is Refuses path _ _ _ _ _ input finds_well
 
     -- the words were a form
-    pub inspects_used : (outcome : Outcome) (calls : Calls) → (inspects limit Is Refuses Ends path).runs outcome calls → outcome.status ≢ Usage
-    inspects_used = acts_used limit Is Refuses path _ _ _ _ input finds_well
+    pub inspects_used : (outcome : Outcome) (calls : Calls) → (inspects limit Is Refuses Ends Owes path).runs outcome calls → outcome.status ≢ Usage
+    inspects_used = acts_used limit Is Refuses path _ _ _ _ _ input finds_well

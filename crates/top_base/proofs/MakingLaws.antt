@@ -21,7 +21,7 @@ use Rattle.top_base.proofs.ActingLaws.{ActsWell, acts_known, acts_used}
 use Rattle.top_base.specs.Inputs.{HoldsInput, is_lost}
 use Rattle.top_base.proofs.InputLaws.{IsInput}
 use Rattle.top_base.proofs.LeavingLaws.{keep_files, none_keep, told_any}
-use Rattle.top_base.specs.Making.{ChangesMaking, DueMaking, DueOf, LeavesMade, LeavesPart, RunsMaking, WorksWell, Writes, makes_by, makes_files, shares}
+use Rattle.top_base.specs.Making.{ChangesMaking, DueMaking, DueOf, LeavesMade, LeavesPart, OwedOf, RunsMaking, WorksWell, Writes, makes_by, makes_files, shares}
 use Rattle.top_base.specs.Outcome.{AreAlike, fault_line, is_fault, is_of_inputs}
 use Rattle.top_base.proofs.PathLaws.{clear_distinct}
 use Rattle.top_base.specs.Paths.{shared_path}
@@ -144,7 +144,8 @@ module _ {X : Type 0} (limit : ℕ) (Is : List ℕ → X → Type 0) (Refuses : 
       faultless LinkFault line before after change works = absurd change
       faultless status line before after change works = refl
 
-      makes_well : ActsWell limit Is Refuses path (Writes limit Is Refuses Makes CanMake Declines) (DueOf limit Is Refuses Makes CanMake Declines)
+      makes_well : ActsWell limit Is Refuses path (Writes limit Is Refuses Makes CanMake Declines) (OwedOf limit Is Refuses Makes CanMake Declines)
+          (DueOf limit Is Refuses Makes CanMake Declines)
           (λ outcome. ChangesMaking limit Is Refuses Makes CanMake Declines path outputs outcome.status outcome.line) (WorksWell limit Is Refuses Makes CanMake Declines path outputs)
       makes_well = record {
         changes = λ x outcome deeds before after accounted held runs. changes x deeds before after accounted held outcome.status outcome.line runs.0;
@@ -153,7 +154,7 @@ module _ {X : Type 0} (limit : ℕ) (Is : List ℕ → X → Type 0) (Refuses : 
         lines = λ x outcome calls runs not. line_of x outcome.status outcome.line calls.on_store runs.0 not;
         causes = λ x outcome calls runs. causes x outcome.status outcome.line calls runs.0 runs.1;
         used = λ x outcome calls runs. used_of x outcome.status outcome.line calls.on_store runs.0;
-        alike = λ x files one other. well.alike x one.status one.line other.status other.line;
+        alike = λ x files due owed is is_owed. well.alike x due.status due.line owed is_owed.0 is is_owed.1;
         lost = λ outcome before after. lost outcome.status outcome.line before after;
         faultless = λ outcome files before after told. faultless outcome.status outcome.line before after;
       }
@@ -161,12 +162,12 @@ module _ {X : Type 0} (limit : ℕ) (Is : List ℕ → X → Type 0) (Refuses : 
     -- what has to be known of the command, where a path is shared and where none is
     known_by : (input : IsInput limit Is Refuses) (shared : Option (List ℕ)) → shared_path (path ∷ []) outputs ≡ shared → IsKnown (makes_by limit Is Refuses Makes CanMake Declines path outputs shared)
     known_by input (Some shared) is = at_once_known (shares shared) refl (λ not. absurd (false≢true (sym not)))
-    known_by input None is = acts_known limit Is Refuses path _ _ _ _ input (makes_well is)
+    known_by input None is = acts_known limit Is Refuses path _ _ _ _ _ input (makes_well is)
 
     used_by : (input : IsInput limit Is Refuses) (shared : Option (List ℕ)) → shared_path (path ∷ []) outputs ≡ shared → (outcome : Outcome) (calls : Calls)
         → (makes_by limit Is Refuses Makes CanMake Declines path outputs shared).runs outcome calls → outcome.status ≢ Usage
     used_by input (Some shared) is outcome calls runs usage = let both : SamePath ≡ Usage = sym (ap (λ (o : Outcome). o.status) runs.0) ∙ usage in cc
-    used_by input None is outcome calls runs usage = acts_used limit Is Refuses path _ _ _ _ input (makes_well is) outcome calls runs usage
+    used_by input None is outcome calls runs usage = acts_used limit Is Refuses path _ _ _ _ _ input (makes_well is) outcome calls runs usage
 
     pub makes_known : IsInput limit Is Refuses → IsKnown (makes_files limit Is Refuses Makes CanMake Declines path outputs)
     makes_known input = known_by input (shared_path (path ∷ []) outputs) refl

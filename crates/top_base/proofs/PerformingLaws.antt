@@ -22,7 +22,7 @@ use Rattle.lif_outside.specs.ToldLaws.{becomes_weaker}
 use Rattle.top_base.specs.Causes.{HasCauses}
 use Rattle.top_base.proofs.LeavingLaws.{keep_files, none_keep}
 use Rattle.top_base.specs.Outcome.{AddsOutcome, AreAlike, Concludes, SaysOutcome, SaysWell, any_cycle, fault_line, is_fault, is_of_inputs, status_unsaid}
-use Rattle.top_base.specs.Performs.{Answers, Behaviour, Decision, IsDue, IsDueAsTold, Leaves, Performs, RunsOn, RunsOnStore, at_once, by_files, by_words}
+use Rattle.top_base.specs.Performs.{Answers, Behaviour, Decision, IsDueAsTold, IsOwed, Leaves, Performs, RunsOn, RunsOnStore, at_once, by_files, by_words}
 use Rattle.top_base.specs.declared.outcome.Outcome.{Outcome}
 use Rattle.top_base.specs.declared.status.Status.{Status}
 use Rattle.top_base.specs.declared.status.Status.TheVariants.{Done, NetRefused, ReadFault, WriteFault, OutOfMemory, LinkFault}
@@ -173,18 +173,19 @@ no_memory_undone status e done = cc
 pub known : (told : Option Files) (files : Files) (P : Files → Type 0) → told ≡ Some files → Told told P → P files
 known told files P e holds = subst (λ o. Told o P) e holds
 
--- one status is due at most
+-- what is due has the status that is owed
 abbrev pub AreAlikeDue : Decision → Type 0
-AreAlikeDue (by_words Due) = (one other : Outcome) → Due one → Due other → AreAlike one.status other.status
-AreAlikeDue (by_files Due) = (files : Files) (one other : Outcome) → Due files one → Due files other → AreAlike one.status other.status
+AreAlikeDue (by_words Owed Due) = (due : Outcome) (owed : Status) → Due due → Owed owed → AreAlike due.status owed
+AreAlikeDue (by_files Owed Due) = (files : Files) (due : Outcome) (owed : Status) → Due files due → Owed files owed → AreAlike due.status owed
 
-due_alike : (due : Decision) (told : Option Files) (one other : Outcome) → AreAlikeDue due → IsDueAsTold due told one → IsDue due told other → AreAlike one.status other.status
-due_alike (by_words Due) told one other alike was is = alike one other was is
-due_alike (by_files Due) told one other alike was is = alike is.0 one other (known told is.0 (λ files. Due files one) is.1 was) is.2
+due_alike : (decision : Decision) (told : Option Files) (due : Outcome) (owed : Status) → AreAlikeDue decision → IsDueAsTold decision told due
+    → IsOwed decision told owed → AreAlike due.status owed
+due_alike (by_words Owed Due) told due owed alike was is = alike due owed was is
+due_alike (by_files Owed Due) told due owed alike was is = alike is.0 due owed (known told is.0 (λ files. Due files due) is.1 was) is.2
 
 -- What has to be known of a command: what its outcomes change, which is due, the line of each, where the inputs don't decide
--- it, which calls of each have failed, that one status is due at most, and that no outcome of a fault comes where there is
--- none.
+-- it, which calls of each have failed, that what is due has the status that is owed, and that no outcome of a fault comes where there
+-- is none.
 pub record IsKnown (command : Behaviour) : Type 0 where
   pub changes : (outcome : Outcome) (deeds : Deeds) (before after : Outside) → Accounted deeds before after → command.runs outcome deeds.calls → command.changes outcome before after
   pub due : (outcome : Outcome) (deeds : Deeds) (before after : Outside) → Accounted deeds before after → command.runs outcome deeds.calls → IsTrue (is_of_inputs outcome.status)
@@ -192,7 +193,7 @@ pub record IsKnown (command : Behaviour) : Type 0 where
   pub lines : (outcome : Outcome) (calls : Calls) → command.runs outcome calls → IsFalse (is_of_inputs outcome.status) → outcome.line ≡ fault_line outcome.status
   pub causes : (outcome : Outcome) (calls : Calls) → command.runs outcome calls → HaveFailedBy outcome.status calls
   pub alike : AreAlikeDue command.due
-  pub faultless : (expected outcome : Outcome) (calls : Calls) (before after : Outside) → IsDue command.due before.files expected → command.runs outcome calls → command.changes outcome before after
+  pub faultless : (owed : Status) (outcome : Outcome) (calls : Calls) (before after : Outside) → IsOwed command.due before.files owed → command.runs outcome calls → command.changes outcome before after
       → command.no_fault before after → IsFalse (is_fault outcome.status)
 
 module _ (command : Behaviour) (of_command : IsKnown command) where
@@ -211,19 +212,19 @@ module _ (command : Behaviour) (of_command : IsKnown command) where
       says = says;
     }
 
-    -- the status that is due, where it's alike the command's
-    due_comes : (expected : Outcome) → AreAlike is.outcome.status expected.status → (expected.status ≡ Done → SaysWell before after) → AreAlike status expected.status
-    due_comes expected alike well =
-        ap any_cycle (said_status is.outcome status before after (λ done. well (done_alike expected.status (sym alike ∙ ap any_cycle done))) says) ∙ alike
+    -- the status that is owed, where it's alike the command's
+    owed_comes : (owed : Status) → AreAlike is.outcome.status owed → (owed ≡ Done → SaysWell before after) → AreAlike status owed
+    owed_comes owed alike well =
+        ap any_cycle (said_status is.outcome status before after (λ done. well (done_alike owed (sym alike ∙ ap any_cycle done))) says) ∙ alike
 
     -- which status comes
     answers : Answers command status before after
     unfolding leaves
-    answers expected due no_fault well =
-        let faultless = of_command.faultless expected is.outcome deeds.calls before after due is.runs leaves.changes no_fault in
+    answers owed is_owed no_fault well =
+        let faultless = of_command.faultless owed is.outcome deeds.calls before after is_owed is.runs leaves.changes no_fault in
         ⊎_elim
         (λ no_memory. inr (said_status is.outcome status before after (λ done. absurd (no_memory_undone is.outcome.status no_memory done)) says ∙ no_memory))
-        (λ inputs. inl (due_comes expected (due_alike command.due before.files is.outcome expected of_command.alike (leaves.due inputs) due) well))
+        (λ inputs. inl (owed_comes owed (due_alike command.due before.files is.outcome owed of_command.alike (leaves.due inputs) is_owed) well))
         (of_inputs is.outcome.status faultless)
 
     -- which calls the statuses of faults come from
@@ -255,8 +256,8 @@ at_once_known expected no_fault line = record {
   due = λ outcome deeds before after accounted runs inputs. runs.0;
   lines = λ outcome calls runs not. subst (λ (o : Outcome). o.line ≡ fault_line o.status) (sym runs.0) (line (subst (λ (o : Outcome). IsFalse (is_of_inputs o.status)) runs.0 not));
   causes = λ outcome calls runs. subst (λ (o : Outcome). HaveFailedBy o.status calls) (sym runs.0) (none_failed-by expected.status calls no_fault runs.1);
-  alike = λ one other is is'. ap (λ (o : Outcome). any_cycle o.status) (is ∙ sym is');
-  faultless = λ due outcome calls before after is runs change well. subst (λ (o : Outcome). IsFalse (is_fault o.status)) (sym runs.0) no_fault;
+  alike = λ due owed is is'. ap (λ (o : Outcome). any_cycle o.status) is ∙ sym (ap any_cycle is');
+  faultless = λ owed outcome calls before after is runs change well. subst (λ (o : Outcome). IsFalse (is_fault o.status)) (sym runs.0) no_fault;
 }
 
 -- what runs on the store alone runs on links too, with no call on these

@@ -26,7 +26,15 @@ module _ {X : Type 0} (limit : ℕ) (Is : List ℕ → X → Type 0) (Refuses : 
   abbrev pub Runs : (X → Outcome → Calls → Type 0) → List ℕ → Outcome → Calls → Type 0
   Runs Acts path outcome calls = (result : Result X Outcome) × Begins (Reads limit Is Refuses path result) (RunsAfter Acts result outcome) calls
 
-  -- what is due, by what is due of what the input's file holds
+  -- what is owed, by what is owed of what the input's file holds
+  abbrev pub OwedAfter : (X → Files → Status → Type 0) → Files → Result X Outcome → Status → Type 0
+  OwedAfter OwedOf files (Ok x) status = OwedOf x files status
+  OwedAfter OwedOf files (Err refused) status = status ≡ refused.status
+
+  abbrev pub Owed : (X → Files → Status → Type 0) → List ℕ → Files → Status → Type 0
+  Owed OwedOf path files status = (result : Result X Outcome) × HoldsInput limit Is Refuses (files path) result × OwedAfter OwedOf files result status
+
+  -- and what is due, by what is due of it
   abbrev pub DueAfter : (X → Files → Outcome → Type 0) → Files → Result X Outcome → Outcome → Type 0
   DueAfter DueOf files (Ok x) outcome = DueOf x files outcome
   DueAfter DueOf files (Err refused) outcome = outcome ≡ refused

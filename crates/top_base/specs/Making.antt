@@ -9,7 +9,7 @@ use Rattle.lif_outside.specs.FileCalls.{StopsWithin, Written}
 use Rattle.lif_outside.specs.Sequences.{Are}
 use Rattle.lif_outside.specs.Told.{Becomes, Told}
 use Rattle.lif_outside.specs.Writes.{WritesFiles, WritesPart, writes_of}
-use Rattle.top_base.specs.Acting.{Due, LeavesUnread, Runs}
+use Rattle.top_base.specs.Acting.{Due, LeavesUnread, Owed, Runs}
 use Rattle.top_base.specs.Inputs.{HoldsInput}
 use Rattle.top_base.specs.Lines.{out_of_memory_line, same_path_line, write_fault_line}
 use Rattle.top_base.specs.Paths.{shared_path}
@@ -44,6 +44,10 @@ module _ {X : Type 0} (limit : ℕ) (Is : List ℕ → X → Type 0) (Refuses : 
 
   abbrev pub DueOf : X → Files → Outcome → Type 0
   DueOf x files outcome = DueMaking x outcome.status outcome.line
+
+  -- and what is owed: the status of what is due
+  abbrev pub OwedOf : X → Files → Status → Type 0
+  OwedOf x files status = (line : List ℕ) × DueMaking x status line
 
   module _ (path : List ℕ) (outputs : List (List ℕ)) where
     -- each file holds what was made of the input
@@ -83,7 +87,7 @@ module _ {X : Type 0} (limit : ℕ) (Is : List ℕ → X → Type 0) (Refuses : 
     makes_by None = record {
       runs = Runs limit Is Refuses Writes path;
       changes = λ outcome. ChangesMaking outcome.status outcome.line;
-      due = by_files (Due limit Is Refuses DueOf path);
+      due = by_files (Owed limit Is Refuses OwedOf path) (Due limit Is Refuses DueOf path);
       no_fault = WorksWell;
     }
 

@@ -12,20 +12,21 @@ use Rattle.top_base.specs.declared.outcome.Outcome.{Outcome}
 use Rattle.top_base.specs.declared.status.Status.{Status}
 use Rattle.top_base.specs.declared.status.Status.TheVariants.{Done, OutOfMemory}
 
--- What decides which outcome is due, memory and faults aside: the words alone, or what the files hold.
+-- What decides which status is owed, memory and faults aside, and which outcome is due: the words alone, or what the files hold.
+-- A status is owed by words and files alone; a due outcome has what is said too, which may be one of several.
 pub data Decision : Type 1 where
-  by_words : (Due : Outcome → Type 0) → Decision
-  by_files : (Due : Files → Outcome → Type 0) → Decision
+  by_words : (Owed : Status → Type 0) → (Due : Outcome → Type 0) → Decision
+  by_files : (Owed : Files → Status → Type 0) → (Due : Files → Outcome → Type 0) → Decision
 
--- an outcome is due; where the files decide it, they are told
-abbrev pub IsDue : Decision → Option Files → Outcome → Type 0
-IsDue (by_words Due) told outcome = Due outcome
-IsDue (by_files Due) told outcome = (files : Files) × (told ≡ Some files) × Due files outcome
+-- a status is owed; where the files decide it, they are told
+abbrev pub IsOwed : Decision → Option Files → Status → Type 0
+IsOwed (by_words Owed Due) told status = Owed status
+IsOwed (by_files Owed Due) told status = (files : Files) × (told ≡ Some files) × Owed files status
 
 -- an outcome is due as far as the files are told that decide it
 abbrev pub IsDueAsTold : Decision → Option Files → Outcome → Type 0
-IsDueAsTold (by_words Due) told outcome = Due outcome
-IsDueAsTold (by_files Due) told outcome = Told told (λ files. Due files outcome)
+IsDueAsTold (by_words Owed Due) told outcome = Due outcome
+IsDueAsTold (by_files Owed Due) told outcome = Told told (λ files. Due files outcome)
 
 -- What a command does, told by four words.
 pub record Behaviour : Type 1 where
@@ -33,7 +34,7 @@ pub record Behaviour : Type 1 where
   pub runs : Outcome → Calls → Type 0
   -- what each outcome changes
   pub changes : Outcome → Outside → Outside → Type 0
-  -- which outcome is due
+  -- which status is owed, and which outcome is due
   pub due : Decision
   -- no count of its faults rose
   pub no_fault : Outside → Outside → Type 0
@@ -55,12 +56,12 @@ pub record Leaves (does : Behaviour) (status : Status) (before after : Outside) 
   pub line : IsFalse (is_of_inputs outcome.status) → outcome.line ≡ fault_line outcome.status
   pub says : AddsOutcome outcome status before after
 
--- Where an outcome is due and there is no fault, its status comes, or there was no memory.
+-- Where a status is owed and there is no fault, it comes, or there was no memory.
 abbrev pub Answers : Behaviour → Status → Outside → Outside → Type 0
 Answers does status before after =
-    (outcome : Outcome) → IsDue does.due before.files outcome → does.no_fault before after
-    → (outcome.status ≡ Done → SaysWell before after)
-    → AreAlike status outcome.status ⊎ (status ≡ OutOfMemory)
+    (owed : Status) → IsOwed does.due before.files owed → does.no_fault before after
+    → (owed ≡ Done → SaysWell before after)
+    → AreAlike status owed ⊎ (status ≡ OutOfMemory)
 
 pub record Performs {S C L : Type 0} {g : StoreGhosts S} {h : SinkGhosts C} {k : LinksGhosts L} (does : Behaviour) (o : Objects g h k) (status : Status) : Type 0 where
   -- the calls and what is put, and which calls the statuses of faults come from: of every store, sink and links
@@ -79,6 +80,6 @@ abbrev pub at_once : Outcome → Behaviour
 at_once expected = record {
   runs = EndsAtOnce expected;
   changes = λ outcome. LeavesAll;
-  due = by_words (λ outcome. outcome ≡ expected);
+  due = by_words (λ status. status ≡ expected.status) (λ outcome. outcome ≡ expected);
   no_fault = λ before after. Unit {0};
 }

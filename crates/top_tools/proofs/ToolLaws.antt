@@ -15,6 +15,7 @@ use Rattle.code_file.specs.Limits.{code_limit}
 use Rattle.top_base.specs.Accepting.{IsCodeOf, RefusesCode}
 use Rattle.top_base.proofs.AcceptingLaws.{code_input}
 use Rattle.top_base.proofs.InspectingLaws.{EndsWell, inspects_known, inspects_used}
+use Rattle.top_base.specs.Inspecting.{OwesDone}
 use Rattle.top_base.specs.Lines.{accepted_line, order_text}
 use Rattle.top_base.proofs.MakingLaws.{MakesWell, makes_known, makes_used}
 use Rattle.top_base.proofs.NetworkLaws.{net_input}
@@ -29,7 +30,7 @@ use Rattle.top_tools.specs.Check.{IsChecked, check_command}
 use Rattle.top_tools.specs.Compile.Command.{compile_command}
 use Rattle.top_tools.specs.Compile.Given.{outputs_of}
 use Rattle.top_tools.specs.Compile.Made.{IsGood, IsMade, RefusesMaking}
-use Rattle.top_tools.specs.Cuts.{IsCrowded, IsWitnessed, cuts_command}
+use Rattle.top_tools.specs.Cuts.{IsCrowded, IsWitnessed, OwesCuts, cuts_command}
 use Rattle.top_tools.specs.Order.{IsOrdered, order_command}
 use Rattle.top_tools.proofs.RefusalLaws.{same_due}
 
@@ -38,61 +39,61 @@ module _ {X : Type 0} (limit : ℕ) (Is : List ℕ → X → Type 0) (Refuses : 
   done : (x : X) (outcome : Outcome) → outcome ≡ record { status = Done; line = line x } → outcome.status ≡ Done
   done x outcome is = ap (λ (o : Outcome). o.status) is
 
-  pub ends_done : EndsWell limit Is Refuses (λ x outcome. outcome ≡ record { status = Done; line = line x })
+  pub ends_done : EndsWell limit Is Refuses (λ x outcome. outcome ≡ record { status = Done; line = line x }) OwesDone
   ends_done = record {
     of_inputs = λ x outcome is. ap is_of_inputs (done x outcome is);
     used = λ x outcome is used. let both : Done ≡ Usage = sym (done x outcome is) ∙ used in cc;
-    alike = λ x one other is is'. ap any_cycle (done x one is ∙ sym (done x other is'));
+    alike = λ x outcome owed is is_owed. ap any_cycle (done x outcome is ∙ sym is_owed);
   }
 
 -- the command `check`
-checks_well : EndsWell code_limit IsCodeOf RefusesCode IsChecked
+checks_well : EndsWell code_limit IsCodeOf RefusesCode IsChecked OwesDone
 checks_well = ends_done code_limit IsCodeOf RefusesCode accepted_line
 
 pub check_known : (path : List ℕ) → IsKnown (check_command path)
-check_known path = inspects_known code_limit IsCodeOf RefusesCode IsChecked code_input checks_well path
+check_known path = inspects_known code_limit IsCodeOf RefusesCode IsChecked OwesDone code_input checks_well path
 
 pub check_used : (path : List ℕ) (outcome : Outcome) (calls : Calls) → (check_command path).runs outcome calls → outcome.status ≢ Usage
-check_used path = inspects_used code_limit IsCodeOf RefusesCode IsChecked code_input checks_well path
+check_used path = inspects_used code_limit IsCodeOf RefusesCode IsChecked OwesDone code_input checks_well path
 
 -- the command `cuts`
 counted : (net : Net) (outcome : Outcome) → IsCrowded net outcome → outcome.status ≡ TooManyDemands (demand_count net)
 counted net outcome crowded = ap (λ (o : Outcome). o.status) crowded.1
 
-cuts_well : EndsWell net_limit IsNetOf RefusesNet IsWitnessed
+cuts_well : EndsWell net_limit IsNetOf RefusesNet IsWitnessed OwesCuts
 cuts_well = record {
   of_inputs = λ net outcome is. ⊎_elim (λ crowded. ap is_of_inputs (counted net outcome crowded)) (λ reported. ap is_of_inputs reported.1) is;
   used = λ net outcome is used. ⊎_elim
       (λ crowded. let both : TooManyDemands (demand_count net) ≡ Usage = sym (counted net outcome crowded) ∙ used in cc)
       (λ reported. let both : Done ≡ Usage = sym reported.1 ∙ used in cc)
       is;
-  alike = λ net one other is is'. ⊎_elim
+  alike = λ net outcome owed is is_owed. ⊎_elim
       (λ crowded. ⊎_elim
-      (λ crowded'. ap any_cycle (counted net one crowded ∙ sym (counted net other crowded')))
-      (λ reported. absurd (false≢true (sym crowded.0 ∙ reported.0)))
-      is')
+      (λ many. ap any_cycle (counted net outcome crowded ∙ sym many.1))
+      (λ served. absurd (false≢true (sym crowded.0 ∙ served.0)))
+      is_owed)
       (λ reported. ⊎_elim
-      (λ crowded. absurd (false≢true (sym crowded.0 ∙ reported.0)))
-      (λ reported'. ap any_cycle (reported.1 ∙ sym reported'.1))
-      is')
+      (λ many. absurd (false≢true (sym many.0 ∙ reported.0)))
+      (λ served. ap any_cycle (reported.1 ∙ sym served.1))
+      is_owed)
       is;
 }
 
 pub cuts_known : (path : List ℕ) → IsKnown (cuts_command path)
-cuts_known path = inspects_known net_limit IsNetOf RefusesNet IsWitnessed net_input cuts_well path
+cuts_known path = inspects_known net_limit IsNetOf RefusesNet IsWitnessed OwesCuts net_input cuts_well path
 
 pub cuts_used : (path : List ℕ) (outcome : Outcome) (calls : Calls) → (cuts_command path).runs outcome calls → outcome.status ≢ Usage
-cuts_used path = inspects_used net_limit IsNetOf RefusesNet IsWitnessed net_input cuts_well path
+cuts_used path = inspects_used net_limit IsNetOf RefusesNet IsWitnessed OwesCuts net_input cuts_well path
 
 -- the command `order`
-orders_well : EndsWell net_limit IsNetOf RefusesNet IsOrdered
+orders_well : EndsWell net_limit IsNetOf RefusesNet IsOrdered OwesDone
 orders_well = ends_done net_limit IsNetOf RefusesNet (λ net. order_text net (order_of net.links))
 
 pub order_known : (path : List ℕ) → IsKnown (order_command path)
-order_known path = inspects_known net_limit IsNetOf RefusesNet IsOrdered net_input orders_well path
+order_known path = inspects_known net_limit IsNetOf RefusesNet IsOrdered OwesDone net_input orders_well path
 
 pub order_used : (path : List ℕ) (outcome : Outcome) (calls : Calls) → (order_command path).runs outcome calls → outcome.status ≢ Usage
-order_used path = inspects_used net_limit IsNetOf RefusesNet IsOrdered net_input orders_well path
+order_used path = inspects_used net_limit IsNetOf RefusesNet IsOrdered OwesDone net_input orders_well path
 
 -- the command `compile`
 module _ (given : Compile) where

@@ -3,7 +3,7 @@ use Rattle.std.specs.Prelude.{◌≡◌, ℕ, List}
 use Rattle.node_program.specs.declared.code.Code.{Code}
 use Rattle.code_file.specs.Limits.{code_limit}
 use Rattle.top_base.specs.Accepting.{IsCodeOf, RefusesCode}
-use Rattle.top_base.specs.Inspecting.{inspects}
+use Rattle.top_base.specs.Inspecting.{OwesDone, inspects}
 use Rattle.top_base.specs.Lines.{accepted_line}
 use Rattle.top_base.specs.Performs.{Behaviour}
 use Rattle.top_base.specs.declared.outcome.Outcome.{Outcome}
@@ -15,4 +15,4 @@ IsChecked code outcome = outcome ≡ record { status = Done; line = accepted_lin
 
 -- what the command does: CODE is read
 abbrev pub check_command : List ℕ → Behaviour
-check_command path = inspects code_limit IsCodeOf RefusesCode IsChecked path
+check_command path = inspects code_limit IsCodeOf RefusesCode IsChecked OwesDone path

@@ -13,6 +13,7 @@ use Rattle.net_reader.specs.Text.{net_limit}
 use Rattle.top_base.specs.Networks.{IsNetOf, RefusesNet}
 use Rattle.top_base.specs.Performs.{Behaviour}
 use Rattle.top_base.specs.declared.outcome.Outcome.{Outcome}
+use Rattle.top_base.specs.declared.status.Status.{Status}
 use Rattle.top_base.specs.declared.status.Status.TheVariants.{Done, TooManyDemands}
 
 -- the field that serves a network's demands, if one does
@@ -40,6 +41,11 @@ IsReported net outcome = IsSome (field_of net) × (outcome.status ≡ Done) × I
 abbrev pub IsWitnessed : Net → Outcome → Type 0
 IsWitnessed net outcome = IsCrowded net outcome ⊎ IsReported net outcome
 
+-- the status that is owed: by the network and its field alone
+abbrev pub OwesCuts : Net → Status → Type 0
+OwesCuts net status =
+    (IsNone (field_of net) × (status ≡ TooManyDemands (demand_count net))) ⊎ (IsSome (field_of net) × (status ≡ Done))
+
 -- what the command does: NET is read
 abbrev pub cuts_command : List ℕ → Behaviour
-cuts_command path = inspects net_limit IsNetOf RefusesNet IsWitnessed path
+cuts_command path = inspects net_limit IsNetOf RefusesNet IsWitnessed OwesCuts path

@@ -2,7 +2,7 @@
 use Rattle.std.specs.Prelude.{◌≡◌, ℕ, List}
 use Rattle.net_model.specs.declared.net.Net.{Net}
 use Rattle.topo_order.specs.Order.{order_of}
-use Rattle.top_base.specs.Inspecting.{inspects}
+use Rattle.top_base.specs.Inspecting.{OwesDone, inspects}
 use Rattle.top_base.specs.Lines.{order_text}
 use Rattle.net_reader.specs.Text.{net_limit}
 use Rattle.top_base.specs.Networks.{IsNetOf, RefusesNet}
@@ -16,4 +16,4 @@ IsOrdered net outcome = outcome ≡ record { status = Done; line = order_text ne
 
 -- what the command does: NET is read
 abbrev pub order_command : List ℕ → Behaviour
-order_command path = inspects net_limit IsNetOf RefusesNet IsOrdered path
+order_command path = inspects net_limit IsNetOf RefusesNet IsOrdered OwesDone path

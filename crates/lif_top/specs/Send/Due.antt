@@ -26,6 +26,10 @@ DueWith send code file status line = ⊥
 abbrev pub DueOf : Send → Code → Files → Outcome → Type 0
 DueOf send code files outcome = DueWith send code (files send.source) outcome.status outcome.line
 
+-- which status is owed: that of what is due
+abbrev pub OwedOf : Send → Code → Files → Status → Type 0
+OwedOf send code files status = (line : List ℕ) × DueWith send code (files send.source) status line
+
 -- no count of faults of the command's own paths rose, and not that of the links
 pub record NoFault (send : Send) (before after : Outside) : Type 0 where
   pub code_read : ¬ Rose (before.read_faults send.code) (after.read_faults send.code)

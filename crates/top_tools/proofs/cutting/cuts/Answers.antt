@@ -1,11 +1,11 @@
 use Rattle.net_reader.specs.Text.{net_limit}
 use Rattle.top_base.proofs.InspectingLaws.{inspects_had, inspects_lost}
 use Rattle.top_base.specs.Networks.{IsNetOf, RefusesNet}
-use Rattle.top_tools.specs.Cuts.{IsWitnessed}
+use Rattle.top_tools.specs.Cuts.{IsWitnessed, OwesCuts}
 use Rattle.top_tools.proofs.cutting.cuts.Goals as goal
 
 pub returns-in-Ok : goal.returns-in-Ok
-returns-in-Ok g c = inspects_had net_limit IsNetOf RefusesNet IsWitnessed c.args.path.now c.in-Ok.ordered.net c.witness.result c.in-Ok.ensures.had c.witness.ensures
+returns-in-Ok g c = inspects_had net_limit IsNetOf RefusesNet IsWitnessed OwesCuts c.args.path.now c.in-Ok.ordered.net c.witness.result c.in-Ok.ensures.had c.witness.ensures
 
 pub returns-in-Err : goal.returns-in-Err
-returns-in-Err g c = inspects_lost net_limit IsNetOf RefusesNet IsWitnessed c.args.path.now c.in-Err.refused c.in-Err.ensures.lost
+returns-in-Err g c = inspects_lost net_limit IsNetOf RefusesNet IsWitnessed OwesCuts c.args.path.now c.in-Err.refused c.in-Err.ensures.lost

@@ -1,5 +1,5 @@
 -- The stations begin the window and are fed it, and then it is carried.
-use Rattle.std.proofs.Common.{◌≡◌, ◌+◌, ◌++◌, List, ap, drop, length, refl, subst, take, ◌∙◌}
+use Rattle.std.proofs.Common.{◌≡◌, ◌≤◌, ◌+◌, ◌++◌, List, ap, arith, drop, length, refl, subst, sym, take, ◌∙◌}
 use Rattle.std.proofs.lemmas.List.{take_at}
 use Rattle.lif_outside.specs.Calls.{MakesMoves}
 use Rattle.node_program.specs.Decoding.{IsAccepted}
@@ -8,14 +8,14 @@ use Rattle.node_stations.specs.Table.{relays_of, sinks_of}
 use Rattle.node_stations.specs.declared.station.Station.{Station}
 use Rattle.relay_runner.proofs.CarriedLaws.{has-sent}
 use Rattle.relay_runner.proofs.RunningLaws.{has-carried}
-use Rattle.relay_runner.proofs.StartingLaws.{made-start, seen-count, start-planned}
+use Rattle.relay_runner.proofs.StartingLaws.{made-start, seen-count, start-planned, window-count}
 use Rattle.relay_runner.proofs.UnderwayLaws.{still-open}
 use Rattle.relay_runner.proofs.runner.Runner.carry.Given as given
 use Rattle.relay_runner.proofs.runner.Runner.carry.Goals as goal
 use Rattle.relay_runner.proofs.runner.Runner.carry.Goals.{After-start_window-count}
 use Rattle.relay_runner.specs.Carried.{CarriesWindow, IsStopped}
 use Rattle.relay_runner.specs.Carrying.{Carries}
-use Rattle.relay_runner.specs.Running.{Running, Starts, window_from}
+use Rattle.relay_runner.specs.Running.{AreBlocks, Running, Starts, window_from}
 
 -- the stations once they have begun the window, as the runner has them
 abbrev begun : (g : given.Over) → After-start_window-count g → List (Station g.row.F.Denot)
@@ -58,6 +58,13 @@ counted g c =
     seen-count c.self.inside.code.now c.code.result.now c.code.ensures.value c.self.inside.next c.args.blocks.now c.start_window-count.result
     c.start_window-count.ensures.count
 
+-- and there is one
+some_blocks : (g : given.Over) (c : After-start_window-count g)
+    → 1 ≤ length (window_from c.self.inside.code.now c.self.inside.next c.args.blocks.now).blocks
+some_blocks g c =
+    let blocks = subst (λ (runner : Running). AreBlocks runner.code runner.next c.args.blocks.now) (sym c.self.view_is) c.requires.blocks in
+    omega (arith, blocks.some_blocks, window-count c.self.inside.code.now c.self.inside.next c.args.blocks.now)
+
 pub invariant_of-self : goal.invariant_of-self
 invariant_of-self g c =
     let at = (goal.at.invariant_of-self g c).After-start_window-count in
@@ -97,7 +104,7 @@ returns-clause-sent g c =
     on_ok-then c.run.result (λ carries.
     subst (λ (runner : Running). CarriesWindow g.K.Links (window_from runner.code runner.next c.args.blocks.now) c.args.links.now c.run.new.links c.run.new.self)
     c.self.view_is
-    (has-sent g.K.Links (runner_begun g at) c.run.new.self c.run.ensures.work window refl (counted g at) accepted c.args.links.now c.run.new.links
+    (has-sent g.K.Links (runner_begun g at) c.run.new.self c.run.ensures.work window refl (counted g at) (some_blocks g at) accepted c.args.links.now c.run.new.links
     (carries window (starts g at)))) c.run.ensures.carried
 
 pub returns-clause-whole : goal.returns-clause-whole
