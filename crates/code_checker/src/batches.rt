@@ -8,7 +8,7 @@ use crate::patterns::first_between;
 use crate::products::Failure;
 use failure_patterns::{batch_start, demands};
 use field_rows::RowTables;
-use lif_outside::{Gate, WORKERS};
+use lif_outside::{Gate, WORKERS, batch_count};
 use node_program::Code;
 use std::alloc::{AllocError, Global};
 use std::thread::{Threads, map_indices};
@@ -23,7 +23,7 @@ pub(crate) fn first_failure<G: Gate + Sync, R: Threads + Sync>(
     ensures { IfOk result (IsFirstIn code.now 0 (demand_count code.now.net)) }
 {
     let tables = RowTables::new();
-    let batches = demands(&code.net).min(WORKERS as u64) as u32;
+    let batches = batch_count(demands(&code.net), WORKERS);
     let made = map_indices(
         rt,
         alloc,

@@ -10,7 +10,7 @@ use crate::Cert;
 use crate::batches::{certify_along, certify_batches};
 use counted_steps::Steps;
 use failure_patterns::demands;
-use lif_outside::Gate;
+use lif_outside::{Gate, batch_count};
 use link_chains::{Wiring, wiring_of};
 use net_model::{Demand, Net};
 use std::alloc::{AllocError, Global};
@@ -66,7 +66,7 @@ pub fn certify_all_along<G: Gate + Sync, R: Threads + Sync>(
     requires few_demands { demand_count net.now ≤ pair_demands }
     ensures { IfOk result (λ certs. AreCertificates net.now certs.items) }
 {
-    let batches = demands(net).min(workers as u64) as u32;
+    let batches = batch_count(demands(net), workers);
     certify_batches(rt, alloc, net, wiring, batches, gate)
 }
 

@@ -1,8 +1,5 @@
 //! The gate that jobs go through before their work.
 
-/// How many jobs are done side by side, at most.
-pub const WORKERS: u32 = 4;
-
 /// What a job enters before its work. It promises nothing, and a test sees by it which jobs run side by
 /// side.
 pub trait Gate {

@@ -1,5 +1,5 @@
 //! The outside, as the program sees it: stores of files, sinks of what is said, links that carry frames, those in
-//! memory too, and the gate of jobs.
+//! memory too, the gate of jobs, and the batches that they do.
 //!
 //! Begin with the traits `Store`, `Sink` and `Links`: what each call answers, and which event it is. Read
 //! `specs/Events.antt` and `specs/Moves.antt`, what calls change, `specs/FileCalls.antt`, how a file is read and written
@@ -7,6 +7,7 @@
 //! `accounts`: where content is told, it follows the calls, and a count rose where one failed.
 #![tactic(auto)]
 
+mod batches;
 mod gate;
 mod links;
 mod listed;
@@ -15,7 +16,8 @@ mod seeded;
 mod sink;
 mod store;
 
-pub use gate::{Gate, NoGate, WORKERS};
+pub use batches::{WORKERS, batch_count, batch_size};
+pub use gate::{Gate, NoGate};
 pub use links::{Flight, Links};
 pub use listed::{ListLinks, Spoil};
 pub use memory::{Call, Fail, MemSink, MemStore};

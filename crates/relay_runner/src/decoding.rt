@@ -7,7 +7,7 @@ ghost use Rattle.relay_runner.specs.Decoding.{AreDecoded, AreRooms, CanDecode, H
 
 use generation_frame::{MOST_BLOCKS, ROW};
 use gf_tables::Field;
-use lif_outside::{Gate, WORKERS};
+use lif_outside::{Gate, WORKERS, batch_size};
 use node_program::Code;
 use node_stations::Station;
 use sink_decoder::Decoder;
@@ -153,15 +153,15 @@ fn decode_batch<F: Field, G: Gate>(
     }
 }
 
-// How many sinks a batch has, but for the last one, where so many generations are decoded at so many sinks.
-fn batch_size(sinks: usize, count: u32, rate: u32) -> usize
-    ensures { 0 < result }
+// How many batches of sinks there are, where so many generations are decoded at so many sinks.
+fn batches_for(sinks: usize, count: u32, rate: u32) -> usize
+    ensures some { 0 < result }
+    ensures few { result ≤ 4 }
 {
     let rows = (count as usize).saturating_mul(rate as usize);
     let products = sinks.saturating_mul(rows).saturating_mul(rate as usize);
     let wanted = (products / LEAST_PRODUCTS).max(2).min(WORKERS as usize);
-    let batches = wanted.min(sinks / LEAST_SINKS).max(1);
-    sinks.div_ceil(batches).max(1)
+    wanted.min(sinks / LEAST_SINKS).max(1)
 }
 
 /// Decodes so many generations from one on at all sinks of a code, in at most four batches of sinks side by side.
@@ -182,7 +182,7 @@ pub(crate) fn decode_sinks<F: Field + Send + Sync, G: Gate + Sync, R: Threads + 
         → AreDecoded code.now (sinks_of stations.now) first count sink
         (slice_index_or blocks.new sink []) }
 {
-    let size = batch_size(blocks.len(), count, code.rate);
+    let size = batch_size(blocks.len(), batches_for(blocks.len(), count, code.rate));
     for_each_chunk_mut(
         rt,
         blocks,

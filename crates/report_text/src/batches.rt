@@ -5,6 +5,7 @@ ghost use Rattle.report_text.specs.Batches.{AreJoined};
 
 use crate::report::entry;
 use cut_witness::Cert;
+use lif_outside::batch_size;
 use net_model::Net;
 use std::alloc::{AllocError, Global};
 use std::thread::{Threads, map_chunks};
@@ -24,7 +25,7 @@ pub fn with_entries<R: Threads + Sync>(
     ensures { IfOk result (λ whole. whole.items
         ≡ text.items ++ flat_map (entry_text net.now) certs.now) }
 {
-    let size = certs.len().div_ceil(workers as usize).max(1);
+    let size = batch_size(certs.len(), workers as usize);
     let batches = map_chunks(
         rt,
         alloc,
