@@ -1,5 +1,5 @@
 //! Which regular files are known, whatever path leads to them.
-ghost use Rattle.std.specs.Prelude.{◌≡◌, ◌↔◌, Some, false, IsTrue, IsFalse, IfOk, OnOk};
+ghost use Rattle.std.specs.Prelude.{◌≡◌, ◌↔◌, None, Some, false, IsTrue, IsFalse, IfOk, OnOk};
 
 use indexmap::IndexMap;
 use std::alloc::{AllocError, Global};
@@ -44,7 +44,9 @@ impl KnownFiles {
     ghost use Rattle.system_files.specs.Known.{FileId, known_as, KeepsOtherFiles, MayMake, IsKnownBy};
 
     /// None.
-    pub fn new(alloc: Global) -> KnownFiles {
+    pub fn new(alloc: Global) -> KnownFiles
+        ensures { (id : FileId) → known_as result id ≡ None }
+    {
         KnownFiles {
             files: IndexMap::new(alloc),
         }

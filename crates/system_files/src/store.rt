@@ -19,8 +19,8 @@ use std::rt::Files;
 ///
 /// A file that was read or made stays open for the next read or append, until a call on it fails or a handle is wanted; at
 /// most 512 of each are open so, and one more closes that which was opened first. What isn't a regular file, as a pipe, a
-/// terminal or a device, is neither emptied nor closed before the store is let go, and is read without being moved where
-/// reads follow one another. A regular file isn't made, and is left as it is, where it was read, or where another path
+/// terminal or a device, isn't emptied, stays open until a call on it fails or the store is let go, and is read without
+/// being moved where reads follow one another. A regular file isn't made, and is left as it is, where it was read, or where another path
 /// leads to it that was made or named (`name`): then the create fails.
 #[derive(Drop)]
 pub struct FileStore<'r, R: Files> {
