@@ -17,7 +17,7 @@ use Rattle.net_model.specs.declared.Link.{Link}
 use Rattle.net_model.specs.declared.net.Net.{Net}
 use Rattle.unit_flow.proofs.CountLaws.{All-range, count_by-implied, count_by-none, count_by-one, sum_by-add, sum_by-same}
 use Rattle.unit_flow.specs.Residual.{passage}
-use Rattle.unit_flow.specs.Searching.{ArePassed, HasPassed, IsOnChain, ends_below, passed_ends, with_entry}
+use Rattle.unit_flow.specs.Searching.{ArePassed, HasPassed, IsOnChain, ends_below, marked_ends, passed_ends, with_entry}
 use Rattle.unit_flow.specs.declared.residual.LinkState.{LinkState}
 use Rattle.unit_flow.specs.declared.search.Entry.{Entry}
 use Rattle.unit_flow.specs.declared.search.Passed.{Passed}
@@ -77,6 +77,45 @@ passed_ends-moved end count node old new same =
     by_end l e (inl here) =
         let Same : ℕ → Type 0 = λ n. cond {A = ℕ} (nat_lt l (new n)) 1 0 + cond ((n == node) && nat_lt l (old node)) 1 0 ≡ cond (nat_lt l (old n)) 1 0 + cond ((n == node) && nat_lt l (new node)) 1 0 in
         subst Same (sym here) (rw (eq-eqb node node refl) (omega arith))
+
+-- the links at marked nodes are those before cursors that stay at zero elsewhere
+marked_cursor : List Bool → (ℕ → ℕ) → ℕ → ℕ
+marked_cursor marks cursors node = cond (is_on marks node) (cursors node) 0
+
+marked_ends-is : (end : ℕ → ℕ) (count : ℕ) (marks : List Bool) (cursors : ℕ → ℕ) → marked_ends end count marks cursors ≡ passed_ends end count (marked_cursor marks cursors)
+unfolding marked_cursor
+marked_ends-is end count marks cursors =
+    sum_by-same (λ l. cond (is_on marks (end l) && nat_lt l (cursors (end l))) 1 0) (λ l. cond (nat_lt l (marked_cursor marks cursors (end l))) 1 0) (range_with_len 0 count)
+    (λ l. by_mark (is_on marks (end l)) l (cursors (end l)))
+  where
+    by_mark : (mark : Bool) (l cursor : ℕ) → cond {A = ℕ} (mark && nat_lt l cursor) 1 0 ≡ cond (nat_lt l (cond mark cursor 0)) 1 0
+    by_mark true l cursor = refl
+    by_mark false l cursor = rw (le-ltb l 0 (omega arith)) refl
+
+-- where the cursor of one node alone moves, as many more are as there are at the node, if that is marked
+pub marked_ends-moved : (end : ℕ → ℕ) (count node : ℕ) (marks : List Bool) (old new : ℕ → ℕ) → is_on marks node ≡ true → ((other : ℕ) → other ≢ node → new other ≡ old other)
+    → marked_ends end count marks new + ends_below end count node (old node) ≡ marked_ends end count marks old + ends_below end count node (new node)
+unfolding marked_cursor
+marked_ends-moved end count node marks old new marked same =
+    let moved = passed_ends-moved end count node (marked_cursor marks old) (marked_cursor marks new) (λ other apart. ap (λ n. cond (is_on marks other) n 0) (same other apart)) in
+    let before = ap (λ mark. ends_below end count node (cond mark (old node) 0)) marked in
+    let after = ap (λ mark. ends_below end count node (cond mark (new node) 0)) marked in
+    omega (arith, moved, before, after, marked_ends-is end count marks old, marked_ends-is end count marks new)
+
+-- and else as many as before
+pub marked_ends-unmarked : (end : ℕ → ℕ) (count node : ℕ) (marks : List Bool) (old new : ℕ → ℕ) → is_on marks node ≡ false → ((other : ℕ) → other ≢ node → new other ≡ old other)
+    → marked_ends end count marks new ≡ marked_ends end count marks old
+unfolding marked_cursor
+marked_ends-unmarked end count node marks old new unmarked same =
+    let moved = passed_ends-moved end count node (marked_cursor marks old) (marked_cursor marks new) (λ other apart. ap (λ n. cond (is_on marks other) n 0) (same other apart)) in
+    let before = ap (λ mark. ends_below end count node (cond mark (old node) 0)) unmarked in
+    let after = ap (λ mark. ends_below end count node (cond mark (new node) 0)) unmarked in
+    omega (arith, moved, before, after, marked_ends-is end count marks old, marked_ends-is end count marks new)
+
+-- no more of them are at marked nodes than there are
+pub marked_ends-le : (end : ℕ → ℕ) (count : ℕ) (marks : List Bool) (cursors : ℕ → ℕ) → marked_ends end count marks cursors ≤ passed_ends end count cursors
+marked_ends-le end count marks cursors =
+    omega (arith, count_by-implied (λ link. is_on marks (end link) && nat_lt link (cursors (end link))) (λ link. nat_lt link (cursors (end link))) (range_with_len 0 count) (λ link looked. (and_parts _ _ looked).1))
 
 -- no link is before the first one at its node, and no more links than there are are before cursors
 pub passed_ends-firsts : (end : ℕ → ℕ) (count nodes : ℕ) (firsts : List ℕ) → AreFirsts end count nodes 0 firsts → ((link : ℕ) → link < count → end link < nodes) → passed_ends end count (slice_index firsts) ≡ 0

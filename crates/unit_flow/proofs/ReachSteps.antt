@@ -1,32 +1,32 @@
 -- What a search has reached.
-use Rattle.std.specs.Prelude.{◌≡◌, ◌<◌, ◌≤◌, ◌+◌, ◌*◌, ℕ, true, false, List, length, slice_index, Some}
+use Rattle.std.specs.Prelude.{◌≡◌, ◌<◌, ◌≤◌, ◌+◌, ◌*◌, ℕ, true, false, List, Bool, length, slice_index, Some}
 use Rattle.std.proofs.Common.{subst, arith, inl, inr}
-use Rattle.counted_steps.specs.Steps.{RoseByAtMost}
+use Rattle.counted_steps.specs.Steps.{RoseBy, RoseByAtMost}
 use Rattle.net_model.specs.Flows.{FlowNetwork, is_on}
 use Rattle.net_model.specs.Walks.{head_of, tail_of}
 use Rattle.net_model.specs.declared.Link.{Link}
 use Rattle.unit_flow.proofs.PassageLaws.{passage_cases}
-use Rattle.unit_flow.proofs.PassingSteps.{passed_ends-le}
+use Rattle.unit_flow.proofs.PassingSteps.{marked_ends-le, passed_ends-le}
 use Rattle.unit_flow.specs.Reaching.{IsReached}
 use Rattle.unit_flow.specs.Residual.{passage}
-use Rattle.unit_flow.specs.Searching.{IsLeft, IsSearching, passed_links}
+use Rattle.unit_flow.specs.Searching.{IsLeft, IsSearching, looks}
 use Rattle.unit_flow.specs.declared.residual.LinkState.{LinkState}
 use Rattle.unit_flow.specs.declared.search.Search.{Search}
 
 -- what a loop keeps that searches for the sink
-pub record IsOnTheWay (network : FlowNetwork) (states : List LinkState) (search : Search) (before after : ℕ) : Type 0 where
+pub record IsOnTheWay (network : FlowNetwork) (states : List LinkState) (entered : List Bool) (search : Search) (before after : ℕ) : Type 0 where
   pub searching : IsSearching network states search
   pub away : is_on search.reached.items network.sink ≡ false
-  pub not_back : before ≤ after
-  pub steps : after ≤ before + passed_links network.links search
+  pub steps : RoseBy (looks network.links entered search) before after
 
--- each link is passed twice at most
-pub passed_links-le : (links : List Link) (search : Search) → passed_links links search ≤ 2 * length links
-passed_links-le links search =
-    omega (arith, passed_ends-le (tail_of links) (length links) (slice_index search.from.items), passed_ends-le (head_of links) (length links) (slice_index search.into.items))
+-- each link is looked at twice at most
+pub looks-le : (links : List Link) (entered : List Bool) (search : Search) → looks links entered search ≤ 2 * length links
+looks-le links entered search =
+    omega (arith, passed_ends-le (tail_of links) (length links) (slice_index search.from.items), passed_ends-le (head_of links) (length links) (slice_index search.into.items),
+    marked_ends-le (head_of links) (length links) entered (slice_index search.into.items))
 
-pub few_steps : (links : List Link) (search : Search) (before after : ℕ) → before ≤ after → after ≤ before + passed_links links search → RoseByAtMost (2 * length links) before after
-few_steps links search before after not_back is = let most = passed_links-le links search in record { not_below = not_back; not_above = omega (arith, is, most) }
+pub few_looks : (links : List Link) (entered : List Bool) (search : Search) (before after : ℕ) → RoseBy (looks links entered search) before after → RoseByAtMost (2 * length links) before after
+few_looks links entered search before after is = let most = looks-le links entered search in record { not_below = omega (arith, is); not_above = omega (arith, is, most) }
 
 -- where the way is at its end, the nodes that were reached are those that the source reaches
 pub IsReached-searched : (network : FlowNetwork) (states : List LinkState) (search : Search) → IsSearching network states search → search.depth ≡ 0 → IsReached network states search.reached.items

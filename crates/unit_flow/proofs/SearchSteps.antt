@@ -11,10 +11,10 @@ use Rattle.link_chains.specs.declared.wiring.Wiring.{Wiring}
 use Rattle.list_laws.proofs.Tests.{below_bound}
 use Rattle.net_model.specs.Flows.{FlowNetwork, is_on}
 use Rattle.net_model.specs.Walks.{head_of, tail_of}
-use Rattle.unit_flow.proofs.PassingSteps.{ends_below-le, is_on-set, passed_ends-firsts, passed_ends-moved, passed_first}
+use Rattle.unit_flow.proofs.PassingSteps.{is_on-set, marked_ends-le, marked_ends-moved, marked_ends-unmarked, passed_ends-firsts, passed_ends-moved, passed_first}
 use Rattle.unit_flow.specs.Conservation.{IsFlowNetwork}
 use Rattle.unit_flow.specs.Residual.{passage}
-use Rattle.unit_flow.specs.Searching.{ArePassed, CameByLink, EndsAt, HasPlaces, HaveLed, IsLeft, IsOnWay, IsSearching, KeepsWay, MovesAt, ends_below, last_of, link_at, node_at, passed_ends, passed_links}
+use Rattle.unit_flow.specs.Searching.{ArePassed, CameByLink, EndsAt, HasPlaces, HaveLed, IsLeft, IsOnWay, IsSearching, KeepsWay, MovesAt, ends_below, last_of, link_at, looks, marked_ends, node_at, passed_ends}
 use Rattle.unit_flow.specs.declared.residual.LinkState.{LinkState}
 use Rattle.unit_flow.specs.declared.search.Entry.{Entry}
 use Rattle.unit_flow.specs.declared.search.Search.{Search}
@@ -52,7 +52,7 @@ module _ (xs : List ℕ) (n bound number : ℕ) (long : n ≤ length xs) (below 
 pub record IsBegun (network : FlowNetwork) (states : List LinkState) (search : Search) : Type 0 where
   pub searching : IsSearching network states search
   pub away : is_on search.reached.items network.sink ≡ false
-  pub none : passed_links network.links search ≡ 0
+  pub none : (marks : List Bool) → looks network.links marks search ≡ 0
 
 module _ (network : FlowNetwork) (states : List LinkState) (old new : Search) (flags : List Bool) (wiring : Wiring) (places : HasPlaces network.nodes old) (of : IsFlowNetwork network)
     (is : IsWiring network.links network.nodes wiring) (way_is : new.way.items ≡ slice_set old.way.items 0 network.source) (depth_is : new.depth ≡ 1) (came_is : new.came.items ≡ old.came.items)
@@ -91,12 +91,12 @@ module _ (network : FlowNetwork) (states : List LinkState) (old new : Search) (f
   sink_unset : is_on new.reached.items network.sink ≡ false
   sink_unset = unset network.sink (λ same. of.apart (sym same))
 
-  none_passed : passed_links network.links new ≡ 0
-  none_passed =
+  none_looked : (marks : List Bool) → looks network.links marks new ≡ 0
+  none_looked marks =
       let Passed_none : (ℕ → ℕ) → List ℕ → Type 0 = λ end cursors. passed_ends end (length network.links) (slice_index cursors) ≡ 0 in
       let from : Passed_none (tail_of network.links) new.from.items = subst (Passed_none (tail_of network.links)) (sym from_is) (passed_ends-firsts _ _ _ _ is.from_firsts of.tails) in
       let into : Passed_none (head_of network.links) new.into.items = subst (Passed_none (head_of network.links)) (sym into_is) (passed_ends-firsts _ _ _ _ is.into_firsts of.heads) in
-      omega (arith, from, into)
+      omega (arith, from, into, marked_ends-le (head_of network.links) (length network.links) marks (slice_index new.into.items))
 
   searching : IsSearching network states new
   searching = record {
@@ -127,7 +127,7 @@ module _ (network : FlowNetwork) (states : List LinkState) (old new : Search) (f
   }
 
   pub begun : IsBegun network states new
-  begun = record { searching = searching; away = sink_unset; none = none_passed }
+  begun = record { searching = searching; away = sink_unset; none = none_looked }
 
 -- the last node of the way is one
 pub last_below : (network : FlowNetwork) (states : List LinkState) (search : Search) (node : ℕ) → IsSearching network states search → 0 < search.depth
@@ -146,14 +146,22 @@ counts_moved end count node first next old new before after inside new_is first_
     let after_is = ap (ends_below end count node) here in
     omega (arith, moved, before_is, after_is, counted)
 
--- where a cursor alone goes on, no fewer links are before the cursors
-pub more_moved : (end : ℕ → ℕ) (count node next : ℕ) (old new : List ℕ) → node < length old → new ≡ slice_set old node next → slice_index old node ≤ next
-    → passed_ends end count (slice_index old) ≤ passed_ends end count (slice_index new)
-more_moved end count node next old new inside new_is further =
+-- and for those at a marked one
+pub counts_marked : (end : ℕ → ℕ) (count node first next : ℕ) (marks : List Bool) (old new : List ℕ) (before after : ℕ) → is_on marks node ≡ true → node < length old → new ≡ slice_set old node next
+    → first ≡ slice_index old node → after + ends_below end count node first ≡ before + ends_below end count node next
+    → after + marked_ends end count marks (slice_index old) ≡ before + marked_ends end count marks (slice_index new)
+counts_marked end count node first next marks old new before after marked inside new_is first_is counted =
     let here : slice_index new node ≡ next = ap (λ xs. slice_index xs node) new_is ∙ get_or-set_same old node next 0 inside in
-    let moved = passed_ends-moved end count node (slice_index old) (slice_index new) (λ n apart. ap (λ xs. slice_index xs n) new_is ∙ get_or-set_other old node n next 0 apart) in
+    let moved = marked_ends-moved end count node marks (slice_index old) (slice_index new) marked (λ n apart. ap (λ xs. slice_index xs n) new_is ∙ get_or-set_other old node n next 0 apart) in
+    let before_is = ap (ends_below end count node) first_is in
     let after_is = ap (ends_below end count node) here in
-    omega (arith, moved, after_is, ends_below-le end count node (slice_index old node) next further)
+    omega (arith, moved, before_is, after_is, counted)
+
+-- none is counted for those at another
+pub counts_unmarked : (end : ℕ → ℕ) (count node next : ℕ) (marks : List Bool) (old new : List ℕ) → is_on marks node ≡ false → new ≡ slice_set old node next
+    → marked_ends end count marks (slice_index new) ≡ marked_ends end count marks (slice_index old)
+counts_unmarked end count node next marks old new unmarked new_is =
+    marked_ends-unmarked end count node marks (slice_index old) (slice_index new) unmarked (λ n apart. ap (λ xs. slice_index xs n) new_is ∙ get_or-set_other old node n next 0 apart)
 
 -- a step that is counted later is counted
 pub counted_later : (entry : Option Entry) (before between after : ℕ) → before ≤ between → IfSome entry (λ one. between < after) → IfSome entry (λ one. before < after)
@@ -422,8 +430,8 @@ module _ (network : FlowNetwork) (states : List LinkState) (old mid : Search) (i
           let last : new.depth - 1 ≡ old.depth = omega (arith, depth_is, same.depth) in
           record { some = omega (arith, depth_is); last = ap (node_at new) last ∙ here old.depth refl }
 
-      pub links_same : passed_links network.links new ≡ passed_links network.links mid
-      links_same =
+      pub looks_same : (marks : List Bool) → looks network.links marks new ≡ looks network.links marks mid
+      looks_same marks =
           let from = ap (λ xs. passed_ends (tail_of network.links) (length network.links) (slice_index xs)) from_is in
-          let into = ap (λ xs. passed_ends (head_of network.links) (length network.links) (slice_index xs)) into_is in
+          let into = ap (λ xs. marked_ends (head_of network.links) (length network.links) marks (slice_index xs)) into_is in
           omega (arith, from, into)

@@ -75,11 +75,18 @@ abbrev pub ends_below : (ℕ → ℕ) → ℕ → ℕ → ℕ → ℕ
 ends_below end count node bound =
     count_by (λ link. (end link == node) && nat_lt link bound) (range_with_len 0 count)
 
--- how often a search passed a link from one of its ends
-abbrev pub passed_links : List Link → Search → ℕ
-passed_links links search =
+-- how many of them are at marked nodes
+abbrev pub marked_ends : (ℕ → ℕ) → ℕ → List Bool → (ℕ → ℕ) → ℕ
+marked_ends end count marks cursors =
+    count_by (λ link. is_on marks (end link) && nat_lt link (cursors (end link)))
+    (range_with_len 0 count)
+
+-- how often a search looked at a link from one of its ends: at those before the cursors, but for
+-- those into nodes without a mark that a used link ever led into them
+abbrev pub looks : List Link → List Bool → Search → ℕ
+looks links entered search =
     passed_ends (tail_of links) (length links) (slice_index search.from.items)
-    + passed_ends (head_of links) (length links) (slice_index search.into.items)
+    + marked_ends (head_of links) (length links) entered (slice_index search.into.items)
 
 -- all links at a node were passed
 pub record IsLeft (count : ℕ) (search : Search) (node : ℕ) : Type 0 where
@@ -163,15 +170,16 @@ abbrev pub HaveLedIn : Net → ResidualNetwork → List Bool → Search → Type
 HaveLedIn net residual reached search =
     HaveLed (flow_network net residual.demand) residual.states search reached
 
--- links were passed between two states of a search, at a step each at most
-pub record CountsPassed (net : Net) (old new : Search) (before after : ℕ) : Type 0 where
+-- between two states of a search links were looked at, at a step each
+pub record CountsLooks (net : Net) (entered : List Bool) (old new : Search)
+    (before after : ℕ) : Type 0 where
   pub not_back : before ≤ after
-  pub counted : after + passed_links net.links old ≤ before + passed_links net.links new
+  pub counted : after + looks net.links entered old ≡ before + looks net.links entered new
 
--- more links were passed, or the way is shorter
-abbrev pub GoesOn : Net → Search → Search → Type 0
-GoesOn net old new =
-    new.depth + 2 * passed_links net.links old < old.depth + 2 * passed_links net.links new
+-- more links were looked at, or the way is shorter
+abbrev pub GoesOn : Net → List Bool → Search → Search → Type 0
+GoesOn net entered old new =
+    new.depth + 2 * looks net.links entered old < old.depth + 2 * looks net.links entered new
 
 -- the way ends at a node
 pub record EndsAt (node : ℕ) (search : Search) : Type 0 where

@@ -1,10 +1,10 @@
 //! One unit more, along a path of the residual network.
 ghost use Rattle.std.specs.Prelude.{◌≡◌, ◌<◌, ◌*◌, true, false, length};
-ghost use Rattle.counted_steps.specs.Steps.{RoseByAtMost};
+ghost use Rattle.counted_steps.specs.Steps.{RoseBy, RoseByAtMost};
 ghost use Rattle.link_chains.specs.Wiring.{IsWiring};
 ghost use Rattle.unit_flow.specs.FlowOf.{IsAugmented, turned, turned_from};
 ghost use Rattle.unit_flow.specs.Residual.{AreEntered};
-ghost use Rattle.unit_flow.specs.Searching.{EndsAt, HasPlaces, HasReached, IsWayIn, has_sink, sink_of};
+ghost use Rattle.unit_flow.specs.Searching.{EndsAt, HasPlaces, HasReached, IsWayIn, has_sink, looks, sink_of};
 
 use crate::residual::{LinkState, Residual};
 use crate::search::Search;
@@ -39,7 +39,8 @@ pub(crate) fn augment<L: Ledger>(
     ensures entered { AreEntered net.now.links (length net.now.nodes) residual.new.states
         entered.new }
     ensures places { HasPlaces (length net.now.nodes) search.new }
-    ensures ticks { RoseByAtMost (2 * length net.now.links) steps.old steps.new }
+    ensures ticks { RoseBy (looks net.now.links entered.old search.new) steps.old steps.new }
+    ensures few_looks { RoseByAtMost (2 * length net.now.links) steps.old steps.new }
 {
     if !search.reaches_sink(net, wiring, residual, entered, steps) {
         return false;

@@ -29,7 +29,8 @@ pub struct Flow {
 }
 
 /// The greatest flow of a demand and its least side, by paths in residual networks (Ford and Fulkerson). It
-/// fails only where there was too little memory. A step is one look at a link from one of its ends.
+/// fails only where there was too little memory. A step is one call of [`Residual::cross`]: a look at a link from one
+/// of its ends.
 ///
 /// It makes the chains of the network's links for itself; see [`max_flow_along`] for more than one demand.
 pub fn max_flow<L: Ledger>(
@@ -45,7 +46,7 @@ pub fn max_flow<L: Ledger>(
     ensures side { IfOk result (λ flow. IsLeastSide (flow_network net.now demand) flow.side) }
     ensures as_many { IfOk result (CrossesAsOften net.now demand) }
 
-    // Twice each link for each search, of which there is at most one more than each cut has links.
+    // Two looks at each link for each search, of which there is at most one more than each cut has links.
     ensures ticks { AreFewVisits net.now demand steps.old steps.new }
 {
     let wiring = wiring_of(alloc, net)?;

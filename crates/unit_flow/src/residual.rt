@@ -1,11 +1,9 @@
 //! Residual networks.
 ghost use Rattle.std.specs.Prelude.{◌≡◌, ◌<◌, IfOk, IfSome, length, slice_index, slice_set};
 ghost use Rattle.counted_steps.specs.Steps.{RoseBy};
-ghost use Rattle.link_chains.specs.Chains.{end_of};
 ghost use Rattle.unit_flow.specs.Residual.{HasStates, IsUnused, is_failed, is_used, passage};
 
 use counted_steps::Steps;
-use link_chains::LinkEnd;
 use net_model::{Demand, Net};
 use std::alloc::{AllocError, Global};
 use std::marker::Model;
@@ -70,9 +68,9 @@ impl Residual {
         self.states[link as usize] == LinkState::Used
     }
 
-    /// The node at the other end of a link that is passed from one of its ends. There is none exactly where the
-    /// residual network doesn't let it be passed from there: from its tail it is passed where it is free, from its
-    /// head where it is used.
+    /// Looks at a link from a node, and gives the node at the other end where the link is passed. There is none exactly
+    /// where the residual network doesn't let it be passed from there: from its tail it is passed where it is free, from
+    /// its head where it is used. A look takes one step.
     pub fn cross<L: Ledger>(
         &self,
         net: &Net,
@@ -87,34 +85,9 @@ impl Residual {
         ensures ticks { RoseBy 1 steps.old steps.new }
     {
         steps.tick();
-        let (tail, head) = (net.tail(link), net.head(link));
         match self.states[link as usize] {
-            LinkState::Free if from == tail => Some(head),
-            LinkState::Used if from == head => Some(tail),
-            _ => None,
-        }
-    }
-
-    // The node at the other end of a link that is passed from an end of it, where the residual network lets it be. It
-    // asks for the state alone where it doesn't.
-    pub(crate) fn cross_from<L: Ledger>(
-        &self,
-        net: &Net,
-        link: u32,
-        end: LinkEnd,
-        steps: &mut Steps<L>,
-    ) -> Option<u32>
-        requires link { link < length net.now.links }
-        requires states { length self.now.states ≡ length net.now.links }
-        ensures value { result ≡ passage net.now.links self.now.states link
-            (end_of net.now.links end link) }
-        ensures node { IfSome result (λ next. next < length net.now.nodes) }
-        ensures ticks { RoseBy 1 steps.old steps.new }
-    {
-        steps.tick();
-        match (end, self.states[link as usize]) {
-            (LinkEnd::Tail, LinkState::Free) => Some(net.head(link)),
-            (LinkEnd::Head, LinkState::Used) => Some(net.tail(link)),
+            LinkState::Free if from == net.tail(link) => Some(net.head(link)),
+            LinkState::Used if from == net.head(link) => Some(net.tail(link)),
             _ => None,
         }
     }

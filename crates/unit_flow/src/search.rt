@@ -1,11 +1,11 @@
 //! The search for the nodes that the source reaches, depth first.
-ghost use Rattle.std.specs.Prelude.{◌≡◌, ◌<◌, ◌≤◌, ℕ, ◌+◌, ◌-◌, ◌*◌, true, false, IfNone, IfOk, IfSome, Some, length, slice_index, slice_set};
+ghost use Rattle.std.specs.Prelude.{◌≡◌, ◌<◌, ◌≤◌, ℕ, ◌+◌, ◌-◌, ◌*◌, true, false, List, Bool, IfNone, IfOk, IfSome, Some, length, slice_index, slice_set};
 ghost use Rattle.counted_steps.specs.Steps.{RoseBy, RoseByAtMost};
 ghost use Rattle.link_chains.specs.Chains.{end_of};
 ghost use Rattle.link_chains.specs.Wiring.{IsWiring};
 ghost use Rattle.net_model.specs.Flows.{is_on};
 ghost use Rattle.unit_flow.specs.Residual.{AreEntered, passage};
-ghost use Rattle.unit_flow.specs.Searching.{CountsPassed, EndsAt, GoesOn, HasPassed, HasPlaces, HasReached, HaveLedIn, IsEntry, IsLeft, IsOnChain, IsSearchIn, IsWayIn, KeepsWay, MovesAt, has_sink, last_of, passed_links, sink_of, with_entry};
+ghost use Rattle.unit_flow.specs.Searching.{CountsLooks, EndsAt, GoesOn, HasPassed, HasPlaces, HasReached, HaveLedIn, IsEntry, IsLeft, IsOnChain, IsSearchIn, IsWayIn, KeepsWay, MovesAt, has_sink, last_of, looks, sink_of, with_entry};
 
 use crate::residual::Residual;
 use counted_steps::Steps;
@@ -74,7 +74,7 @@ impl Search {
         requires sink { residual.now.demand.sink < length net.now.sinks }
         ensures searching { IsSearchIn net.now residual.now self.new }
         ensures sink { has_sink net.now residual.now self.new ≡ false }
-        ensures passed { passed_links net.now.links self.new ≡ 0 }
+        ensures none { (marks : List Bool) → looks net.now.links marks self.new ≡ 0 }
     {
         self.reached.as_mut_slice().fill(false);
         self.reached[net.source as usize] = true;
@@ -88,28 +88,27 @@ impl Search {
             .copy_from_slice(wiring.into.firsts.as_slice());
     }
 
-    // Passes a link from an end of it, and gives the node that it leads to, where that wasn't reached.
+    // Passes a link from a node, and gives the node that it leads to, where that wasn't reached.
     fn pass<L: Ledger>(
         &self,
         net: &Net,
         residual: &Residual,
         link: u32,
-        end: LinkEnd,
+        node: u32,
         steps: &mut Steps<L>,
     ) -> Option<u32>
         requires states { length residual.now.states ≡ length net.now.links }
         requires link { link < length net.now.links }
         requires places { HasPlaces (length net.now.nodes) self.now }
         ensures entry { IfSome result (λ next.
-            IsEntry net.now residual.now.states (end_of net.now.links end link)
-            self.now.reached.items (record { node = next; link = link })) }
+            IsEntry net.now residual.now.states node self.now.reached.items
+            (record { node = next; link = link })) }
         ensures known { IfNone result ((next : ℕ)
-            → passage net.now.links residual.now.states link (end_of net.now.links end link)
-            ≡ Some next
+            → passage net.now.links residual.now.states link node ≡ Some next
             → is_on self.now.reached.items next ≡ true) }
         ensures ticks { RoseBy 1 steps.old steps.new }
     {
-        let next = residual.cross_from(net, link, end, steps)?;
+        let next = residual.cross(net, link, node, steps)?;
         if self.reached[next as usize] {
             return None;
         }
@@ -144,8 +143,8 @@ impl Search {
         let mut link = first;
         while link < count {
             let next = chains.nexts[link as usize];
-            if let Some(node) = self.pass(net, residual, link, end, steps) {
-                let entry = Some(Entry { node, link });
+            if let Some(to) = self.pass(net, residual, link, node, steps) {
+                let entry = Some(Entry { node: to, link });
                 return Passed { next, entry };
             }
             link = next;
@@ -156,8 +155,8 @@ impl Search {
         }
     }
 
-    // The next node that wasn't reached, from the node that is looked at. Links into the node are passed back where they
-    // are used alone: where none ever was, all of them are left out.
+    // The next node that wasn't reached, from the node that is looked at. Links into the node are passed back only where
+    // they are used: where none ever was, all of them are left out without a look.
     fn next_entry<L: Ledger>(
         &mut self,
         net: &Net,
@@ -180,7 +179,7 @@ impl Search {
             self.old.reached.items) }
         ensures left { IfNone result (IsLeft (length net.now.links) self.new (last_of self.old)) }
         ensures looked { IfSome result (λ entry. steps.old < steps.new) }
-        ensures ticks { CountsPassed net.now self.old self.new steps.old steps.new }
+        ensures ticks { CountsLooks net.now entered.now self.old self.new steps.old steps.new }
     {
         let node = self.way[self.depth - 1];
         let first = self.from[node as usize];
@@ -239,8 +238,8 @@ impl Search {
         ensures searching { IsSearchIn net.now residual.now self.new }
         ensures sink { is_on self.new.reached.items sink ≡ result }
         ensures at_sink { result ≡ true → EndsAt sink self.new }
-        ensures ticks { CountsPassed net.now self.old self.new steps.old steps.new }
-        ensures sooner { GoesOn net.now self.old self.new }
+        ensures ticks { CountsLooks net.now entered.now self.old self.new steps.old steps.new }
+        ensures sooner { GoesOn net.now entered.now self.old self.new }
     {
         let Some(entry) = self.next_entry(net, wiring, residual, entered, steps) else {
             self.depth -= 1;
@@ -269,7 +268,8 @@ impl Search {
         ensures sink { has_sink net.now residual.now self.new ≡ result }
         ensures at_sink { result ≡ true → EndsAt (sink_of net.now residual.now) self.new }
         ensures reached { result ≡ false → HasReached net.now residual.now self.new }
-        ensures ticks { RoseByAtMost (2 * length net.now.links) steps.old steps.new }
+        ensures ticks { RoseBy (looks net.now.links entered.now self.new) steps.old steps.new }
+        ensures few_looks { RoseByAtMost (2 * length net.now.links) steps.old steps.new }
     {
         let sink = residual.sink(net);
         self.begin(net, wiring, residual);

@@ -45,7 +45,7 @@ loop-value-preserved g c =
     let Marked : List Bool → Type 0 = λ marks. AreEntered net.links (length net.nodes) c.augment.new.residual.states marks in
     record {
       flowing = flowing_next c.args.net.now c.args.demand c.loop-value.residual c.augment.new.residual c.loop-value.search c.augment.new.search c.loop-value.value c.args.steps.now c.loop-value.steps c.augment.new.steps c.loop-value.invariant.flowing
-          c.augment.ensures.demand (c.augment.ensures.more c.loop-value-test.true) c.augment.ensures.places c.augment.ensures.ticks;
+          c.augment.ensures.demand (c.augment.ensures.more c.loop-value-test.true) c.augment.ensures.places c.augment.ensures.few_looks;
       entered = subst Marked (sym (with_items_is c.loop-value.entered c.augment.new.entered (c.augment.auto.entered ∙ c.deref_mut.ensures.len))) c.augment.ensures.entered;
     }
 
@@ -56,7 +56,7 @@ overflow_add-value g c =
 pub loop-value-smaller : goal.loop-value-smaller
 loop-value-smaller g c =
     let next = flowing_next c.args.net.now c.args.demand c.loop-value.residual c.augment.new.residual c.loop-value.search c.augment.new.search c.loop-value.value c.args.steps.now c.loop-value.steps c.augment.new.steps
-    c.loop-value.invariant.flowing c.augment.ensures.demand (c.augment.ensures.more c.loop-value-test.true) c.augment.ensures.places c.augment.ensures.ticks in
+    c.loop-value.invariant.flowing c.augment.ensures.demand (c.augment.ensures.more c.loop-value-test.true) c.augment.ensures.places c.augment.ensures.few_looks in
     omega (arith, flowing_few c.args.net.now c.args.demand c.augment.new.residual.states (c.loop-value.value + 1) next.conserved)
 
 pub decompose-requires-clause-sink : goal.decompose-requires-clause-sink
@@ -72,7 +72,7 @@ decompose-requires-clause-conserved g c =
 
 pub returns-in_err-paths-clause-ticks : goal.returns-in_err-paths-clause-ticks
 returns-in_err-paths-clause-ticks g c =
-    flowing_ticks c.args.net.now c.args.demand c.loop-value.residual c.loop-value.search c.loop-value.value c.args.steps.now c.loop-value.steps c.augment.new.steps c.requires.sink c.loop-value.invariant.flowing c.augment.ensures.ticks
+    flowing_ticks c.args.net.now c.args.demand c.loop-value.residual c.loop-value.search c.loop-value.value c.args.steps.now c.loop-value.steps c.augment.new.steps c.requires.sink c.loop-value.invariant.flowing c.augment.ensures.few_looks
 
 pub returns : goal.returns
 returns g c =
@@ -84,5 +84,5 @@ returns g c =
       rising = found.rising;
       side = found.least;
       as_many = found.as_many;
-      ticks = flowing_ticks c.args.net.now c.args.demand c.loop-value.residual c.loop-value.search c.loop-value.value c.args.steps.now c.loop-value.steps c.augment.new.steps c.requires.sink c.loop-value.invariant.flowing c.augment.ensures.ticks;
+      ticks = flowing_ticks c.args.net.now c.args.demand c.loop-value.residual c.loop-value.search c.loop-value.value c.args.steps.now c.loop-value.steps c.augment.new.steps c.requires.sink c.loop-value.invariant.flowing c.augment.ensures.few_looks;
     }

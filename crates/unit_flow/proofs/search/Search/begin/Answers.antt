@@ -20,4 +20,4 @@ returns c =
     c.requires.wiring refl refl refl (with_items_is old.reached c.fill.new.self whole ∙ unset) refl
     (with_items_is old.from c.copy_from_slice.new.self from_whole ∙ c.copy_from_slice.ensures.after ∙ c.as_slice.ensures.value)
     (with_items_is old.into c.copy_from_slice-2.new.self into_whole ∙ c.copy_from_slice-2.ensures.after ∙ c.as_slice-2.ensures.value) in
-    record { searching = is.searching; sink = is.away; passed = is.none }
+    record { searching = is.searching; sink = is.away; none = is.none }

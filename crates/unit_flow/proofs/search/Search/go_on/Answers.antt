@@ -3,7 +3,7 @@ use Rattle.std.proofs.Common.{subst, arith}
 use Rattle.std.proofs.lemmas.Bool.{eqb-true}
 use Rattle.net_model.specs.Flows.{flow_network}
 use Rattle.unit_flow.specs.Searching.{EndsAt}
-use Rattle.unit_flow.proofs.SearchSteps.{ends_at, entered, links_same, room, stepped_back}
+use Rattle.unit_flow.proofs.SearchSteps.{ends_at, entered, looks_same, room, stepped_back}
 use Rattle.unit_flow.proofs.search.Search.go_on.Goals as goal
 
 pub returns-in_default-clause-searching : goal.returns-in_default-clause-searching
@@ -41,6 +41,6 @@ pub returns-clause-ticks : goal.returns-clause-ticks
 returns-clause-ticks g c =
     let found = c.in-Some.ensures in
     let after = c.enter.ensures in
-    let same = links_same (flow_network c.args.net.now c.args.residual.now.demand) c.args.residual.now.states c.args.self.now c.next_entry.new.self c.requires.searching c.requires.on_way found.way found.moved
-    c.enter.new.self c.in-Some.entry found.entry.below found.entry.within found.entry.leads found.entry.fresh found.led after.way after.depth after.came after.reached after.from after.into in
+    let same = looks_same (flow_network c.args.net.now c.args.residual.now.demand) c.args.residual.now.states c.args.self.now c.next_entry.new.self c.requires.searching c.requires.on_way found.way found.moved
+    c.enter.new.self c.in-Some.entry found.entry.below found.entry.within found.entry.leads found.entry.fresh found.led after.way after.depth after.came after.reached after.from after.into c.args.entered.now in
     record { not_back = found.ticks.not_back; counted = omega (arith, found.ticks.counted, same) }

@@ -10,7 +10,7 @@ use Rattle.unit_flow.specs.Searching.{ArePassed, IsEntry, IsOnChain, last_of, pa
 use Rattle.unit_flow.specs.declared.search.Entry.{Entry}
 use Rattle.unit_flow.proofs.PassingSteps.{passed_moved, chain_passed, chain_passed_over, is_on-with_entry, passed_kept, steps_kept}
 use Rattle.unit_flow.proofs.EnteredLaws.{nothing_entered}
-use Rattle.unit_flow.proofs.SearchSteps.{counted_later, counts_moved, last_below, last_read, left_at, more_moved, moves_both, moves_out, none_weaker, not_none, nothing, where_none}
+use Rattle.unit_flow.proofs.SearchSteps.{counted_later, counts_marked, counts_moved, counts_unmarked, last_below, last_read, left_at, moves_both, moves_out, none_weaker, not_none, nothing, where_none}
 use Rattle.unit_flow.proofs.search.Search.next_entry.Goals as goal
 use Rattle.unit_flow.proofs.search.Search.next_entry.Goals.{After-pass_chain-passed}
 
@@ -166,7 +166,7 @@ returns-then-not-entered-node-clause-ticks g c =
     let s = (goal.at.returns-then-not-entered-node-clause-ticks g c).After-pass_chain-passed in
     let net = c.args.net.now in
     let node = c.index-node.result.now in
-    let heads = more_moved (head_of net.links) (length net.links) node c.len.result c.args.self.now.into.items _ (inside_too g s) refl (omega (arith, (c.requires.searching.into.on_chains node (below g s)).within, c.len.ensures)) in
+    let heads = counts_unmarked (head_of net.links) (length net.links) node c.len.result c.args.entered.now c.args.self.now.into.items _ c.if-not-entered-node.true refl in
     record { not_back = early g s; counted = omega (arith, tails g s, heads) }
 
 pub index-first-requires-2 : goal.index-first-requires-2
@@ -245,6 +245,6 @@ returns-clause-ticks g c =
     let first = c.index-first-2.result.now in
     let before = c.pass_chain-passed.new.steps in
     let two = c.pass_chain-passed-2 in
-    let heads = counts_moved (head_of net.links) (length net.links) node first two.result.next old.into.items _ before two.new.steps (inside_too g s) refl (second g s first c.index-first-2.ensures) two.ensures.passed.steps in
+    let heads = counts_marked (head_of net.links) (length net.links) node first two.result.next c.args.entered.now old.into.items _ before two.new.steps c.if-not-entered-node.false (inside_too g s) refl (second g s first c.index-first-2.ensures) two.ensures.passed.steps in
     let late = steps_kept net c.args.residual.now.states Head node first old.reached.items two.result before two.new.steps two.ensures.passed in
     record { not_back = omega (arith, early g s, late); counted = omega (arith, tails g s, heads) }
