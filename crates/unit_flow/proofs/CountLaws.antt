@@ -75,7 +75,13 @@ count_by-same p q xs implies back =
     alone one true gives = rw (gives refl) refl
     alone one false gives = refl
 
--- and where the counts are equal, every item that passes the weaker test passes the stronger one too
+-- tests that the items of a list pass alike count as many of them
+pub count_by-alike : {X : Type 0} (p q : X → Bool) (xs : List X) → All (λ x. p x ≡ true → q x ≡ true) xs → All (λ x. q x ≡ true → p x ≡ true) xs → count_by p xs ≡ count_by q xs
+count_by-alike p q xs to back =
+    sym (count_by-same (λ x. p x && q x) p xs (λ x both. (and_parts _ _ both).0) (λ k d within passes. and_from _ _ passes (to k d within passes)))
+    ∙ count_by-same (λ x. p x && q x) q xs (λ x both. (and_parts _ _ both).1) (λ k d within passes. and_from _ _ (back k d within passes) passes)
+
+-- where a stronger test counts as many items as a weaker one, every item that passes the weaker test passes the stronger one too
 pub same-count_by : {X : Type 0} (p q : X → Bool) (xs : List X) → ((x : X) → p x ≡ true → q x ≡ true) → count_by p xs ≡ count_by q xs → All (λ x. q x ≡ true → p x ≡ true) xs
 same-count_by p q xs implies same k d within passes =
     let zero : count_by (λ x. q x && not (p x)) xs ≡ 0 = omega (arith, count_by-implied p q xs implies) in

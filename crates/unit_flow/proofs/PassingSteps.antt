@@ -135,20 +135,25 @@ pub passed_first : (links : List Link) (states : List LinkState) (end : ℕ → 
     → ((link : ℕ) → link < length links → end link < nodes) → ArePassed links states end nodes (slice_index firsts) reached
 passed_first links states end nodes firsts reached are below = record {
   on_chains = λ node inside. let at = are.first node inside in record { within = at.within; ends = at.ends };
+  at_reached = λ link within before. absurd ((are.first (end link) (below link within)).before link (omega arith) before refl);
   led = λ link next within before leads. absurd ((are.first (end link) (below link within)).before link (omega arith) before refl);
 }
 
 -- the links at a node from its cursor on were passed
 pub passed_moved : (links : List Link) (states : List LinkState) (end : ℕ → ℕ) (nodes node next : ℕ) (old new : List ℕ) (before after : List Bool) → ArePassed links states end nodes (slice_index old) before
-    → node < length old → new ≡ slice_set old node next → IsOnChain end (length links) node next
+    → node < length old → is_on before node ≡ true → new ≡ slice_set old node next → IsOnChain end (length links) node next
     → ((link to : ℕ) → slice_index old node ≤ link → link < next → end link ≡ node → passage links states link node ≡ Some to → is_on after to ≡ true)
     → ((other : ℕ) → is_on before other ≡ true → is_on after other ≡ true) → ArePassed links states end nodes (slice_index new) after
-passed_moved links states end nodes node next old new before after are inside new_is chain led kept = record {
+passed_moved links states end nodes node next old new before after are inside on new_is chain led kept = record {
   on_chains = λ n below. elim (cases_eq n node) [
     | inl same ↦
         let Chain : ℕ → ℕ → Type 0 = λ k link. IsOnChain end (length links) k link in
         subst (λ k. Chain k (slice_index new k)) (sym same) (subst (Chain node) (sym here) chain)
     | inr apart ↦ let Chain : ℕ → Type 0 = λ link. IsOnChain end (length links) n link in subst Chain (sym (there n apart)) (are.on_chains n below)
+  ];
+  at_reached = λ link within before_cursor. elim (cases_eq (end link) node) [
+    | inl same ↦ kept (end link) (ap (is_on before) same ∙ on)
+    | inr apart ↦ kept (end link) (are.at_reached link within (omega (arith, there (end link) apart)))
   ];
   led = λ link to within before_cursor leads. elim (cases_eq (end link) node) [
     | inl same ↦ elim (cases_lt link (slice_index old node)) [
@@ -171,7 +176,11 @@ passed_moved links states end nodes node next old new before after are inside ne
 -- more was reached
 pub passed_kept : (links : List Link) (states : List LinkState) (end : ℕ → ℕ) (nodes : ℕ) (cursors : ℕ → ℕ) (before after : List Bool) → ArePassed links states end nodes cursors before
     → ((other : ℕ) → is_on before other ≡ true → is_on after other ≡ true) → ArePassed links states end nodes cursors after
-passed_kept links states end nodes cursors before after are kept = record { on_chains = are.on_chains; led = λ link next within early leads. kept next (are.led link next within early leads) }
+passed_kept links states end nodes cursors before after are kept = record {
+  on_chains = are.on_chains;
+  at_reached = λ link within early. kept (end link) (are.at_reached link within early);
+  led = λ link next within early leads. kept next (are.led link next within early leads);
+}
 
 -- the link that is read from a chain is the next one at its node
 pub IsNextAt-read : (links : List Link) (nodes : ℕ) (wiring : Wiring) (chains : Chains) (end : LinkEnd) (link next : ℕ) → IsWiring links nodes wiring → chains ≡ chains_at end wiring → link < length links
@@ -226,19 +235,19 @@ steps_kept net states end node first reached passed before after is =
 
 -- the links at a node from its cursor on were passed, along their chain
 pub chain_passed : (net : Net) (states : List LinkState) (end : LinkEnd) (nodes node first : ℕ) (old new : List ℕ) (reached : List Bool) (passed : Passed) (before after : ℕ)
-    → HasPassed net states end node first reached passed before after → ArePassed net.links states (end_of net.links end) nodes (slice_index old) reached → node < length old → first ≡ slice_index old node
-    → new ≡ slice_set old node passed.next → ArePassed net.links states (end_of net.links end) nodes (slice_index new) (with_entry passed.entry reached)
-chain_passed net states end nodes node first old new reached passed before after is are inside first_is new_is =
-    passed_moved net.links states (end_of net.links end) nodes node passed.next old new reached (with_entry passed.entry reached) are inside new_is is.on_chain
+    → HasPassed net states end node first reached passed before after → ArePassed net.links states (end_of net.links end) nodes (slice_index old) reached → node < length old → is_on reached node ≡ true
+    → first ≡ slice_index old node → new ≡ slice_set old node passed.next → ArePassed net.links states (end_of net.links end) nodes (slice_index new) (with_entry passed.entry reached)
+chain_passed net states end nodes node first old new reached passed before after is are inside on first_is new_is =
+    passed_moved net.links states (end_of net.links end) nodes node passed.next old new reached (with_entry passed.entry reached) are inside on new_is is.on_chain
     (λ link to above below ends leads. is.led link to (omega (arith, first_is)) below ends leads)
     (λ other on. is_on-with_entry passed.entry reached other on)
 
 -- and led to nothing new, so that whatever was reached since, they were passed
 pub chain_passed_over : (net : Net) (states : List LinkState) (end : LinkEnd) (nodes node first : ℕ) (old new : List ℕ) (reached : List Bool) (passed : Passed) (before after : ℕ) (entry : Option Entry)
-    → HasPassed net states end node first reached passed before after → ArePassed net.links states (end_of net.links end) nodes (slice_index old) reached → node < length old → first ≡ slice_index old node
-    → new ≡ slice_set old node passed.next → passed.entry ≡ None → ArePassed net.links states (end_of net.links end) nodes (slice_index new) (with_entry entry reached)
-chain_passed_over net states end nodes node first old new reached passed before after entry is are inside first_is new_is none =
+    → HasPassed net states end node first reached passed before after → ArePassed net.links states (end_of net.links end) nodes (slice_index old) reached → node < length old → is_on reached node ≡ true
+    → first ≡ slice_index old node → new ≡ slice_set old node passed.next → passed.entry ≡ None → ArePassed net.links states (end_of net.links end) nodes (slice_index new) (with_entry entry reached)
+chain_passed_over net states end nodes node first old new reached passed before after entry is are inside on first_is new_is none =
     let Led : Option Entry → Type 0 = λ one. ArePassed net.links states (end_of net.links end) nodes (slice_index new) (with_entry one reached) in
     passed_kept net.links states (end_of net.links end) nodes (slice_index new) reached (with_entry entry reached)
-    (subst Led none (chain_passed net states end nodes node first old new reached passed before after is are inside first_is new_is))
+    (subst Led none (chain_passed net states end nodes node first old new reached passed before after is are inside on first_is new_is))
     (is_on-with_entry entry reached)

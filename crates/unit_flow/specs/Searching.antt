@@ -58,10 +58,13 @@ pub record IsOnChain (end : ℕ → ℕ) (count node link : ℕ) : Type 0 where
   pub within : link ≤ count
   pub ends : link < count → end link ≡ node
 
--- the links before the cursors of their nodes were passed: what they lead to was reached
+-- the links before the cursors of their nodes were passed: their nodes and what they lead to were
+-- reached
 pub record ArePassed (links : List Link) (states : List LinkState) (end : ℕ → ℕ) (nodes : ℕ)
     (cursors : ℕ → ℕ) (reached : List Bool) : Type 0 where
   pub on_chains : (node : ℕ) → node < nodes → IsOnChain end (length links) node (cursors node)
+  pub at_reached : (link : ℕ) → link < length links → link < cursors (end link)
+      → is_on reached (end link) ≡ true
   pub led : (link next : ℕ) → link < length links → link < cursors (end link)
       → passage links states link (end link) ≡ Some next → is_on reached next ≡ true
 
@@ -87,6 +90,13 @@ abbrev pub looks : List Link → List Bool → Search → ℕ
 looks links entered search =
     passed_ends (tail_of links) (length links) (slice_index search.from.items)
     + marked_ends (head_of links) (length links) entered (slice_index search.into.items)
+
+-- a look at each link from each of its ends on a side, but for those into nodes without a mark
+abbrev pub looks_from : List Link → List Bool → List Bool → ℕ
+looks_from links entered side =
+    count_by (λ link. is_on side (tail_of links link)) (range_with_len 0 (length links))
+    + count_by (λ link. is_on entered (head_of links link) && is_on side (head_of links link))
+    (range_with_len 0 (length links))
 
 -- all links at a node were passed
 pub record IsLeft (count : ℕ) (search : Search) (node : ℕ) : Type 0 where

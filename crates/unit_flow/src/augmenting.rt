@@ -4,7 +4,7 @@ ghost use Rattle.counted_steps.specs.Steps.{RoseBy, RoseByAtMost};
 ghost use Rattle.link_chains.specs.Wiring.{IsWiring};
 ghost use Rattle.unit_flow.specs.FlowOf.{IsAugmented, turned, turned_from};
 ghost use Rattle.unit_flow.specs.Residual.{AreEntered};
-ghost use Rattle.unit_flow.specs.Searching.{EndsAt, HasPlaces, HasReached, IsWayIn, has_sink, looks, sink_of};
+ghost use Rattle.unit_flow.specs.Searching.{EndsAt, HasPlaces, HasReached, IsWayIn, has_sink, looks, looks_from, sink_of};
 
 use crate::residual::{LinkState, Residual};
 use crate::search::Search;
@@ -41,6 +41,8 @@ pub(crate) fn augment<L: Ledger>(
     ensures places { HasPlaces (length net.now.nodes) search.new }
     ensures ticks { RoseBy (looks net.now.links entered.old search.new) steps.old steps.new }
     ensures few_looks { RoseByAtMost (2 * length net.now.links) steps.old steps.new }
+    ensures each_once { result ≡ false
+        → RoseBy (looks_from net.now.links entered.old search.new.reached.items) steps.old steps.new }
 {
     if !search.reaches_sink(net, wiring, residual, entered, steps) {
         return false;

@@ -5,7 +5,7 @@ ghost use Rattle.link_chains.specs.Chains.{end_of};
 ghost use Rattle.link_chains.specs.Wiring.{IsWiring};
 ghost use Rattle.net_model.specs.Flows.{is_on};
 ghost use Rattle.unit_flow.specs.Residual.{AreEntered, passage};
-ghost use Rattle.unit_flow.specs.Searching.{CountsLooks, EndsAt, GoesOn, HasPassed, HasPlaces, HasReached, HaveLedIn, IsEntry, IsLeft, IsOnChain, IsSearchIn, IsWayIn, KeepsWay, MovesAt, has_sink, last_of, looks, sink_of, with_entry};
+ghost use Rattle.unit_flow.specs.Searching.{CountsLooks, EndsAt, GoesOn, HasPassed, HasPlaces, HasReached, HaveLedIn, IsEntry, IsLeft, IsOnChain, IsSearchIn, IsWayIn, KeepsWay, MovesAt, has_sink, last_of, looks, looks_from, sink_of, with_entry};
 
 use crate::residual::Residual;
 use counted_steps::Steps;
@@ -270,6 +270,8 @@ impl Search {
         ensures reached { result ≡ false → HasReached net.now residual.now self.new }
         ensures ticks { RoseBy (looks net.now.links entered.now self.new) steps.old steps.new }
         ensures few_looks { RoseByAtMost (2 * length net.now.links) steps.old steps.new }
+        ensures each_once { result ≡ false
+            → RoseBy (looks_from net.now.links entered.now self.new.reached.items) steps.old steps.new }
     {
         let sink = residual.sink(net);
         self.begin(net, wiring, residual);

@@ -1,5 +1,5 @@
-use Rattle.std.specs.Prelude.{◌≡◌, ◌<◌, ◌≤◌, ◌+◌, ℕ, List, Option, IfSome, false, None, length, slice_index, slice_index_or, slice_set}
-use Rattle.std.proofs.Common.{refl, sym, ◌∙◌, subst, arith}
+use Rattle.std.specs.Prelude.{◌≡◌, ◌<◌, ◌≤◌, ◌+◌, ◌-◌, ℕ, true, List, Option, IfSome, false, None, length, slice_index, slice_index_or, slice_set}
+use Rattle.std.proofs.Common.{refl, sym, ◌∙◌, ap, subst, arith}
 use Rattle.std.proofs.lemmas.Bool.{both_ways}
 use Rattle.std.proofs.lemmas.List.{get_or_read, length-set}
 use Rattle.link_chains.specs.declared.chains.LinkEnd.TheVariants.{Head, Tail}
@@ -28,6 +28,10 @@ module _ (g : _) (c : After-pass_chain-passed g) where
   last : c.index-node.result.now ≡ last_of c.args.self.now
   last = last_read (flow_network c.args.net.now c.args.residual.now.demand) c.args.residual.now.states c.args.self.now c.index-node.result.now c.requires.searching c.requires.on_way c.index-node.ensures
 
+  -- it was reached
+  on : is_on c.args.self.now.reached.items c.index-node.result.now ≡ true
+  on = ap (is_on c.args.self.now.reached.items) last ∙ c.requires.searching.on_way (c.args.self.now.depth - 1) (omega (arith, c.requires.on_way))
+
   -- an entry from it is one from the last node
   entered : (entry : Option Entry) → IfSome entry (IsEntry c.args.net.now c.args.residual.now.states c.index-node.result.now c.args.self.now.reached.items)
       → IfSome entry (IsEntry c.args.net.now c.args.residual.now.states (last_of c.args.self.now) c.args.self.now.reached.items)
@@ -53,7 +57,7 @@ module _ (g : _) (c : After-pass_chain-passed g) where
       → ArePassed c.args.net.now.links c.args.residual.now.states (tail_of c.args.net.now.links) (length c.args.net.now.nodes) (slice_index moved) (with_entry entry c.args.self.now.reached.items)
   over entry none =
       chain_passed_over c.args.net.now c.args.residual.now.states Tail (length c.args.net.now.nodes) c.index-node.result.now c.index-first.result.now c.args.self.now.from.items moved c.args.self.now.reached.items
-      c.pass_chain-passed.result c.args.steps.now c.pass_chain-passed.new.steps entry c.pass_chain-passed.ensures.passed c.requires.searching.from inside first refl none
+      c.pass_chain-passed.result c.args.steps.now c.pass_chain-passed.new.steps entry c.pass_chain-passed.ensures.passed c.requires.searching.from inside on first refl none
 
   -- the steps until then
   early : c.args.steps.now ≤ c.pass_chain-passed.new.steps
@@ -108,7 +112,7 @@ returns-then-is_some-clause-led g c =
     let passed = c.pass_chain-passed.result in
     record {
       from = chain_passed net states Tail (length net.nodes) c.index-node.result.now c.index-first.result.now old.from.items _ old.reached.items passed c.args.steps.now c.pass_chain-passed.new.steps
-          c.pass_chain-passed.ensures.passed c.requires.searching.from (inside g s) (first g s) refl;
+          c.pass_chain-passed.ensures.passed c.requires.searching.from (inside g s) (on g s) (first g s) refl;
       into = passed_kept net.links states (head_of net.links) (length net.nodes) (slice_index old.into.items) old.reached.items (with_entry passed.entry old.reached.items) c.requires.searching.into
           (is_on-with_entry passed.entry old.reached.items);
     }
@@ -152,13 +156,13 @@ returns-then-not-entered-node-clause-led g c =
     let unmarked : is_on c.args.entered.now node ≡ false = c.if-not-entered-node.true in
     record {
       from = over g s None (nothing _ (sym c.is_some.ensures ∙ c.if-is_some.false));
-      into = passed_moved net.links states (head_of net.links) (length net.nodes) node c.len.result old.into.items _ old.reached.items old.reached.items c.requires.searching.into (inside_too g s) refl
+      into = passed_moved net.links states (head_of net.links) (length net.nodes) node c.len.result old.into.items _ old.reached.items old.reached.items c.requires.searching.into (inside_too g s) (on g s) refl
           (record { within = omega (arith, c.len.ensures); ends = λ past. absurd (omega (arith, c.len.ensures)) })
           (λ link to late early here leads.
           let within : link < length net.links = omega (arith, c.len.ensures) in
           absurd (both_ways _ unmarked
           (nothing_entered net.links (length net.nodes) states c.args.entered.now node link to c.requires.entered unmarked here (ends_apart net.links (length net.nodes) link net.network.link_ends within) leads)))
-          (λ other on. on);
+          (λ other there. there);
     }
 
 pub returns-then-not-entered-node-clause-ticks : goal.returns-then-not-entered-node-clause-ticks
@@ -228,7 +232,7 @@ returns-clause-led g c =
     record {
       from = over g s two.result.entry (nothing _ (sym c.is_some.ensures ∙ c.if-is_some.false));
       into = chain_passed c.args.net.now c.args.residual.now.states Head (length c.args.net.now.nodes) c.index-node.result.now c.index-first-2.result.now old.into.items _ old.reached.items two.result
-          c.pass_chain-passed.new.steps two.new.steps two.ensures.passed c.requires.searching.into (inside_too g s) (second g s c.index-first-2.result.now c.index-first-2.ensures) refl;
+          c.pass_chain-passed.new.steps two.new.steps two.ensures.passed c.requires.searching.into (inside_too g s) (on g s) (second g s c.index-first-2.result.now c.index-first-2.ensures) refl;
     }
 
 pub returns-clause-looked : goal.returns-clause-looked

@@ -1,10 +1,9 @@
-use Rattle.std.specs.Prelude.{◌≡◌, ◌<◌, ℕ, true, false, None, Some, length, slice_set}
+use Rattle.std.specs.Prelude.{◌<◌, ℕ, true, false, None, Some, length, slice_set}
 use Rattle.std.proofs.Common.{sym, ◌∙◌, ap, subst, arith}
 use Rattle.std.proofs.lemmas.List.{get_or-set_same}
 use Rattle.std.proofs.lemmas.Option.{same_Some}
 use Rattle.net_model.specs.Flows.{is_on}
-use Rattle.unit_flow.specs.Residual.{passage}
-use Rattle.unit_flow.specs.Searching.{HasPassed, IsEntry}
+use Rattle.unit_flow.specs.Searching.{HasPassed}
 use Rattle.unit_flow.specs.declared.search.Entry.{Entry}
 use Rattle.unit_flow.proofs.PassingSteps.{IsNextAt-read, passing_more, passing_none, steps_kept}
 use Rattle.unit_flow.proofs.search.Search.pass_chain.Goals as goal

@@ -1,6 +1,6 @@
 use Rattle.std.proofs.Common.{sym, ◌∙◌, ap, arith}
 use Rattle.net_model.specs.Flows.{flow_network, is_on}
-use Rattle.unit_flow.proofs.ReachSteps.{IsReached-searched, few_looks, looks-le}
+use Rattle.unit_flow.proofs.ReachSteps.{IsReached-searched, few_looks, looks-le, looks-reached}
 use Rattle.unit_flow.proofs.search.Search.reaches_sink.Goals as goal
 
 pub loop-self-init : goal.loop-self-init
@@ -44,3 +44,9 @@ returns-clause-ticks g c = c.loop-self.invariant.steps
 
 pub returns-clause-few_looks : goal.returns-clause-few_looks
 returns-clause-few_looks g c = few_looks c.args.net.now.links c.args.entered.now c.loop-self.self c.args.steps.now c.loop-self.steps c.loop-self.invariant.steps
+
+pub returns-clause-each_once : goal.returns-clause-each_once
+returns-clause-each_once g c = λ _.
+    let network = flow_network c.args.net.now c.args.residual.now.demand in
+    let once = looks-reached network c.args.residual.now.states c.args.entered.now c.loop-self.self c.loop-self.invariant.searching (omega (arith, c.loop-self-test.false)) in
+    omega (arith, c.loop-self.invariant.steps, once)
