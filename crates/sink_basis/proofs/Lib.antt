@@ -1,3 +1,4 @@
 pub mod BasisLaws
 pub mod IdentitySteps
 pub mod InvertedLaws
+pub mod RenewalSteps

@@ -1,6 +1,7 @@
 -- The inverse vectors of a basis after one of its vectors was replaced (Jaggi et al. 2005): by one pass over the old ones,
 -- and as the columns of the inverse of the vectors.
-use Rattle.std.specs.Prelude.{◌≡◌, ◌≢◌, ◌≤◌, ◌<◌, ℕ, List, length}
+use Rattle.std.specs.Prelude.{◌≡◌, ◌≢◌, ◌≤◌, ◌<◌, ◌+◌, ◌*◌, ◌==◌, ◌&&◌, not, ℕ, Bool, List, count_by, if◌then◌else◌, length}
+use Rattle.std.specs.List.{range_with_len}
 use Rattle.field_vectors.specs.Elements.{column_of, dot_of, plus_multiple, multiple_of}
 use Rattle.field_vectors.specs.Grid.{Grid, IsMatrix, row_of, with_row}
 
@@ -25,6 +26,24 @@ pub record IsRenewed {A : Type 0} (is_element : A → Type 0) (zero : A) (add mu
   pub kept : IsMatrix is_element new
   pub own : row_of new path ≡ multiple_of mul (inv (dot_of zero add mul vector (row_of old path))) (row_of old path)
   pub other : (k : ℕ) → k < length old.rows → k ≢ path → row_of new k ≡ plus_multiple add mul (row_of old k) (dot_of zero add mul vector (row_of old k)) (row_of new path)
+
+-- whether a row changes in a renewal: it isn't the path's, and its product with the vector isn't zero
+abbrev pub is_changed : {A : Type 0} → (A → ℕ) → A → (A → A → A) → (A → A → A) → ℕ → List A → Grid A → ℕ → Bool
+is_changed number zero add mul path vector inverses k = not (k == path) && not (number (dot_of zero add mul vector (row_of inverses k)) == 0)
+
+-- how many other inverse vectors have a product with the vector that isn't zero
+abbrev pub others_changed : {A : Type 0} → (A → ℕ) → A → (A → A → A) → (A → A → A) → ℕ → List A → Grid A → ℕ
+others_changed number zero add mul path vector inverses = count_by (is_changed number zero add mul path vector inverses) (range_with_len 0 (length inverses.rows))
+
+-- the steps for another row: its product with the vector, and where that isn't zero, the multiple that is added
+abbrev pub clear_steps : {A : Type 0} → (A → ℕ) → A → (A → A → A) → (A → A → A) → ℕ → List A → Grid A → ℕ → ℕ
+clear_steps number zero add mul path vector inverses k = if is_changed number zero add mul path vector inverses k then 2 * inverses.columns else inverses.columns
+
+-- the steps of a renewal: the product of the vector with each inverse vector, the inverse of one product, the path's row
+-- times that, and a multiple of this row for each other whose product isn't zero
+abbrev pub renewal_steps : {A : Type 0} → (A → ℕ) → A → (A → A → A) → (A → A → A) → ℕ → List A → Grid A → ℕ
+renewal_steps number zero add mul path vector inverses =
+    length inverses.rows * inverses.columns + 1 + inverses.columns + others_changed number zero add mul path vector inverses * inverses.columns
 
 -- The rows of a matrix are the columns of another.
 pub record IsTransposed {A : Type 0} (is_element : A → Type 0) (zero : A) (old new : Grid A) : Type 0 where

@@ -1,10 +1,11 @@
 //! Bases on the frontier of a sink's paths.
 ghost use Rattle.std.specs.Prelude.{◌≡◌, ◌≢◌, ◌*◌, ◌<◌, ◌≤◌, length, None, Some, replicate, slice_set, IfOk, OnOk, OnErr};
-ghost use Rattle.counted_steps.specs.Steps.{RoseByAtMost};
+ghost use Rattle.counted_steps.specs.Steps.{RoseBy, RoseByAtMost};
 ghost use Rattle.field_vectors.specs.Elements.{dot_of, identity_of};
 ghost use Rattle.field_vectors.specs.Grid.{AreMatrices, row_of, with_row};
 ghost use Rattle.net_model.specs.Limits.{highest_rate};
 ghost use Rattle.sink_basis.specs.Basis.{IsBasis, IsNumbered};
+ghost use Rattle.sink_basis.specs.Renewal.{renewal_steps};
 
 use crate::inverting::{inverses_of, replaced};
 use crate::renewal::{identity, no_links, renew_inverses};
@@ -51,8 +52,9 @@ impl<F: Field> Basis<F> {
 
     /// Makes `link` the frontier link of the path, and `vector` its vector, by one pass over the inverse vectors
     /// (Jaggi et al. 2005). All other links and vectors stay, and where the vector is the path's already, the inverse
-    /// vectors do too. It takes no memory, and counts at most three steps for each entry of a matrix. The product of
-    /// the vector and the path's inverse must not be zero.
+    /// vectors do too. It takes no memory. It counts a step for each product of elements and one for the inverse of an
+    /// element: none where the vector is the path's already, and at most three for each entry of a matrix. The product
+    /// of the vector and the path's inverse must not be zero.
     pub fn advance<L: Ledger>(&mut self, path: u32, link: u32, vector: &[F], steps: &mut Steps<L>)
         requires path { path < length self.old.frontier }
         requires width { length vector.now ≡ length self.old.frontier }
@@ -60,7 +62,12 @@ impl<F: Field> Basis<F> {
             ≢ F.zero }
         ensures frontier { self.new.frontier ≡ slice_set self.old.frontier path (Some link) }
         ensures vectors { self.new.vectors ≡ with_row self.old.vectors path vector.now }
-        ensures ticks { let h = length self.old.frontier
+        ensures same_vector { row_of self.old.vectors path ≡ vector.now
+            → RoseBy 0 steps.old steps.new }
+        ensures new_vector { row_of self.old.vectors path ≢ vector.now → RoseBy
+            (renewal_steps F.number F.zero F.add F.mul path vector.now self.old.inverses)
+            steps.old steps.new }
+        ensures few_ticks { let h = length self.old.frontier
             in RoseByAtMost (3 * h * h) steps.old steps.new }
     {
         if self.vectors.row(path) != vector {

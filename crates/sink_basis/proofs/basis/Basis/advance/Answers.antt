@@ -1,5 +1,5 @@
 -- A vector that is the path's already changes no matrix.
-use Rattle.std.proofs.Common.{◌≡◌, ◌<◌, List, [], length, slice_set, arith, ap, refl, sym, ◌∙◌}
+use Rattle.std.proofs.Common.{◌≡◌, ◌<◌, List, [], false, length, not, slice_set, true, arith, ap, refl, sym, ◌∙◌}
 use Rattle.std.proofs.lemmas.Bool.{not-false}
 use Rattle.std.proofs.lemmas.List.{length-set, set-get_or}
 use Rattle.std.proofs.lemmas.Slice.Eq.{slice_eq-Decides}
@@ -50,4 +50,23 @@ returns-clause-vectors g c =
           (let same : row_of old path ≡ v = sym c.row.ensures.value ∙ (slice_eq-Decides g.met.F.Field.equal c.row.result.now v _ refl).0 (not-false _ (sym c.ne.ensures ∙ w.if-ne.false)) in
           let grid = λ (rows : List (List g.row.F.Denot)). let m : Grid g.row.F.Denot = record { columns = old.columns; rows = rows } in m in
           ap (λ it. it.1.1.0) w.self-is ∙ ap grid (sym (set-get_or old.rows path []) ∙ ap (slice_set old.rows path) same))
+    ]
+
+pub returns-clause-same_vector : goal.returns-clause-same_vector
+returns-clause-same_vector g c = λ same.
+    elim c.if-ne.branch [
+      | then-ne w ↦
+          (let equal = (slice_eq-Decides g.met.F.Field.equal c.row.result.now c.args.vector.now _ refl).1 (c.row.ensures.value ∙ same) in
+          let both : true ≡ false = sym w.if-ne.true ∙ c.ne.ensures ∙ ap not equal in
+          cc)
+      | else-ne w ↦ omega (arith, w.steps-is)
+    ]
+
+pub returns-clause-new_vector : goal.returns-clause-new_vector
+returns-clause-new_vector g c = λ other.
+    elim c.if-ne.branch [
+      | then-ne w ↦ w.steps-is ∙ w.renew_inverses.ensures.ticks
+      | else-ne w ↦
+          (let same = sym c.row.ensures.value ∙ (slice_eq-Decides g.met.F.Field.equal c.row.result.now c.args.vector.now _ refl).0 (not-false _ (sym c.ne.ensures ∙ w.if-ne.false)) in
+          absurd (other same))
     ]
