@@ -29,3 +29,4 @@ pub mod StartSteps
 pub mod AllSteps
 pub mod BuildSteps
 pub mod WorkLaws
+pub mod CountLaws

@@ -1,6 +1,6 @@
 -- What the table of products is made of, by which the coefficients of a link are chosen: a row for
 -- each hop over it, a column for each source.
-use Rattle.std.specs.Prelude.{◌≡◌, ◌<◌, ◌%◌, ℕ, Bool, List, [], All, length, replicate, slice_index_or, if◌then◌else◌}
+use Rattle.std.specs.Prelude.{◌≡◌, ◌<◌, ◌%◌, ℕ, Bool, true, false, List, [], All, length, replicate, slice_index_or, if◌then◌else◌}
 use Rattle.field_vectors.specs.Grid.{Grid, grid_of}
 use Rattle.gf_tables.specs.declared.kind.FieldKind.{FieldKind}
 use Rattle.linear_algebra.specs.Rows.{dot}
@@ -44,3 +44,9 @@ abbrev pub product_by : {A : Type 0}
 product_by kind number leaves vectors inverses path from =
     dot kind (source_vector leaves vectors.columns (numbers_at number vectors) from)
     (numbers_at number inverses path)
+
+-- the steps of such a product with vectors of so many places: a step for each place, and none where
+-- the link leaves the source, since the product is an entry then
+abbrev pub product_steps : Bool → ℕ → ℕ
+product_steps true width = 0
+product_steps false width = width

@@ -1,12 +1,13 @@
 //! The vectors of a link that is visited, under all patterns.
 ghost use Rattle.std.specs.Prelude.{◌≡◌, ◌*◌, ◌<◌, All, false, length, replicate, true};
-ghost use Rattle.counted_steps.specs.Steps.{RoseByAtMost};
+ghost use Rattle.counted_steps.specs.Steps.{RoseBy, RoseByAtMost};
 ghost use Rattle.field_vectors.specs.Grid.{IsMatrix, row_of};
 ghost use Rattle.gf_tables.specs.Kind.{IsOfKind};
 ghost use Rattle.gf_tables.specs.declared.kind.FieldKind.{FieldKind};
+ghost use Rattle.node_program.specs.Carried.{carry_steps};
 ghost use Rattle.node_program.specs.Value.{leaves_source};
 ghost use Rattle.lif_compiler.specs.Failing.{AreFailedTables};
-ghost use Rattle.lif_compiler.specs.Steps.{AreCarried, AreFromBelow, IsCarriedUnless};
+ghost use Rattle.lif_compiler.specs.Steps.{AreCarried, AreFromBelow, IsCarriedUnless, carry_steps_unless, carrying_patterns};
 ghost use Rattle.lif_compiler.specs.Tables.{AreOfShape};
 
 use counted_steps::Steps;
@@ -16,7 +17,8 @@ use net_model::Net;
 use node_program::{Operand, carry};
 use std::sync::ledger::Ledger;
 
-// Makes the row of a link, which is zero, what the link carries by its operands, unless it fails.
+// Makes the row of a link, which is zero, what the link carries by its operands, unless it fails. It counts a step for
+// each place of each operand's vector, and none where the link fails or leaves the source.
 fn carry_unless<F: Field, L: Ledger>(
     is_failed: bool,
     vectors: &mut Matrix<F>,
@@ -33,8 +35,9 @@ fn carry_unless<F: Field, L: Ledger>(
     ensures carried { (kind : FieldKind) → IsOfKind kind F.SIZE F.BYTES F.MARK F.product
         → IsCarriedUnless is_failed kind F.number leaves operands.now link vectors.old vectors.new }
     ensures kept { IsMatrix F.is_element vectors.new }
-    ensures ticks { RoseByAtMost
-        (length operands.now * vectors.old.columns) steps.old steps.new }
+    ensures ticks { RoseBy
+        (carry_steps_unless is_failed leaves (length operands.now) vectors.old.columns)
+        steps.old steps.new }
 {
     if !is_failed {
         carry(vectors, link, leaves, operands, steps);
@@ -43,8 +46,8 @@ fn carry_unless<F: Field, L: Ledger>(
 }
 
 /// Makes under each pattern the row of a link, which is zero, what the link carries by its
-/// operands. The tables say which links fail. It counts at most a step for each place of each
-/// operand's vector.
+/// operands. The tables say which links fail. It counts a step for each place of each operand's
+/// vector under each pattern in which the link doesn't fail, and none where it leaves the source.
 pub fn carry_all<F: Field, L: Ledger>(
     vectors: &mut [Matrix<F>],
     rate: u32,
@@ -65,7 +68,9 @@ pub fn carry_all<F: Field, L: Ledger>(
     ensures carried { (kind : FieldKind) → IsOfKind kind F.SIZE F.BYTES F.MARK F.product
         → AreCarried kind F.number net.now link operands.now vectors.old vectors.new }
     ensures kept { All (IsMatrix F.is_element) vectors.new }
-    ensures ticks { RoseByAtMost
+    ensures ticks { let once = carry_steps (leaves_source net.now link) (length operands.now) rate
+        in RoseBy (carrying_patterns net.now link * once) steps.old steps.new }
+    ensures few_ticks { RoseByAtMost
         (length vectors.old * (length operands.now * rate)) steps.old steps.new }
 {
     let leaves = net.leaves_source(link);

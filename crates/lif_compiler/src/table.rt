@@ -1,13 +1,14 @@
 //! The table of products by which the coefficients of a link are chosen.
-ghost use Rattle.std.specs.Prelude.{◌≡◌, ◌≢◌, ◌*◌, ◌<◌, ◌≤◌, ◌^◌, ℕ, All, IfOk, false, length, map, slice_index, slice_index_or, true};
-ghost use Rattle.counted_steps.specs.Steps.{RoseByAtMost};
+ghost use Rattle.std.specs.Prelude.{◌≡◌, ◌≢◌, ◌*◌, ◌<◌, ◌≤◌, ◌^◌, ℕ, All, IfOk, OnErr, OnOk, false, length, map, slice_index, slice_index_or, true};
+ghost use Rattle.counted_steps.specs.Steps.{RoseBy, RoseByAtMost};
 ghost use Rattle.field_vectors.specs.Grid.{row_of};
 ghost use Rattle.gf_tables.specs.Kind.{IsOfKind};
 ghost use Rattle.gf_tables.specs.declared.kind.FieldKind.{FieldKind};
 ghost use Rattle.node_program.specs.Carried.{numbers_at};
+ghost use Rattle.node_program.specs.Value.{leaves_source};
 ghost use Rattle.lif_compiler.specs.Bases.{HasWidth};
 ghost use Rattle.lif_compiler.specs.PartialCodes.{IsTableFor};
-ghost use Rattle.lif_compiler.specs.Tables.{AreAmong, AreNamed, AreOfShape, CanFeed, product_by};
+ghost use Rattle.lif_compiler.specs.Tables.{AreAmong, AreNamed, AreOfShape, CanFeed, product_by, product_steps};
 
 use crate::Hop;
 use crate::partial_code::PartialCode;
@@ -18,7 +19,8 @@ use net_model::Net;
 use std::alloc::{AllocError, Global};
 use std::sync::ledger::Ledger;
 
-// The product of the vector of a source with the inverse vector of a path. It counts at most a step for each place.
+// The product of the vector of a source with the inverse vector of a path. It counts a step for each place, and none
+// where the link leaves the source.
 fn product<F: Field, L: Ledger>(
     leaves: bool,
     from: u32,
@@ -34,7 +36,7 @@ fn product<F: Field, L: Ledger>(
     ensures element { F.is_element result }
     ensures value { (kind : FieldKind) → IsOfKind kind F.SIZE F.BYTES F.MARK F.product →
         F.number result ≡ product_by kind F.number leaves vectors.now inverses.now path from }
-    ensures ticks { RoseByAtMost inverses.now.columns steps.old steps.new }
+    ensures ticks { RoseBy (product_steps leaves inverses.now.columns) steps.old steps.new }
 {
     if leaves {
         inverses.at(path, from)
@@ -65,8 +67,8 @@ fn fill_row<F: Field, L: Ledger>(
         → numbers_at F.number table.new row
         ≡ map (product_by kind F.number leaves vectors.now inverses.now path) sources.now }
     ensures others { (other : ℕ) → other ≢ row → row_of table.new other ≡ row_of table.old other }
-    ensures ticks { RoseByAtMost
-        (length sources.now * inverses.now.columns) steps.old steps.new }
+    ensures ticks { RoseBy
+        (length sources.now * product_steps leaves inverses.now.columns) steps.old steps.new }
 {
     for column in 0..table.columns() {
         let from = sources[column as usize];
@@ -77,7 +79,8 @@ fn fill_row<F: Field, L: Ledger>(
 
 impl<F: Field> PartialCode<F> {
     /// The table of the products of the sources' vectors with the inverse vectors of the hops' paths: a row for each
-    /// hop over the link, a column for each source. It counts at most a step for each place of each product's vectors.
+    /// hop over the link, a column for each source. It counts a step for each place of each product's vectors, and none
+    /// where the link leaves the source or there is too little memory.
     pub fn table_of<L: Ledger>(
         &self,
         alloc: Global,
@@ -96,7 +99,11 @@ impl<F: Field> PartialCode<F> {
         requires few_sources { length sources.now < 2 ^ 32 }
         requires few_hops { length hops.now < 2 ^ 32 }
         ensures table { IfOk result (IsTableFor net.now link sources.now hops.now self.now) }
-        ensures ticks { RoseByAtMost
+        ensures ticks { let once = product_steps (leaves_source net.now link) self.now.rate
+            in OnOk result (RoseBy (length hops.now * (length sources.now * once))
+            steps.old steps.new) }
+        ensures refused_ticks { OnErr result (RoseBy 0 steps.old steps.new) }
+        ensures few_ticks { RoseByAtMost
             (length hops.now * (length sources.now * self.now.rate)) steps.old steps.new }
     {
         let leaves = net.leaves_source(link);

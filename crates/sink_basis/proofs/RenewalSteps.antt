@@ -92,8 +92,8 @@ others_steps others changed rows width old new more last =
 
 -- the steps of the products, of the inverse, of the path's row and of the others
 pub all_steps : (others changed changed' columns rows width old a b c new : ℕ) → others + 1 ≡ rows → changed' ≡ changed → width ≡ columns
-    → RoseBy columns old a → RoseBy columns a b → RoseBy 1 b c → RoseBy ((others + changed') * width) c new → RoseBy (rows * columns + 1 + columns + changed * columns) old new
-all_steps others changed changed' columns rows width old a b c new more same wide first second third last =
+    → RoseBy columns old a → RoseBy columns a b → RoseBy ((others + changed') * width) c new → RoseBy 1 b c → RoseBy (rows * columns + 1 + columns + changed * columns) old new
+all_steps others changed changed' columns rows width old a b c new more same wide first second last third =
     let rest : new ≡ c + (others + changed) * columns = last ∙ ap (λ changed. c + (others + changed) * width) same ∙ ap (λ width. c + (others + changed) * width) wide in
     subst (λ rows. RoseBy (rows * columns + 1 + columns + changed * columns) old new) more (omega arith)
 

@@ -4,7 +4,8 @@ use Rattle.std.proofs.lemmas.List.Elements.{All-set}
 use Rattle.std.proofs.lemmas.Option.{slice_get-get_or}
 use Rattle.field_vectors.specs.Grid.{Grid, row_of}
 use Rattle.lif_compiler.specs.Bases.{HasMatrices}
-use Rattle.lif_compiler.proofs.BasesLaws.{inverses_in-at}
+use Rattle.lif_compiler.proofs.BasesLaws.{inverses_in-at, vectors_in-at}
+use Rattle.lif_compiler.proofs.CountLaws.{hop_counted, hops_all, hops_counted}
 use Rattle.lif_compiler.specs.declared.hops.Hop.{Hop}
 use Rattle.lif_compiler.proofs.AdvanceSteps.{apart_before, inverses_more, advanced_more, advanced_nonzero, widths_more}
 use Rattle.lif_compiler.proofs.TableSteps.{vectors_read}
@@ -45,6 +46,16 @@ loop-hop-preserved g c =
           so_far.advanced c.advance.ensures.frontier c.advance.ensures.vectors row;
       widths = widths_more hops k hop c.requires.once here c.args.bases.now c.loop-hop.bases basis c.advance.new.basis within is c.args.rate c.args.link so_far.widths c.advance.ensures.frontier;
       matrices = All-set HasMatrices c.loop-hop.bases hop.demand c.advance.new.basis c.advance.ensures.matrices so_far.matrices;
-      ticks = turns_more k _ (3 * c.args.rate * c.args.rate) c.args.steps.now c.loop-hop.steps c.advance.new.steps (ap (λ h. 3 * h * h) (so_far.widths hop.demand c.index-bases-demand.result within)) so_far.ticks c.advance.ensures.ticks;
+      ticks =
+          hops_counted c.args.link c.args.vectors.now c.args.bases.now hops k none c.args.steps.now c.loop-hop.steps c.advance.new.steps (omega arith) so_far.ticks
+          (hop_counted c.args.link c.args.vectors.now c.args.bases.now hop basis.vectors basis.inverses c.row.result.now c.loop-hop.steps c.advance.new.steps g.met.F.Field.equal
+          (sym (vectors_in-at c.loop-hop.bases hop.demand c.index-bases-demand.result within) ∙ so_far.advanced.vectors_other hop.demand (apart_before hops k hop c.requires.once here))
+          (sym (inverses_in-at c.loop-hop.bases hop.demand c.index-bases-demand.result within) ∙ so_far.inverses hop.demand (apart_before hops k hop c.requires.once here))
+          row c.advance.ensures.same_vector c.advance.ensures.new_vector);
+      few_ticks = turns_more k _ (3 * c.args.rate * c.args.rate) c.args.steps.now c.loop-hop.steps c.advance.new.steps (ap (λ h. 3 * h * h) (so_far.widths hop.demand c.index-bases-demand.result within)) so_far.few_ticks c.advance.ensures.few_ticks;
       inverses = inverses_more hops k hop c.requires.once here c.args.bases.now c.loop-hop.bases basis c.advance.new.basis within is so_far.inverses;
     }
+
+pub returns-clause-ticks : goal.returns-clause-ticks
+returns-clause-ticks g c =
+    hops_all c.args.link c.args.vectors.now c.args.bases.now c.args.hops.now c.loop-hop.hop-index c.args.steps.now c.loop-hop.steps (omega arith) c.loop-hop.invariant.ticks

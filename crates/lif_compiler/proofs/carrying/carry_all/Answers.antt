@@ -1,12 +1,13 @@
 use Rattle.std.proofs.Common.{◌≡◌, ◌*◌, ◌<◌, ◌∙◌, [], false, length, replicate, ap, arith, subst, sym}
 use Rattle.std.proofs.lemmas.List.{get_or_default}
-use Rattle.counted_steps.specs.Steps.{RoseByAtMost}
+use Rattle.counted_steps.specs.Steps.{RoseBy}
 use Rattle.field_vectors.specs.Grid.{Grid, IsMatrix, row_of}
+use Rattle.node_program.specs.Carried.{carry_steps}
 use Rattle.node_program.specs.Value.{leaves_source}
+use Rattle.lif_compiler.proofs.CountLaws.{carry_counted, carry_few, carrying_below}
 use Rattle.lif_compiler.proofs.CarrySteps.{carried_first, carried_more, carried_same, held_next, kept_more, shape_first, shape_more, shape_next}
 use Rattle.lif_compiler.specs.Steps.{AreCarriedTo, AreFromBelow}
 use Rattle.lif_compiler.proofs.FailingSteps.{table_read}
-use Rattle.lif_compiler.proofs.WorkLaws.{turns_more}
 use Rattle.lif_compiler.proofs.carrying.carry_all.Goals as goal
 use Rattle.lif_compiler.proofs.carrying.carry_all.Goals.{After-loop-pattern}
 
@@ -15,7 +16,7 @@ loop-pattern-init g c = record {
   behind = shape_first c.args.vectors.now;
   made = λ kind of_kind. carried_first kind g.F.Field.number c.args.operands.now c.args.link c.args.net.now c.args.vectors.now;
   kept = λ k none below. absurd (omega arith);
-  ticks = record { not_below = omega arith; not_above = omega arith };
+  ticks = omega arith;
 }
 
 pub bounds-failed-pattern : goal.bounds-failed-pattern
@@ -68,7 +69,15 @@ returns-clause-kept g c = λ k none below. c.loop-pattern.invariant.kept k none 
 
 pub returns-clause-ticks : goal.returns-clause-ticks
 returns-clause-ticks g c =
-    subst (λ count. RoseByAtMost (count * (length c.args.operands.now * c.args.rate)) c.args.steps.now c.loop-pattern.steps) (whole g c) c.loop-pattern.invariant.ticks
+    let net = c.args.net.now in
+    let once = carry_steps (leaves_source net c.args.link) (length c.args.operands.now) c.args.rate in
+    subst (λ count. RoseBy (carrying_below net c.args.link count * once) c.args.steps.now c.loop-pattern.steps) (whole g c ∙ c.requires.each_pattern) c.loop-pattern.invariant.ticks
+
+pub returns-clause-few_ticks : goal.returns-clause-few_ticks
+returns-clause-few_ticks g c =
+    let net = c.args.net.now in
+    carry_few net c.args.link (leaves_source net c.args.link) (length c.args.vectors.now) (length c.args.operands.now) c.args.rate c.args.steps.now c.loop-pattern.steps
+    c.requires.each_pattern (returns-clause-ticks g c)
 
 pub loop-pattern-preserved : goal.loop-pattern-preserved
 loop-pattern-preserved g c =
@@ -94,5 +103,7 @@ loop-pattern-preserved g c =
           (carried_same kind F.number c.args.operands.now c.args.link c.index-is_failed.result.now _ c.leaves_source-leaves.result leaves _ _ c.carry_unless.new.vectors
           fails c.leaves_source-leaves.ensures here (c.carry_unless.ensures.carried kind of_kind));
       kept = kept_more (IsMatrix F.is_element) pattern now c.carry_unless.new.vectors within c.carry_unless.ensures.kept so_far.kept;
-      ticks = turns_more pattern _ (length c.args.operands.now * c.args.rate) c.args.steps.now c.loop-pattern.steps c.carry_unless.new.steps (ap (λ columns. length c.args.operands.now * columns) wide) so_far.ticks c.carry_unless.ensures.ticks;
+      ticks =
+          carry_counted c.args.net.now c.args.link pattern c.index-is_failed.result.now c.leaves_source-leaves.result leaves (length c.args.operands.now) _ c.args.rate
+          c.args.steps.now c.loop-pattern.steps c.carry_unless.new.steps fails c.leaves_source-leaves.ensures wide so_far.ticks c.carry_unless.ensures.ticks;
     }

@@ -1,10 +1,11 @@
-use Rattle.std.proofs.Common.{◌≡◌, ℕ, slice_index, arith, refl}
+use Rattle.std.proofs.Common.{◌≡◌, ℕ, length, slice_index, arith, refl}
 use Rattle.gf_tables.specs.Kind.{IsOfKind}
 use Rattle.gf_tables.specs.declared.kind.FieldKind.{FieldKind}
 use Rattle.linear_algebra.specs.Rows.{dot}
 use Rattle.node_program.specs.Carried.{numbers_at, source_vector}
+use Rattle.lif_compiler.specs.Tables.{product_steps}
+use Rattle.lif_compiler.proofs.CountLaws.{turn_counted, turns_counted}
 use Rattle.lif_compiler.proofs.TableSteps.{filled_more, filled_row}
-use Rattle.lif_compiler.proofs.WorkLaws.{turns_more}
 use Rattle.lif_compiler.proofs.table.fill_row.Goals as goal
 
 pub loop-column-preserved : goal.loop-column-preserved
@@ -15,7 +16,7 @@ loop-column-preserved g c =
     record {
       filled = filled_more F.number c.args.row Entry c.loop-column.column c.args.table.now c.loop-column.table c.set.new.self c.product-entry.result
           c.requires.row (omega (arith, c.requires.columns, c.loop-column-test.true)) c.loop-column.invariant.filled c.set.ensures.value c.product-entry.ensures.value;
-      ticks = turns_more c.loop-column.column _ c.args.inverses.now.columns c.args.steps.now c.loop-column.steps c.product-entry.new.steps refl c.loop-column.invariant.ticks c.product-entry.ensures.ticks;
+      ticks = turn_counted c.loop-column.column _ (product_steps c.args.leaves c.args.inverses.now.columns) c.args.steps.now c.loop-column.steps c.product-entry.new.steps refl c.loop-column.invariant.ticks c.product-entry.ensures.ticks;
     }
 
 pub returns-clause-products : goal.returns-clause-products
@@ -32,3 +33,8 @@ returns-clause-products g c = λ kind of_kind.
       others = is.others;
       entries = λ column within. is.entries column (omega (arith, c.loop-column-test.false)) kind of_kind;
     })
+
+pub returns-clause-ticks : goal.returns-clause-ticks
+returns-clause-ticks g c =
+    turns_counted c.loop-column.column (length c.args.sources.now) (product_steps c.args.leaves c.args.inverses.now.columns) c.args.steps.now c.loop-column.steps
+    (omega (arith, c.requires.columns)) c.loop-column.invariant.ticks

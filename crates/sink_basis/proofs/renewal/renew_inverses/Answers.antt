@@ -20,10 +20,10 @@ returns-clause-ticks g c =
     let more : others + 1 ≡ length old.rows = omega (arith, c.requires.path) in
     let row : (k : ℕ) → k ≢ path → row_of scaled k ≡ row_of old k = λ k apart. ap (λ m. row_of m k) made ∙ row_of-with_other old path k _ apart in
     all_steps others (others_changed F.number F.zero F.add F.mul path v old) (others_changed F.number F.zero F.add F.mul path v scaled) old.columns (length old.rows) scaled.columns
-    c.args.steps.now c.dot-product.new.steps c.scale_row.new.steps c.tick.new.self c.clear_others.new.steps
+    c.args.steps.now c.dot-product.new.steps c.scale_row.new.steps _ c.clear_others.new.steps
     more (others_changed-same F.number F.zero F.add F.mul path v old scaled tall row) (ap (λ m. m.columns) made)
-    (subst (λ w. RoseBy w c.args.steps.now c.dot-product.new.steps) c.requires.width c.dot-product.ensures.ticks) c.scale_row.ensures.ticks c.tick.ensures
-    (c.clear_others.ensures.ticks others (more ∙ sym tall))
+    (subst (λ w. RoseBy w c.args.steps.now c.dot-product.new.steps) c.requires.width c.dot-product.ensures.ticks) c.scale_row.ensures.ticks
+    (c.clear_others.ensures.ticks others (more ∙ sym tall)) (omega arith)
 
 pub returns-clause-few_ticks : goal.returns-clause-few_ticks
 returns-clause-few_ticks g c =

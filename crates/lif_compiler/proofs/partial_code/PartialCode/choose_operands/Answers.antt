@@ -87,18 +87,18 @@ pub returns-in_err-table-clause-ticks : goal.returns-in_err-table-clause-ticks
 returns-in_err-table-clause-ticks g c =
     let hops = c.args.hops.now in
     let are = subst (AreSources (befores hops)) (sym c.deref-2.ensures.value) c.in_ok-sources.ensures in
-    table_ticks hops c.deref-2.result.now are c.args.self.now.rate c.args.steps.now c.table_of.new.steps c.table_of.ensures.ticks
+    table_ticks hops c.deref-2.result.now are c.args.self.now.rate c.args.steps.now c.table_of.new.steps c.table_of.ensures.few_ticks
 
 pub returns-in_err-coefficients-clause-ticks : goal.returns-in_err-coefficients-clause-ticks
 returns-in_err-coefficients-clause-ticks g c =
     let hops = c.args.hops.now in
     let are = subst (AreSources (befores hops)) (sym c.deref-2.ensures.value) c.in_ok-sources.ensures in
     let table = c.in_ok-table.ensures.table (marked_kind g.F.Field.MARK) c.requires.field in
-    choice_ticks hops c.deref-2.result.now are c.args.self.now.rate c.args.steps.now _ _ c.table_of.new.steps c.choose.new.steps table.height table.columns c.table_of.ensures.ticks c.choose.ensures.ticks
+    choice_ticks hops c.deref-2.result.now are c.args.self.now.rate c.args.steps.now _ _ c.table_of.new.steps c.choose.new.steps table.height table.columns c.table_of.ensures.few_ticks c.choose.ensures.ticks
 
 pub returns-clause-ticks : goal.returns-clause-ticks
 returns-clause-ticks g c =
     let hops = c.args.hops.now in
     let are = subst (AreSources (befores hops)) (sym c.deref-2.ensures.value) c.in_ok-sources.ensures in
     let table = c.in_ok-table.ensures.table (marked_kind g.F.Field.MARK) c.requires.field in
-    choice_ticks hops c.deref-2.result.now are c.args.self.now.rate c.args.steps.now _ _ c.table_of.new.steps c.choose.new.steps table.height table.columns c.table_of.ensures.ticks c.choose.ensures.ticks
+    choice_ticks hops c.deref-2.result.now are c.args.self.now.rate c.args.steps.now _ _ c.table_of.new.steps c.choose.new.steps table.height table.columns c.table_of.ensures.few_ticks c.choose.ensures.ticks

@@ -1,18 +1,19 @@
 use Rattle.std.proofs.Common.{ℕ, Bool, ◌*◌, ◌<◌, ◌%◌, ◌∙◌, length, slice_index_or, ap, arith, subst, sym}
+use Rattle.std.proofs.Math.Path.{ap₂}
 use Rattle.std.proofs.lemmas.Option.{slice_get-get_or, slice_get_within}
 use Rattle.field_vectors.specs.Grid.{Grid}
 use Rattle.sink_basis.specs.declared.basis.Basis.{Basis}
 use Rattle.node_program.specs.Value.{leaves_source}
-use Rattle.lif_compiler.specs.Tables.{AreNamed}
+use Rattle.lif_compiler.specs.Tables.{AreNamed, product_steps}
 use Rattle.lif_compiler.specs.declared.hops.Hop.{Hop}
+use Rattle.lif_compiler.proofs.CountLaws.{table_few, turn_counted, turns_counted}
 use Rattle.lif_compiler.proofs.TableSteps.{inverses_read, products_same, table_first, table_more, vectors_read}
-use Rattle.lif_compiler.proofs.WorkLaws.{turns_more}
 use Rattle.lif_compiler.proofs.partial_code.PartialCode.table_of.Goals as goal
 
 pub loop-row-init : goal.loop-row-init
 loop-row-init g c = record {
   made = table_first g.F.Field.number _ c.args.hops.now (length c.args.sources.now) g.F.Field.zero c.in_ok-table.table c.in_ok-table.ensures.value;
-  ticks = record { not_below = omega arith; not_above = omega arith };
+  ticks = omega arith;
 }
 
 pub fill_row-requires-clause-row : goal.fill_row-requires-clause-row
@@ -74,7 +75,9 @@ loop-row-preserved g c =
           c.leaves_source-leaves.ensures (ap (λ (m : Grid g.row.F.Denot). m.columns) c.index-vectors.ensures ∙ (c.requires.vectors (hop.demand % c.len.result) c.index-vectors.result.now place).1)
           (vectors_read vectors hop.demand c.len.result c.index-vectors.result.now c.requires.some_pattern (omega (arith, c.len.ensures)) c.index-vectors.ensures)
           (inverses_read c.args.self.now.bases.items hop.demand c.index.result.now among.0 c.index.ensures));
-      ticks = turns_more row _ (length c.args.sources.now * c.args.self.now.rate) c.args.steps.now c.loop-row.steps c.fill_row.new.steps (ap (λ columns. length c.args.sources.now * columns) wide) c.loop-row.invariant.ticks c.fill_row.ensures.ticks;
+      ticks =
+          turn_counted row _ (length c.args.sources.now * product_steps (leaves_source c.args.net.now c.args.link) c.args.self.now.rate) c.args.steps.now c.loop-row.steps c.fill_row.new.steps
+          (ap₂ (λ leaves columns. length c.args.sources.now * product_steps leaves columns) c.leaves_source-leaves.ensures wide) c.loop-row.invariant.ticks c.fill_row.ensures.ticks;
     }
 
 pub returns-clause-table : goal.returns-clause-table
@@ -84,3 +87,12 @@ returns-clause-table g c = λ kind of_kind.
       height = c.loop-row.invariant.made.height;
       row = λ k hop there. c.loop-row.invariant.made.rows k hop (omega (arith, slice_get_within c.args.hops.now k hop there, c.loop-row-test.false)) there kind of_kind;
     }
+
+pub returns-clause-ticks : goal.returns-clause-ticks
+returns-clause-ticks g c =
+    turns_counted c.loop-row.row (length c.args.hops.now) (length c.args.sources.now * product_steps (leaves_source c.args.net.now c.args.link) c.args.self.now.rate) c.args.steps.now c.loop-row.steps
+    (omega arith) c.loop-row.invariant.ticks
+
+pub returns-clause-few_ticks : goal.returns-clause-few_ticks
+returns-clause-few_ticks g c =
+    table_few (leaves_source c.args.net.now c.args.link) (length c.args.hops.now) (length c.args.sources.now) c.args.self.now.rate c.args.steps.now c.loop-row.steps (returns-clause-ticks g c)

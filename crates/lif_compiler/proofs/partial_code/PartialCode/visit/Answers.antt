@@ -157,10 +157,10 @@ pub returns-in_err-push-clause-ticks : goal.returns-in_err-push-clause-ticks
 returns-in_err-push-clause-ticks g c =
     let laws : LawsOf g.F.Field = record { field = g.met.F.Field.field; numbering = g.met.F.Field.numbering; of_kind = c.requires.field } in
     visit_ticks laws c.requires.ready.1 c.args.steps.now c.choose_operands.new.steps c.choose_operands.ensures.ticks c.in_ok-operands.ensures.chosen c.as_slice.result.now c.as_slice.ensures
-    c.as_mut_slice.result.now c.as_mut_slice.ensures.value c.carry_all.new.steps c.advance_all.new.steps c.carry_all.ensures.ticks c.advance_all.ensures.ticks
+    c.as_mut_slice.result.now c.as_mut_slice.ensures.value c.carry_all.new.steps c.advance_all.new.steps c.carry_all.ensures.few_ticks c.advance_all.ensures.few_ticks
 
 pub returns-clause-ticks : goal.returns-clause-ticks
 returns-clause-ticks g c =
     let laws : LawsOf g.F.Field = record { field = g.met.F.Field.field; numbering = g.met.F.Field.numbering; of_kind = c.requires.field } in
     visit_ticks laws c.requires.ready.1 c.args.steps.now c.choose_operands.new.steps c.choose_operands.ensures.ticks c.in_ok-operands.ensures.chosen c.as_slice.result.now c.as_slice.ensures
-    c.as_mut_slice.result.now c.as_mut_slice.ensures.value c.carry_all.new.steps c.advance_all.new.steps c.carry_all.ensures.ticks c.advance_all.ensures.ticks
+    c.as_mut_slice.result.now c.as_mut_slice.ensures.value c.carry_all.new.steps c.advance_all.new.steps c.carry_all.ensures.few_ticks c.advance_all.ensures.few_ticks
