@@ -1,15 +1,5 @@
-pub mod AfterLaws
 pub mod CodeReaders
 pub mod ContentsLaws
-pub mod FrontReaders
-pub mod ItemReaders
-pub mod Readers
 pub mod ReadingLaws
 pub mod SpellingLaws
-pub mod Above
-pub mod Checks
-pub mod Joined
-pub mod Loop
-pub mod Named
 pub mod Refusals
-pub mod Sizes

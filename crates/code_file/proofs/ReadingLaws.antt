@@ -10,14 +10,15 @@ use Rattle.node_program.specs.declared.Operand.{Operand}
 use Rattle.node_program.specs.declared.Decoder.{Decoder}
 use Rattle.node_program.specs.declared.code.Code.{Code}
 use Rattle.code_file.specs.Items.{bytes_of}
-use Rattle.code_file.specs.Reading.{Rest, Reading, ◌>>=◌, Front, Contents, each_at, front_at, operands_at_link, decoder_at, demand_sinks, contents_of}
+use Rattle.code_items.specs.Reading.{Rest, Reading, ◌>>=◌, Front, each_at, front_at, operands_at_link, decoder_at, demand_sinks}
+use Rattle.code_file.specs.Reading.{Contents, contents_of}
 use Rattle.code_file.specs.Spelling.{contents_in, spelling_of, AreContents}
 use Rattle.code_file.proofs.SpellingLaws.{spelling_of-contents_in}
-use Rattle.code_file.proofs.Readers.{ok_of, IsBytes, bind_ok, ok_is}
+use Rattle.code_items.proofs.Readers.{ok_of, IsBytes, bind_ok, ok_is}
 use Rattle.code_file.proofs.CodeReaders.{AreContentsRead, body_at, body_reader}
 use Rattle.code_file.proofs.ContentsLaws.{AreContents-from_read, AreContentsRead-from_code}
-use Rattle.code_file.specs.declared.refusal.CodeRefusal.{CodeRefusal}
-use Rattle.code_file.specs.declared.refusal.CodeRefusal.TheVariants.{TrailingBytes}
+use Rattle.code_items.specs.declared.refusal.CodeRefusal.{CodeRefusal}
+use Rattle.code_items.specs.declared.refusal.CodeRefusal.TheVariants.{TrailingBytes}
 
 -- the first byte of a file and all behind it
 abbrev start_of : List ℕ → Rest

@@ -1,7 +1,7 @@
 -- Which refusals there are.
 use Rattle.std.proofs.Common.{◌≡◌, ◌≢◌, Result, Ok, Err, refl}
-use Rattle.code_file.specs.declared.refusal.CodeRefusal.{CodeRefusal}
-use Rattle.code_file.specs.declared.refusal.CodeRefusal.TheVariants.{OutOfMemory}
+use Rattle.code_items.specs.declared.refusal.CodeRefusal.{CodeRefusal}
+use Rattle.code_items.specs.declared.refusal.CodeRefusal.TheVariants.{OutOfMemory}
 use Rattle.code_file.specs.Reading.{Contents}
 
 -- a refusal that is no other one is for want of memory

@@ -2,8 +2,10 @@
 use Rattle.std.specs.Prelude.{◌≡◌}
 use Rattle.std.proofs.Common.{refl}
 use Rattle.node_program.specs.declared.code.Code.{Code}
-use Rattle.code_file.specs.Items.{front_items, items_of, bytes_of}
-use Rattle.code_file.specs.Spelling.{contents_in, front_items_in, items_in, spelling_of}
+use Rattle.code_items.specs.Items.{front_items}
+use Rattle.code_file.specs.Items.{items_of, bytes_of}
+use Rattle.code_items.specs.Spelling.{front_items_in}
+use Rattle.code_file.specs.Spelling.{contents_in, items_in, spelling_of}
 
 -- what is said of a code is spelled as the code
 pub spelling_of-contents_in : (code : Code) → spelling_of (contents_in code) ≡ bytes_of code

@@ -2,20 +2,10 @@
 use Rattle.std.specs.Prelude.{List}
 use Rattle.node_program.specs.declared.Operand.{Operand}
 use Rattle.node_program.specs.declared.Decoder.{Decoder}
-use Rattle.code_file.specs.declared.parts.Front as rust_front
+use Rattle.code_items.specs.declared.parts.Front as rust_front
+use Rattle.code_items.specs.Parts.{front_seen}
 use Rattle.code_file.specs.declared.parts.Parts as rust_parts
-use Rattle.code_file.specs.Reading.{Front, Contents}
-
-abbrev pub front_seen : rust_front.Front → Front
-front_seen front = record {
-  field = front.field;
-  rate = front.rate;
-  nodes = front.nodes;
-  links = front.links;
-  source = front.source;
-  sinks = front.sinks;
-  patterns = front.patterns;
-}
+use Rattle.code_file.specs.Reading.{Contents}
 
 abbrev pub contents_seen : rust_parts.Parts → Contents
 contents_seen parts = record {

@@ -2,19 +2,16 @@
 ghost use Rattle.std.specs.Prelude.{◌≡◌, ◌≤◌, length, IfOk, IfErr, IsOkUnless};
 ghost use Rattle.node_program.specs.declared.code.Code.{Code as SpecCode};
 ghost use Rattle.code_file.specs.Items.{IsFileOf};
-ghost use Rattle.code_file.specs.Limits.{code_limit};
+ghost use Rattle.code_items.specs.Limits.{code_limit};
 ghost use Rattle.code_file.specs.Reading.{contents_of, contents_behind};
-ghost use Rattle.code_file.specs.Gives.{Fails, Gives, left_of};
-ghost use Rattle.code_file.specs.Parts.{front_seen, contents_seen, contents_with};
+ghost use Rattle.code_items.specs.Gives.{Fails, Gives, left_of};
+ghost use Rattle.code_items.specs.Parts.{front_seen};
+ghost use Rattle.code_file.specs.Parts.{contents_seen, contents_with};
 ghost use Rattle.code_file.specs.Spelling.{contents_in, AreContents};
-ghost use Rattle.code_file.specs.declared.refusal.CodeRefusal.TheVariants.{OutOfMemory};
+ghost use Rattle.code_items.specs.declared.refusal.CodeRefusal.TheVariants.{OutOfMemory};
 
-use crate::CodeRefusal;
-use crate::decoders::decoder_table;
-use crate::front::front;
-use crate::operands::operand_table;
-use crate::parts::{Front, Parts};
-use crate::rest::Rest;
+use crate::parts::Parts;
+use code_items::{CodeRefusal, Front, Rest, read_decoders, read_front, read_operand_table};
 use net_model::Net;
 use node_program::{Code, DecoderTable, OperandTable, choice_of};
 use std::alloc::Global;
@@ -37,8 +34,8 @@ fn tables(
     ensures { Gives (contents_with front.now) result
         (contents_behind (front_seen front.now) (left_of rest.entry)) }
 {
-    let (operands, rest) = operand_table(alloc, front, rest)?;
-    let (decoders, rest) = decoder_table(alloc, front, rest)?;
+    let (operands, rest) = read_operand_table(alloc, front, rest)?;
+    let (decoders, rest) = read_decoders(alloc, front, rest)?;
     if !rest.bytes.is_empty() {
         return Err(CodeRefusal::TrailingBytes { at: rest.at });
     }
@@ -51,7 +48,7 @@ fn read_parts(alloc: Global, bytes: &[u8]) -> Result<Parts, CodeRefusal>
     requires { length bytes.now ≤ code_limit }
     ensures { Gives contents_seen result (contents_of bytes.now) }
 {
-    let (front, rest) = front(alloc, MARK, VERSION, Rest { at: 0, bytes })?;
+    let (front, rest) = read_front(alloc, MARK, VERSION, Rest { at: 0, bytes })?;
     let (operands, decoders) = tables(alloc, &front, rest)?;
     Ok(Parts {
         front,

@@ -1,7 +1,7 @@
 -- The lines said.
 use Rattle.std.specs.Prelude.{ℕ, Bool, List, [], ◌∷◌, ◌++◌, codes, decimal, length, map, unwrap_or, slice_get}
 use Rattle.std.specs.Option.{option_map_or}
-use Rattle.code_file.specs.declared.refusal.CodeRefusal.{CodeRefusal}
+use Rattle.code_file.specs.declared.CodeRefusal.{CodeRefusal}
 use Rattle.code_file.specs.RefusalNames as code
 use Rattle.gf_tables.specs.Product.{mark_of}
 use Rattle.gf_tables.specs.declared.kind.FieldKind.{FieldKind}

@@ -1,7 +1,7 @@
 use Rattle.std.proofs.Common.{sym, ap, ◌∙◌, arith}
 use Rattle.std.proofs.lemmas.Result.{err_from_is_err_and}
 use Rattle.code_file.specs.Reading.{Contents, contents_of}
-use Rattle.code_file.proofs.Readers.{ok_of}
+use Rattle.code_items.proofs.Readers.{ok_of}
 use Rattle.code_file.proofs.ReadingLaws.{AreContents-from_contents_of, bytes_of-from_contents_of, contents_of-bytes_of}
 use Rattle.code_file.specs.Parts.{contents_seen}
 use Rattle.code_file.proofs.Refusals.{memory_alone, not_both}

@@ -1,7 +1,8 @@
 use Rattle.std.proofs.Common.{◌≡◌, ◌+◌, ◌++◌, ◌-◌, ◌^◌, min, refl, ◌∙◌, arith}
-use Rattle.code_file.specs.Items.{operand_table_items, decoder_table_items, front_items, items_of, code_mark, code_version}
-use Rattle.code_file.specs.Room.{size_of_items}
-use Rattle.code_file.proofs.Sizes.{sum_capped, size-append}
+use Rattle.code_items.specs.Items.{operand_table_items, decoder_table_items, front_items}
+use Rattle.code_file.specs.Items.{items_of, code_mark, code_version}
+use Rattle.code_items.specs.Room.{size_of_items}
+use Rattle.code_items.proofs.Sizes.{sum_capped, size-append}
 use Rattle.code_file.proofs.room.code_room.Goals as goal
 
 pub returns : goal.returns

@@ -3,7 +3,7 @@ use Rattle.std.proofs.lemmas.Result.{IfOk-equal}
 use Rattle.std.proofs.lemmas.List.Folds.{concat-append}
 use Rattle.net_model.specs.Demands.{sinks_of_demands}
 use Rattle.code_file.specs.Items.{items_of, bytes_of}
-use Rattle.code_file.proofs.Joined.{operands_fit, decoders_fit}
+use Rattle.code_items.proofs.Joined.{operands_fit, decoders_fit}
 use Rattle.code_file.proofs.writing.write_code.Goals as goal
 
 pub put_operand_table-requires : goal.put_operand_table-requires

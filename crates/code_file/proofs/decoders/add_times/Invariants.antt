@@ -1,5 +1,0 @@
-use Rattle.std.proofs.Common.{◌≡◌, ◌++◌, replicate}
-use Rattle.code_file.proofs.decoders.add_times.Given as goal
-
-abbrev pub invariant-loop : goal.invariant-loop
-invariant-loop l = l.numbers.items ≡ l.fn.numbers.items ++ replicate l.counter l.number

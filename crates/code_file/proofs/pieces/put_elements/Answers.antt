@@ -1,7 +1,0 @@
-use Rattle.code_file.specs.Items.{element_item}
-use Rattle.code_file.proofs.Joined.{one_item_more}
-use Rattle.code_file.proofs.pieces.put_elements.Goals as goal
-
-pub loop-element-preserved : goal.loop-element-preserved
-loop-element-preserved c =
-    rw (c.in_ok-put_element.ensures, c.loop-element.invariant) (one_item_more c.args.elements.now c.loop-element.element-index 0 c.args.out.now.items (element_item c.args.field) c.loop-element-test.true)

@@ -1,7 +1,0 @@
-use Rattle.std.proofs.Common.{◌≡◌, ◌++◌, map, take}
-use Rattle.std.specs.List.{concat}
-use Rattle.code_file.specs.Items.{element_item}
-use Rattle.code_file.proofs.pieces.put_elements.Given as goal
-
-abbrev pub invariant-loop-element : goal.invariant-loop-element
-invariant-loop-element l = l.out.items ≡ l.fn.out.items ++ concat (map (element_item l.fn.field) (take l.element-index l.elements))

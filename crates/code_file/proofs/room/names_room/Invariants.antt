@@ -1,7 +1,0 @@
-use Rattle.std.proofs.Common.{◌≡◌, map, take}
-use Rattle.code_file.specs.Items.{name_item}
-use Rattle.code_file.specs.Room.{saturate, size_of_items}
-use Rattle.code_file.proofs.room.names_room.Given as goal
-
-abbrev pub invariant-loop-name : goal.invariant-loop-name
-invariant-loop-name l = l.room ≡ saturate (size_of_items (map name_item (take l.name-index l.names)))

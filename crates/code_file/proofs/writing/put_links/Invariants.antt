@@ -1,7 +1,0 @@
-use Rattle.std.proofs.Common.{◌≡◌, ◌++◌, take}
-use Rattle.std.specs.List.{concat, flat_map}
-use Rattle.code_file.specs.Items.{link_items}
-use Rattle.code_file.proofs.writing.put_links.Given as goal
-
-abbrev pub invariant-loop-link : goal.invariant-loop-link
-invariant-loop-link l = l.out.items ≡ l.fn.out.items ++ concat (flat_map link_items (take l.link-index l.links))

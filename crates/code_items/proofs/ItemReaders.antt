@@ -1,0 +1,111 @@
+-- Readers of single items: numbers, elements and names.
+use Rattle.std.specs.Prelude.{◌≡◌, ℕ, ◌+◌, ◌<◌, Bool, true, false, not, ◌||◌, List, [], ◌∷◌, ◌++◌, length, drop, slice_index, Ok}
+use Rattle.std.specs.Int.{w16, from_be_bytes}
+use Rattle.std.proofs.Common.{refl, sym, subst, ap, ◌∙◌, arith}
+use Rattle.std.proofs.lemmas.Bool.{or_parts, or_from, not-false, not_from_true}
+use Rattle.std.proofs.lemmas.Nat.{be_bytes_2, from_be_bytes-to_be_bytes_2}
+use Rattle.gf_tables.specs.Product.{size_of}
+use Rattle.gf_tables.specs.declared.kind.FieldKind.{FieldKind}
+use Rattle.gf_tables.specs.declared.kind.FieldKind.TheVariants.{Eight, Sixteen}
+use Rattle.net_model.specs.Name.{is_name}
+use Rattle.code_items.specs.Items.{byte_item, number_item, element_item, name_item}
+use Rattle.code_items.specs.Reading.{Rest, Reading, ◌>>=◌, item, byte_at, number_at, element_at, name_at, Conditions}
+use Rattle.code_items.proofs.Readers.{ok_of, IsReader, Takes, NoneHolds, AreNotMemory, bind_ok, bind_not_memory, ok_is, item_takes, item_again, item_not_memory}
+use Rattle.code_items.specs.declared.refusal.CodeRefusal.TheVariants.{BadName}
+
+-- the conditions of a number in view of what is left, and what their absence says of it
+pub record AreConditions {X : Type 0} (conditions : Rest → X → Conditions) (Fits : X → Type 0) : Type 0 where
+  pub to : (rest : Rest) (x : X) → NoneHolds (conditions rest x) → Fits x
+  pub from : (rest : Rest) (x : X) → Fits x → NoneHolds (conditions rest x)
+  pub not_memory : (rest : Rest) (x : X) → AreNotMemory (conditions rest x)
+
+-- a text of one byte is that byte
+one_byte : (text : List ℕ) → length text ≡ 1 → text ≡ byte_item (slice_index text 0)
+one_byte [] h = absurd (omega arith)
+one_byte (b ∷ []) h = refl
+one_byte (b ∷ c ∷ text) h = absurd (omega arith)
+
+-- a number of one byte
+pub byte_reader : {conditions : Rest → ℕ → Conditions} {Fits : ℕ → Type 0} → AreConditions conditions Fits
+    → IsReader (λ rest. byte_at rest (conditions rest)) byte_item (λ n. (n < 256) × Fits n)
+unfolding byte_at
+byte_reader {conditions} {Fits} are = record {
+  takes = λ rest n left fits e.
+      let within = λ (text : List ℕ). conditions rest (slice_index text 0) in
+      let b = bind_ok (item 1 rest within) (λ it. Ok (slice_index it.0 0, it.1)) (n, left) e in
+      let t = item_takes 1 rest within b.0.0 b.0.1 fits b.1 in
+      subst (λ (p : ℕ × Rest). Takes rest (byte_item p.0) p.1 × ((p.0 < 256) × Fits p.0)) (ok_is (slice_index b.0.0 0, b.0.1) (n, left) b.2)
+      (subst (λ (text : List ℕ). Takes rest text b.0.1) (one_byte b.0.0 t.size_is) t.takes, (t.text_fits 0, are.to rest (slice_index b.0.0 0) t.none_holds));
+  again = λ at more n fits.
+      let rest : Rest = record { at = at; bytes = byte_item n ++ more } in
+      let read = item_again 1 at (byte_item n) more (λ text. conditions rest (slice_index text 0)) refl (are.from rest n fits.1) in
+      ap (λ (r : Reading (List ℕ)). r >>= λ it. Ok (slice_index it.0 0, it.1)) read;
+  not_memory = λ rest.
+      bind_not_memory (item 1 rest (λ text. conditions rest (slice_index text 0))) (λ it. Ok (slice_index it.0 0, it.1))
+      (item_not_memory 1 rest (λ text. conditions rest (slice_index text 0)) (λ text. are.not_memory rest (slice_index text 0))) (λ it. refl);
+}
+
+-- a number of two
+pub number_reader : {conditions : Rest → ℕ → Conditions} {Fits : ℕ → Type 0} → AreConditions conditions Fits
+    → IsReader (λ rest. number_at rest (conditions rest)) number_item (λ n. (n < 65536) × Fits n)
+unfolding number_at
+number_reader {conditions} {Fits} are = record {
+  takes = λ rest n left fits e.
+      let within = λ (text : List ℕ). conditions rest (from_be_bytes w16 text) in
+      let b = bind_ok (item 2 rest within) (λ it. Ok (from_be_bytes w16 it.0, it.1)) (n, left) e in
+      let t = item_takes 2 rest within b.0.0 b.0.1 fits b.1 in
+      let spelled : b.0.0 ≡ number_item (from_be_bytes w16 b.0.0) = sym (be_bytes_2 b.0.0 (from_be_bytes w16 b.0.0) t.size_is t.text_fits refl) in
+      let below : from_be_bytes w16 b.0.0 < 65536 = omega (arith, t.text_fits 0, t.text_fits 1) in
+      subst (λ (p : ℕ × Rest). Takes rest (number_item p.0) p.1 × ((p.0 < 65536) × Fits p.0)) (ok_is (from_be_bytes w16 b.0.0, b.0.1) (n, left) b.2)
+      (subst (λ (text : List ℕ). Takes rest text b.0.1) spelled t.takes, (below, are.to rest (from_be_bytes w16 b.0.0) t.none_holds));
+  again = λ at more n fits.
+      let rest : Rest = record { at = at; bytes = number_item n ++ more } in
+      let back : from_be_bytes w16 (number_item n) ≡ n = from_be_bytes-to_be_bytes_2 n fits.0 in
+      let none : NoneHolds (conditions rest (from_be_bytes w16 (number_item n))) = subst (λ (m : ℕ). NoneHolds (conditions rest m)) (sym back) (are.from rest n fits.1) in
+      let read = item_again 2 at (number_item n) more (λ text. conditions rest (from_be_bytes w16 text)) refl none in
+      ap (λ (r : Reading (List ℕ)). r >>= λ it. Ok (from_be_bytes w16 it.0, it.1)) read
+      ∙ ap (λ (m : ℕ). ok_of (m, record { at = at + 2; bytes = more })) back;
+  not_memory = λ rest.
+      bind_not_memory (item 2 rest (λ text. conditions rest (from_be_bytes w16 text))) (λ it. Ok (from_be_bytes w16 it.0, it.1))
+      (item_not_memory 2 rest (λ text. conditions rest (from_be_bytes w16 text)) (λ text. are.not_memory rest (from_be_bytes w16 text))) (λ it. refl);
+}
+
+-- the number of an element
+pub element_reader : (field : FieldKind) {conditions : Rest → ℕ → Conditions} {Fits : ℕ → Type 0} → AreConditions conditions Fits
+    → IsReader (λ rest. element_at field rest (conditions rest)) (element_item field) (λ n. (n < size_of field) × Fits n)
+element_reader Eight are = byte_reader are
+element_reader Sixteen are = number_reader are
+
+-- a name behind the byte of its length
+name_text : (rest : Rest) (text : List ℕ) (left : Rest) → length text ≡ 1 + slice_index rest.bytes 0 → rest.bytes ≡ text ++ left.bytes → text ≡ name_item (drop 1 text)
+name_text rest [] left size parts = absurd (omega arith)
+name_text rest (b ∷ text) left size parts =
+    let first : slice_index rest.bytes 0 ≡ b = ap (λ (bytes : List ℕ). slice_index bytes 0) parts in
+    let same : b ≡ length text = omega arith in
+    ap (λ (n : ℕ). n ∷ text) same
+
+-- when a name is refused
+abbrev name_conditions : (List ℕ → Bool) → Rest → List ℕ → Conditions
+name_conditions is_bad rest text = (not (is_name (drop 1 text)) || is_bad (drop 1 text), BadName rest.at) ∷ []
+
+-- a name that passes a further test
+pub name_reader : (is_bad : List ℕ → Bool) → IsReader (λ rest. name_at rest is_bad) name_item (λ name. (is_name name ≡ true) × (is_bad name ≡ false))
+unfolding name_at
+name_reader is_bad = record {
+  takes = λ rest name left fits e.
+      let b = bind_ok (item (1 + slice_index rest.bytes 0) rest (name_conditions is_bad rest)) (λ it. Ok (drop 1 it.0, it.1)) (name, left) e in
+      let t = item_takes (1 + slice_index rest.bytes 0) rest (name_conditions is_bad rest) b.0.0 b.0.1 fits b.1 in
+      let fit = or_parts (not (is_name (drop 1 b.0.0))) (is_bad (drop 1 b.0.0)) t.none_holds.0 in
+      subst (λ (p : List ℕ × Rest). Takes rest (name_item p.0) p.1 × ((is_name p.0 ≡ true) × (is_bad p.0 ≡ false))) (ok_is (drop 1 b.0.0, b.0.1) (name, left) b.2)
+      (subst (λ (text : List ℕ). Takes rest text b.0.1) (name_text rest b.0.0 b.0.1 t.size_is t.takes.parts) t.takes, (not-false _ fit.0, fit.1));
+  again = λ at more name fit.
+      let rest : Rest = record { at = at; bytes = name_item name ++ more } in
+      let size : length (name_item name) ≡ 1 + length name = omega arith in
+      let none : NoneHolds (name_conditions is_bad rest (name_item name)) = (or_from _ _ (not_from_true _ fit.0) fit.1, tt) in
+      let read = item_again (1 + length name) at (name_item name) more (name_conditions is_bad rest) size none in
+      ap (λ (r : Reading (List ℕ)). r >>= λ it. Ok (drop 1 it.0, it.1)) read
+      ∙ ap (λ (n : ℕ). ok_of (name, record { at = at + n; bytes = more })) (sym size);
+  not_memory = λ rest.
+      bind_not_memory (item (1 + slice_index rest.bytes 0) rest (name_conditions is_bad rest)) (λ it. Ok (drop 1 it.0, it.1))
+      (item_not_memory (1 + slice_index rest.bytes 0) rest (name_conditions is_bad rest) (λ text. (refl, tt))) (λ it. refl);
+}

@@ -1,0 +1,12 @@
+pub mod AfterLaws
+pub mod FrontReaders
+pub mod ItemReaders
+pub mod PartLaws
+pub mod PartReaders
+pub mod Readers
+pub mod Above
+pub mod Checks
+pub mod Joined
+pub mod Loop
+pub mod Named
+pub mod Sizes

@@ -1,0 +1,10 @@
+pub mod Gives
+pub mod Items
+pub mod Limits
+pub mod Marks
+pub mod Parts
+pub mod Reading
+pub mod RefusalNames
+pub mod Room
+pub mod Spelling
+pub mod Written
