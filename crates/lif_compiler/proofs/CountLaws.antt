@@ -1,7 +1,7 @@
 -- Laws of the steps that the parts of a visit count exactly: the products of a table, the vectors under all patterns, and the
 -- bases of the hops.
-use Rattle.std.specs.Prelude.{◌≡◌, ◌≢◌, ◌<◌, ◌≤◌, ◌+◌, ◌*◌, ℕ, Bool, true, false, not, cond, List, [], count_by, if◌then◌else◌, length, slice_index_or, sum_by, take}
-use Rattle.core.specs.Cmp.Lexicographic.{pointwise}
+use Rattle.std.specs.Prelude.{◌≡◌, ◌≢◌, ◌<◌, ◌≤◌, ◌+◌, ◌*◌, ℕ, Bool, true, false, not, cond, List, count_by, if◌then◌else◌, length, slice_index_or, sum_by, take}
+use Rattle.std.specs.Cmp.Lexicographic.{pointwise}
 use Rattle.std.specs.Bool.{Decides}
 use Rattle.std.specs.List.{range_with_len}
 use Rattle.std.specs.declared.cmp.PartialEq.{Ghosts as EqualityWords}
@@ -49,15 +49,6 @@ product_made false places width old new is same rose = rose ∙ ap (λ places. o
 pub table_few : (leaves : Bool) (rows columns width old new : ℕ) → RoseBy (rows * (columns * product_steps leaves width)) old new → RoseByAtMost (rows * (columns * width)) old new
 table_few true rows columns width old new rose = record { not_below = omega (arith, rose); not_above = omega (arith, rose) }
 table_few false rows columns width old new rose = record { not_below = omega (arith, rose); not_above = omega (arith, rose) }
-
--- the vector of a link that fails, and of one that doesn't
-pub carry_none : (failed leaves : Bool) (operands columns old : ℕ) → failed ≡ true → RoseBy (carry_steps_unless failed leaves operands columns) old old
-carry_none true leaves operands columns old is = omega arith
-carry_none false leaves operands columns old is = cc
-
-pub carry_made : (failed leaves : Bool) (operands columns old new : ℕ) → failed ≡ false → RoseBy (carry_steps leaves operands columns) old new → RoseBy (carry_steps_unless failed leaves operands columns) old new
-carry_made true leaves operands columns old new is rose = cc
-carry_made false leaves operands columns old new is rose = rose
 
 module _ (net : Net) (link : ℕ) where
   -- under how many of the first patterns the link carries

@@ -2,7 +2,7 @@
 -- whose paths it is on.
 use Rattle.std.specs.Prelude.{◌≡◌, ◌≢◌, ◌<◌, ◌≤◌, ℕ, All, Bool, true, false, not, List, Some, count_by, if◌then◌else◌, length, slice_get, slice_set, sum_by}
 use Rattle.std.specs.List.{range_with_len}
-use Rattle.core.specs.Cmp.Lexicographic.{pointwise}
+use Rattle.std.specs.Cmp.Lexicographic.{pointwise}
 use Rattle.std.specs.declared.cmp.PartialEq.{Ghosts as EqualityWords}
 use Rattle.field_vectors.specs.Grid.{Grid, row_of, with_row}
 use Rattle.gf_tables.specs.declared.field.Field.{Ghosts as FieldWords}
