@@ -1,8 +1,8 @@
 -- Readers of the front, of the operands and of the decoders.
-use Rattle.std.specs.Prelude.{◌≡◌, ℕ, ◌+◌, ◌*◌, ◌<◌, ◌≤◌, true, false, not, ◌==◌, List, [], ◌∷◌, ◌++◌, length, map, drop, codes, Result, Ok, Err}
+use Rattle.std.specs.Prelude.{◌≡◌, ℕ, ◌+◌, ◌*◌, ◌<◌, ◌≤◌, true, false, not, ◌==◌, List, [], ◌∷◌, ◌++◌, length, map, drop, Result, Ok, Err}
 use Rattle.std.specs.List.{concat, flat_map}
 use Rattle.std.specs.Str.{bytes_eq}
-use Rattle.std.proofs.Common.{refl, sym, subst, ap, ◌∙◌, append_assoc, append-nil, arith, lit<}
+use Rattle.std.proofs.Common.{refl, sym, subst, ap, ◌∙◌, append_assoc, append-nil, arith}
 use Rattle.std.proofs.lemmas.Bool.{not-false, not_from_true, eqb-true, eqb-false, eq-eqb, ne_eqb}
 use Rattle.std.proofs.lemmas.List.{length-append}
 use Rattle.std.proofs.lemmas.List.Folds.{concat-append}
@@ -13,10 +13,10 @@ use Rattle.net_model.specs.declared.Link.{Link}
 use Rattle.node_program.specs.Code.{leads_into}
 use Rattle.node_program.specs.declared.Operand.{Operand}
 use Rattle.node_program.specs.declared.Decoder.{Decoder}
-use Rattle.code_items.specs.Items.{Item, byte_item, number_item, element_item, name_item, link_items, pattern_items, operand_items, operand_list_items, operand_table_items, decoder_items, decoder_table_items}
-use Rattle.code_items.specs.Reading.{Rest, Reading, ◌>>=◌, Front, item, byte_at, element_at, each_at, is_above_last, mark_at, field_at, rate_at, nodes_at, links_at, source_at, sinks_at, patterns_at, front_at, may_read, operand_at, operands_at_link, decoder_at, demand_sinks, decoder_link_at, any, reads_of, Conditions}
+use Rattle.code_items.specs.Items.{Item, byte_item, number_item, element_item, name_item, link_items, pattern_items, operand_items, operand_list_items, decoder_items}
+use Rattle.code_items.specs.Reading.{Rest, Reading, ◌>>=◌, Front, item, byte_at, element_at, is_above_last, mark_at, field_at, rate_at, nodes_at, links_at, source_at, sinks_at, patterns_at, front_at, may_read, operand_at, operands_at_link, decoder_at, decoder_link_at, any, reads_of, Conditions}
 use Rattle.code_items.specs.Spelling.{front_items_in}
-use Rattle.code_items.proofs.Readers.{ok_of, is_memory, IsBytes, IsReader, Takes, AllAfter, EachFits, Takes-then, bind_ok, bind_not_memory, ok_is, item_takes, item_again, item_not_memory, empty_reader, then_reader, same_reader, repeated_reader, each_reader}
+use Rattle.code_items.proofs.Readers.{ok_of, is_memory, IsBytes, IsReader, Takes, AllAfter, Takes-then, bind_ok, bind_not_memory, ok_is, item_takes, item_again, item_not_memory, empty_reader, then_reader, same_reader, repeated_reader}
 use Rattle.code_items.proofs.ItemReaders.{AreConditions, byte_reader, number_reader, element_reader}
 use Rattle.code_items.proofs.FrontReaders.{NameAfter, LinkAfter, SinkAfter, ArePatternsRead, concat-map, counted_reader, count_conditions, field_reader, rate_reader, nodes_reader, links_reader, source_reader, sinks_reader, patterns_reader}
 use Rattle.code_items.specs.declared.refusal.CodeRefusal.{CodeRefusal}
