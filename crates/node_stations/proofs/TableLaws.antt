@@ -7,7 +7,7 @@ use Rattle.std.proofs.Math.Seq.{get_or-append_seam}
 use Rattle.std.proofs.lemmas.Bool.{cases_lt}
 use Rattle.std.proofs.lemmas.List.{length-append, length-map, length-set}
 use Rattle.std.proofs.lemmas.Option.{get_or_from_slice_get, none-some, same_Some, slice_get-get_or, slice_get-map, slice_get_read, slice_get_within}
-use Rattle.node_plans.specs.Plans.{place_of, plan_of}
+use Rattle.node_plans.specs.Plans.{place_of}
 use Rattle.node_program.specs.declared.code.Code.{Code}
 use Rattle.relay_node.specs.Relay.{Relay}
 use Rattle.sink_decoder.specs.Receiving.{Receiver, sink_plan_of}
@@ -49,6 +49,26 @@ made_of {X} {Y} f xs k y found = by (slice_get xs k) refl (sym (slice_get-map f 
 each_made : {X Y : Type 0} (f : X → Y) (P : ℕ → Y → Type 0) (xs : List X) → Each (λ k x. P k (f x)) xs → Each P (map f xs)
 each_made f P xs each k y found = let from = made_of f xs k y found in subst (P k) from.2 (each k from.0 from.1)
 
+module _ (code : Code) (pattern : ℕ) where
+  -- nodes and sinks before any generation have their plans
+  pub opened-planned : (relays : List Relay) (sinks : List (Option Receiver)) → AreOpened code pattern relays sinks → ArePlanned code pattern relays sinks
+  opened-planned relays sinks opened =
+      record {
+        count = opened.count;
+        plans = λ node relay found. (opened.nodes node relay found).plan;
+        receivers = record {
+          count = opened.receivers.count;
+          at = λ node sink found. planned (place_of code node) sink (opened.receivers.at node sink found);
+        };
+      }
+    where
+      IsPlanned : ℕ → Receiver → Type 0
+      IsPlanned place sink = sink.plan ≡ sink_plan_of code (demand_of code pattern place)
+
+      planned : (place : Option ℕ) (sink : Option Receiver) → IsAt (IsOpened code pattern) place sink → IsAt IsPlanned place sink
+      planned None sink is = is
+      planned (Some place) sink is = (is.0, is.1, is.2.plan)
+
 module _ {F : Type 0} (code : Code) (pattern : ℕ) where
   -- the station of a node, before any generation
   pub record IsStationOf (node : ℕ) (station : Station F) : Type 0 where
@@ -88,25 +108,6 @@ module _ {F : Type 0} (code : Code) (pattern : ℕ) where
               (λ node station found. (first.each node station found).sink);
         };
       }
-
-  -- and they have their plans
-  pub opened-planned : (relays : List Relay) (sinks : List (Option Receiver)) → AreOpened code pattern relays sinks → ArePlanned code pattern relays sinks
-  opened-planned relays sinks opened =
-      record {
-        count = opened.count;
-        plans = λ node relay found. (opened.nodes node relay found).plan;
-        receivers = record {
-          count = opened.receivers.count;
-          at = λ node sink found. planned (place_of code node) sink (opened.receivers.at node sink found);
-        };
-      }
-    where
-      IsPlanned : ℕ → Receiver → Type 0
-      IsPlanned place sink = sink.plan ≡ sink_plan_of code (demand_of code pattern place)
-
-      planned : (place : Option ℕ) (sink : Option Receiver) → IsAt (IsOpened code pattern) place sink → IsAt IsPlanned place sink
-      planned None sink is = is
-      planned (Some place) sink is = (is.0, is.1, is.2.plan)
 
 -- what stands at a place that is set, and at another
 get_set_same : {X : Type 0} (xs : List X) (i : ℕ) (x : X) → i < length xs → slice_get (slice_set xs i x) i ≡ Some x

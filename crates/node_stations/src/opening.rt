@@ -1,7 +1,7 @@
 //! The stations of a code, as they are made.
 ghost use Rattle.std.specs.Prelude.{◌<◌, IfOk, length};
 ghost use Rattle.gf_tables.specs.Kind.{IsOfKind};
-ghost use Rattle.node_stations.specs.Table.{AreOpened, relays_of, sinks_of};
+ghost use Rattle.node_stations.specs.Table.{AreOpened, ArePlanned, relays_of, sinks_of};
 
 use crate::station::Station;
 use code_checker::Checked;
@@ -22,8 +22,10 @@ pub fn open_stations<F: Field>(
 ) -> Result<Vec<Station<F>>, AllocError>
     requires pattern { pattern < length code.now.net.patterns }
     requires field { IsOfKind code.now.field F.SIZE F.BYTES F.MARK F.product }
-    ensures { IfOk result (λ stations.
+    ensures opened { IfOk result (λ stations.
         AreOpened code.now pattern (relays_of stations.items) (sinks_of stations.items)) }
+    ensures planned { IfOk result (λ stations.
+        ArePlanned code.now pattern (relays_of stations.items) (sinks_of stations.items)) }
 {
     let wiring = Wiring::of(alloc, code.code(), pattern)?;
     let tables = Arc::new(alloc, RowTables::new())?;

@@ -22,8 +22,7 @@ use Rattle.relay_runner.proofs.MeasureLaws.{Account, left, steps-less, steps-roo
 use Rattle.relay_runner.proofs.PlannedLaws.{planned}
 use Rattle.relay_runner.proofs.StationLaws.{node-at, node-replaced, same-sinks, with_node}
 use Rattle.relay_runner.proofs.StoppingLaws.{stops-first}
-use Rattle.relay_runner.proofs.UnderwayLaws.{carries, has_carried, stops-carrying, underway-first, underway-more, underway-none}
-use Rattle.relay_runner.proofs.WellLaws.{puts-busy, still-busy}
+use Rattle.relay_runner.proofs.UnderwayLaws.{busy-first, busy-more, carries, has_carried, stops-carrying, underway-first, underway-more, underway-none}
 use Rattle.relay_runner.specs.Carried.{IsStopped}
 use Rattle.relay_runner.specs.Carrying.{Carries, IsUnderway, finds_nothing}
 use Rattle.relay_runner.specs.Runner.{IsSameWork}
@@ -85,7 +84,9 @@ module _ {L : Type 0} (g : LinksGhosts L) {F : Type 0} (code : Code) (pattern : 
         × (list_any finds_nothing under.moves ≡ false))
         (sym (same-sinks stations place station is new))
         (underway-first g code pattern window accounts (relays_of stations) (sinks_of stations) starts station.node new at_source due.puts.packets
-        due.puts.given due.none (relays_of (after_puts new)) (replaced new) before after quiet due.puts.calls, puts-busy due.puts.packets)
+        due.puts.given due.none (relays_of (after_puts new)) (replaced new) before after quiet due.puts.calls,
+        busy-first g code pattern window accounts (relays_of stations) (sinks_of stations) starts station.node new at_source due.puts.packets
+        due.puts.given due.none (relays_of (after_puts new)) (replaced new) before after quiet due.puts.calls)
 
     pub first-under : Account g → (new : Relay) (after : L) → PutsDue g before after station.node new
         → IsUnderway g code pattern window before after (relays_of (after_puts new)) (sinks_of (after_puts new))
@@ -94,6 +95,7 @@ module _ {L : Type 0} (g : LinksGhosts L) {F : Type 0} (code : Code) (pattern : 
     -- none of it is a take
     pub first-busy : (accounts : Account g) (new : Relay) (after : L) (due : PutsDue g before after station.node new)
         → list_any finds_nothing (first-under accounts new after due).moves ≡ false
+    unfolding first-under
     first-busy accounts new after due = (first-busy-under accounts new after due).1
 
     -- and the stations keep their plans
@@ -193,7 +195,8 @@ module _ {L : Type 0} (g : LinksGhosts L) (start now : Running) (before mid : L)
               underway-more g start.code start.pattern window accounts joins before mid after now.relays now.sinks next.relays next.sinks
               (way.under window starts) (step window starts);
           busy = λ window starts.
-              still-busy (way.under window starts).moves _ (way.busy window starts) (puts-busy (step window starts).more);
+              busy-more g start.code start.pattern window accounts joins before mid after now.relays now.sinks next.relays next.sinks
+              (way.under window starts) (step window starts) (way.busy window starts);
         }
 
     -- and what is left to be done is less

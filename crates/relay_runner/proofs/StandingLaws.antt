@@ -1,12 +1,10 @@
 -- Nodes and sinks before any generation stand at the opening state of a window without blocks.
-use Rattle.std.specs.Prelude.{◌≡◌, ◌<◌, ◌+◌, ◌≤◌, ℕ, All, List, [], Option, length}
+use Rattle.std.specs.Prelude.{◌<◌, ◌+◌, ◌≤◌, ℕ, List, [], Option, length}
 use Rattle.std.proofs.Common.{arith, refl}
 use Rattle.std.proofs.lemmas.List.Elements.{All-nil}
 use Rattle.std.proofs.lemmas.List.Sorted.{IsPermutation-refl}
 use Rattle.coded_traffic.specs.CodeBlocks.{IsBlockOf}
 use Rattle.coded_traffic.specs.Traffic.{Window}
-use Rattle.generation_frame.specs.declared.frame.Packet.{Packet}
-use Rattle.lif_outside.specs.declared.links.Flight.{Flight}
 use Rattle.node_plans.specs.Plans.{place_of}
 use Rattle.node_program.specs.declared.code.Code.{Code}
 use Rattle.node_stations.specs.Opening.{IsOpened, demand_of}

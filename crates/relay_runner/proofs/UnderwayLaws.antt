@@ -29,7 +29,7 @@ use Rattle.relay_node.specs.Relay.{IsDue, Relay}
 use Rattle.sink_decoder.specs.Receiving.{Receiver}
 use Rattle.relay_runner.proofs.GivenLaws.{packets_in-given, run-fit}
 use Rattle.relay_runner.proofs.OpeningLaws.{opened}
-use Rattle.relay_runner.proofs.WellLaws.{puts-well, still-well}
+use Rattle.relay_runner.proofs.WellLaws.{puts-busy, puts-well, still-busy, still-well}
 use Rattle.relay_runner.specs.Carried.{IsStopped, packets_given}
 use Rattle.relay_runner.specs.Carrying.{Carries, IsUnderway, finds_nothing}
 use Rattle.relay_runner.specs.Delivered.{packet_given}
@@ -137,6 +137,16 @@ module _ {L : Type 0} (g : LinksGhosts L) (code : Code) (pattern : ℕ) (window 
           as_put = λ faithful. All-nil (λ (delivery : Delivery). delivery.payload ≡ delivery.pair.payload);
         }
 
+    -- none of these calls is a take
+    pub busy-first : (relays : List Relay) (sinks : List (Option Receiver)) (starts : Starts code pattern window relays sinks)
+        (source new : Relay) (at_source : slice_get relays code.net.source ≡ Some source) (more : List Packet) (each : GivesEach source more new)
+        (none : (key : Key) → IsDue new key → ⊥) (after : List Relay) (replaced : IsReplaced code.net.source new relays after)
+        (before now : L) (quiet : g.flying before ≡ []) (calls : g.moves (puts_of more) before now)
+        → list_any finds_nothing
+        (underway-first relays sinks starts source new at_source more each none after replaced before now quiet calls).moves ≡ false
+    unfolding underway-first
+    busy-first relays sinks starts source new at_source more each none after replaced before now quiet calls = puts-busy more
+
     module _ (more_moves : (first later : List Move) (a b c : L) → g.moves first a b → g.moves later b c → g.moves (first ++ later) a c)
         (before mid now : L) (relays : List Relay) (sinks : List (Option Receiver)) where
       -- faithful links stay so
@@ -171,6 +181,14 @@ module _ {L : Type 0} (g : LinksGhosts L) (code : Code) (pattern : ℕ) (window 
             as_put = λ faithful. All-push (λ (delivery : Delivery). delivery.payload ≡ delivery.pair.payload) under.run steps.delivery
                 (under.as_put faithful) (steps.as_put (still-faithful under faithful));
           }
+
+      -- no take of it found nothing
+      pub busy-more : (next : List Relay) (receivers : List (Option Receiver)) (under : IsUnderway g code pattern window before mid relays sinks)
+          (steps : Steps g code pattern window under.run under.state mid now next receivers) → list_any finds_nothing under.moves ≡ false
+          → list_any finds_nothing (underway-more next receivers under steps).moves ≡ false
+      unfolding underway-more
+      busy-more next receivers under steps busy =
+          still-busy under.moves (took (flight_of (packet_given steps.delivery)) ∷ puts_of steps.more) busy (puts-busy steps.more)
 
       -- a take that gave nothing, as the last call
       pub underway-none : (under : IsUnderway g code pattern window before mid relays sinks) → g.moves (took_none ∷ []) mid now
