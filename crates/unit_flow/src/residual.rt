@@ -1,7 +1,7 @@
 //! Residual networks.
 ghost use Rattle.std.specs.Prelude.{◌≡◌, ◌<◌, IfOk, IfSome, length, slice_index, slice_set};
 ghost use Rattle.counted_steps.specs.Steps.{RoseBy};
-ghost use Rattle.unit_flow.specs.Residual.{HasStates, IsUnused, is_failed, is_used, passage};
+ghost use Rattle.unit_flow.specs.Residual.{HasStates, IsUnused, is_failed, is_free, is_used, passage};
 
 use counted_steps::Steps;
 use net_model::{Demand, Net};
@@ -60,6 +60,14 @@ impl Residual {
         *net.sinks.at(self.demand.sink as usize)
     }
 
+    // Whether a link is free.
+    fn is_free(&self, link: u32) -> bool
+        requires { link < length self.now.states }
+        ensures { result ≡ is_free self.now.states link }
+    {
+        self.states[link as usize] == LinkState::Free
+    }
+
     // Whether a link is used.
     pub(crate) fn is_used(&self, link: u32) -> bool
         requires { link < length self.now.states }
@@ -85,11 +93,13 @@ impl Residual {
         ensures ticks { RoseBy 1 steps.old steps.new }
     {
         steps.tick();
-        match self.states[link as usize] {
-            LinkState::Free if from == net.tail(link) => Some(net.head(link)),
-            LinkState::Used if from == net.head(link) => Some(net.tail(link)),
-            _ => None,
+        if from == net.tail(link) && self.is_free(link) {
+            return Some(net.head(link));
         }
+        if from == net.head(link) && self.is_used(link) {
+            return Some(net.tail(link));
+        }
+        None
     }
 
     /// Whether a link failed.

@@ -47,6 +47,17 @@ pub(crate) struct Search {
     pub(crate) into: Vec<u32>,
 }
 
+// The node at an end of a link.
+fn end_of(net: &Net, end: LinkEnd, link: u32) -> u32
+    requires { link < length net.now.links }
+    ensures { result ≡ end_of net.now.links end link }
+{
+    match end {
+        LinkEnd::Tail => net.tail(link),
+        LinkEnd::Head => net.head(link),
+    }
+}
+
 impl Search {
     // A search in a network of so many nodes, which reached none yet.
     pub(crate) fn new(alloc: Global, nodes: usize) -> Result<Search, AllocError>
@@ -143,7 +154,9 @@ impl Search {
         let mut link = first;
         while link < count {
             let next = chains.nexts[link as usize];
-            if let Some(to) = self.pass(net, residual, link, node, steps) {
+            // It is the node, read off the link: so the compiler sees from which end the link is looked at.
+            let from = end_of(net, end, link);
+            if let Some(to) = self.pass(net, residual, link, from, steps) {
                 let entry = Some(Entry { node: to, link });
                 return Passed { next, entry };
             }
