@@ -4,7 +4,7 @@ use Rattle.std.specs.List.{concat}
 use Rattle.node_program.specs.declared.code.Code.{Code}
 use Rattle.code_items.specs.Items.{Item, operand_table_items, decoder_table_items}
 -- all up to the operands
-pub use Rattle.code_items.specs.Items.{front_items}
+unfoldable pub use Rattle.code_items.specs.Items.{front_items}
 
 -- what stands at the front of a code file, and the version behind it
 abbrev pub code_mark : Item
