@@ -1,14 +1,15 @@
 //! The choice of a link's operands.
-ghost use Rattle.std.specs.Prelude.{◌≡◌, ◌+◌, ◌*◌, ◌<◌, ◌≤◌, All, IfOk, length};
+ghost use Rattle.std.specs.Prelude.{◌≡◌, ◌+◌, ◌*◌, ◌<◌, ◌≤◌, All, IfOk, OnOk, length};
 ghost use Rattle.coeff_choice.specs.Choice.{choice_steps};
 ghost use Rattle.counted_steps.specs.Steps.{RoseByAtMost};
 ghost use Rattle.gf_tables.specs.Kind.{IsOfKind};
 ghost use Rattle.net_model.specs.Limits.{highest_rate};
+ghost use Rattle.node_program.specs.Value.{leaves_source};
 ghost use Rattle.lif_compiler.specs.Bases.{HasWidth};
 ghost use Rattle.lif_compiler.specs.Compiled.{marked_kind};
-ghost use Rattle.lif_compiler.specs.Operands.{befores};
+ghost use Rattle.lif_compiler.specs.Operands.{AreSources, befores};
 ghost use Rattle.lif_compiler.specs.PartialCodes.{AreChosenBy, HaveProducts};
-ghost use Rattle.lif_compiler.specs.Tables.{AreAmong, AreOfShape, CanFeed};
+ghost use Rattle.lif_compiler.specs.Tables.{AreAmong, AreOfShape, CanFeed, product_steps};
 
 use crate::Hop;
 use crate::operands::{operands_with, places_of, sources_of};
@@ -23,8 +24,8 @@ use std::sync::ledger::Ledger;
 
 impl<F: Field> PartialCode<F> {
     /// Operands of a link, by which its vector has a product with the inverse vector of the path of each hop over it
-    /// that isn't zero. What comes before the link on that path has such a vector. It counts the products of the table
-    /// and what the choice counts, with at most as many columns as rows.
+    /// that isn't zero. What comes before the link on that path has such a vector. It counts the products of the table,
+    /// where there is memory for it, and what the choice counts, with at most as many columns as rows.
     pub fn choose_operands<L: Ledger>(
         &self,
         alloc: Global,
@@ -44,6 +45,9 @@ impl<F: Field> PartialCode<F> {
         requires named { CanFeed net.now self.now.rate link (befores hops.now) }
         requires own { HaveProducts net.now link hops.now self.now }
         ensures chosen { IfOk result (AreChosenBy net.now link hops.now self.now) }
+        ensures table_ticks { (sources : _) → AreSources (befores hops.now) sources →
+            let once = product_steps (leaves_source net.now link) self.now.rate
+            in OnOk result (steps.old + length hops.now * (length sources * once) ≤ steps.new) }
         ensures ticks { let count = length hops.now in RoseByAtMost
             (count * (count * self.now.rate) + choice_steps count count) steps.old steps.new }
     {

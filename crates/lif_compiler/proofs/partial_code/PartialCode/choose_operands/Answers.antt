@@ -1,12 +1,14 @@
-use Rattle.std.proofs.Common.{◌≡◌, ◌<◌, ◌≤◌, ℕ, List, All, length, map, arith, ap, ◌∙◌, sym, subst}
+use Rattle.std.proofs.Common.{◌≡◌, ◌<◌, ◌≤◌, ◌+◌, ◌*◌, ℕ, List, All, length, map, arith, ap, ◌∙◌, sym, subst}
 use Rattle.std.specs.Prelude.{if◌then◌else◌}
+use Rattle.std.proofs.lemmas.Nat.{mul-le}
 use Rattle.std.proofs.lemmas.Result.{IfOk-weaker}
 use Rattle.node_program.specs.Value.{leaves_source}
 use Rattle.lif_compiler.specs.Compiled.{marked_kind}
 use Rattle.lif_compiler.specs.Operands.{ArePlaces, AreSources, befores, operands_of}
 use Rattle.lif_compiler.proofs.BasesLaws.{LawsOf}
 use Rattle.lif_compiler.proofs.ChoosingSteps.{All-sources, chosen_by, few_either, few_sources, nonzero_at}
-use Rattle.lif_compiler.proofs.WorkLaws.{choice_ticks, table_ticks}
+use Rattle.lif_compiler.specs.Tables.{product_steps}
+use Rattle.lif_compiler.proofs.WorkLaws.{choice_ticks, sources-few, table_ticks}
 use Rattle.lif_compiler.proofs.partial_code.PartialCode.choose_operands.Goals as goal
 
 pub places_of-requires : goal.places_of-requires
@@ -102,3 +104,18 @@ returns-clause-ticks g c =
     let are = subst (AreSources (befores hops)) (sym c.deref-2.ensures.value) c.in_ok-sources.ensures in
     let table = c.in_ok-table.ensures.table (marked_kind g.F.Field.MARK) c.requires.field in
     choice_ticks hops c.deref-2.result.now are c.args.self.now.rate c.args.steps.now _ _ c.table_of.new.steps c.choose.new.steps table.height table.columns c.table_of.ensures.few_ticks c.choose.ensures.ticks
+
+-- the sources of a link are as many, however they are found
+as_many : (numbers mine sources : List ℕ) → AreSources numbers mine → AreSources numbers sources → length sources ≤ length mine
+as_many numbers mine sources own other = sources-few mine sources (record { rising = other.rising; same = λ number. other.same number ∙ sym (own.same number) })
+
+pub returns-clause-table_ticks : goal.returns-clause-table_ticks
+returns-clause-table_ticks g c = λ sources other.
+    let hops = c.args.hops.now in
+    let mine = c.deref-2.result.now in
+    let once = product_steps (leaves_source c.args.net.now c.args.link) c.args.self.now.rate in
+    let own = subst (AreSources (befores hops)) (sym c.deref-2.ensures.value) c.in_ok-sources.ensures in
+    let few = as_many (befores hops) mine sources own other in
+    let most = mul-le (length hops) (length sources * once) (length hops) (length mine * once) (omega arith) (mul-le (length sources) once (length mine) once few (omega arith)) in
+    let enough : c.args.steps.now + length hops * (length sources * once) ≤ c.choose.new.steps = omega (arith, c.in_ok-table.ensures.ticks, c.choose.ensures.ticks.not_below, most) in
+    IfOk-weaker c.operands_with.result _ _ (λ operands is. enough) c.operands_with.ensures
