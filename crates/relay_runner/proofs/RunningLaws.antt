@@ -82,11 +82,12 @@ module _ {L : Type 0} (g : LinksGhosts L) {F : Type 0} (code : Code) (pattern : 
     first-busy-under accounts new after due =
         subst (λ (sinks : List (Option Receiver)). (under : IsUnderway g code pattern window before after (relays_of (after_puts new)) sinks)
         × (list_any finds_nothing under.moves ≡ false))
-        (sym (same-sinks stations place station is new))
-        (underway-first g code pattern window accounts (relays_of stations) (sinks_of stations) starts station.node new at_source due.puts.packets
-        due.puts.given due.none (relays_of (after_puts new)) (replaced new) before after quiet due.puts.calls,
-        busy-first g code pattern window accounts (relays_of stations) (sinks_of stations) starts station.node new at_source due.puts.packets
-        due.puts.given due.none (relays_of (after_puts new)) (replaced new) before after quiet due.puts.calls)
+        (sym (same-sinks stations place station is new)) (
+          underway-first g code pattern window accounts (relays_of stations) (sinks_of stations) starts station.node new at_source due.puts.packets
+              due.puts.given due.none (relays_of (after_puts new)) (replaced new) before after quiet due.puts.calls,
+          busy-first g code pattern window accounts (relays_of stations) (sinks_of stations) starts station.node new at_source due.puts.packets
+              due.puts.given due.none (relays_of (after_puts new)) (replaced new) before after quiet due.puts.calls,
+        )
 
     pub first-under : Account g → (new : Relay) (after : L) → PutsDue g before after station.node new
         → IsUnderway g code pattern window before after (relays_of (after_puts new)) (sinks_of (after_puts new))
