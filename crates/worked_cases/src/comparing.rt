@@ -5,7 +5,7 @@ use crate::scene::{Scene, Trouble};
 use crate::wanted::{Content, ToldCalls, Wanted, WantedFile, WantedFrame};
 use lif_outside::{Call, Flight, MemStore};
 use logged_store::{Event, Logged};
-use worked_rows::watched::Calls;
+use test_support::watched::Calls;
 
 /// What came of a run.
 #[derive(Clone, Copy)]

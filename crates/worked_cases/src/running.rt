@@ -12,8 +12,8 @@ use lif_top::lif;
 use logged_store::{Event, Logged};
 use std::alloc::Global;
 use std::thread::Threads;
-use worked_rows::orders::{Script, hostile};
-use worked_rows::watched::{Watched, watch};
+use test_support::orders::{Script, hostile};
+use test_support::watched::{Watched, watch};
 
 /// A run: its words, and what is to come of it.
 #[derive(Clone, Copy)]

@@ -1,10 +1,16 @@
-//! Frames, rows and sums, and nodes and sinks that are fed by hand, with no runner: what they give, and what comes of it.
+//! Frames, rows and sums; nodes and sinks that are fed by hand, with no runner: what they give, and what comes of it; and
+//! blocks that go over links, code by code.
+mod carrying;
 mod codes;
+mod counts;
 mod failed_links;
+mod faults;
 mod frames;
+mod gates;
 mod hands;
 mod links;
 mod many_links;
+mod orders;
 mod repeats;
 mod rows;
 mod runs;

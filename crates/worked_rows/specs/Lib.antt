@@ -1,7 +1,2 @@
-pub mod ButterflyCode
-pub mod OneLink
-pub mod Butterfly
-pub mod CutButterfly
 pub mod Sevens
 pub mod Networks
-pub mod WatchLaws

@@ -3,7 +3,7 @@ use super::codes::{CUT_SLOW_BUTTERFLY, SIDE_BY_SIDE};
 use super::runs::wrong_row;
 use super::told::{Runs, Told};
 use std::test;
-use worked_rows::files::TWO_WAYS;
+use test_support::files::TWO_WAYS;
 
 // Piece 5 of a block of bytes 0x80, as it comes, twice, and thrice.
 const ALL: Runs = &[(128, 0x80)];

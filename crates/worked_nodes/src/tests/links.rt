@@ -4,7 +4,7 @@ use super::runs::wrong_row;
 use super::told::Told;
 use generation_frame::cut;
 use std::test;
-use worked_rows::files::{BUTTERFLY, DOUBLED_ONE_LINK, ONE_LINK};
+use test_support::files::{BUTTERFLY, DOUBLED_ONE_LINK, ONE_LINK};
 
 // Codes of one link, and what it carries of the block of a file that is the byte 0x41.
 const ONE_BYTE: &[Told] = &[

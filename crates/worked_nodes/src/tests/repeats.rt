@@ -8,7 +8,7 @@ use gf_tables::Gf8;
 use std::alloc::Global;
 use std::test;
 use std::thread::Threads;
-use worked_rows::files::{BUTTERFLY, ONE_LINK};
+use test_support::files::{BUTTERFLY, ONE_LINK};
 
 /// A packet of so many times one byte.
 pub(super) fn packet_of(link: u32, generation: u32, piece: u8, byte: u8) -> Packet {

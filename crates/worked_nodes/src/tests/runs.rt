@@ -10,7 +10,7 @@ use gf_tables::{Field, FieldKind, Gf8, Gf16};
 use net_model::{Demand, Link};
 use std::alloc::Global;
 use std::thread::Threads;
-use worked_rows::codes::checked_of;
+use test_support::codes::checked_of;
 
 // More frames than the links of a code carry of 4 generations.
 const MANY_FRAMES: usize = 8192 * 8 * 4 + 1;

@@ -4,9 +4,9 @@
 //! else.
 ghost use Rattle.std.specs.Prelude.{◌≡◌, ℕ, List, [], ◌∷◌, length, map};
 ghost use Rattle.coded_traffic.specs.Traffic.{Key, Window, keys_of, live_links_of, live_operands, operand_payload, payload_in, sum_of};
-ghost use Rattle.worked_rows.specs.Butterfly.{butterfly};
-ghost use Rattle.worked_rows.specs.CutButterfly.{cut_butterfly};
-ghost use Rattle.worked_rows.specs.OneLink.{doubled_one_link};
+ghost use Rattle.test_support.specs.Butterfly.{butterfly};
+ghost use Rattle.test_support.specs.CutButterfly.{cut_butterfly};
+ghost use Rattle.test_support.specs.OneLink.{doubled_one_link};
 
 // Over one link a generation goes in eight packets, piece after piece. Here is generation 5 alone.
 fn one_link_keys()

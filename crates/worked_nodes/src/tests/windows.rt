@@ -5,7 +5,7 @@ use super::told::Told;
 use std::alloc::{AllocError, Global};
 use std::test;
 use std::thread::Threads;
-use worked_rows::files::{BUTTERFLY, ONE_LINK, TWO_WAYS};
+use test_support::files::{BUTTERFLY, ONE_LINK, TWO_WAYS};
 
 // Bytes that differ from block to block.
 fn blocks_of(alloc: Global, size: u32, count: u32) -> Result<Vec<u8>, AllocError> {

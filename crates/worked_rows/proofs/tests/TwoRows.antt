@@ -9,7 +9,7 @@ use Rattle.linear_algebra.proofs.CombinationLaws.{combination-one}
 use Rattle.linear_algebra.proofs.RowLaws.{scale_row-one, scale_row-zero, add_rows-zero_row, add_rows-comm, add_rows-twice, add_rows-elements, length-add_rows, zero_row-zero_row}
 use Rattle.node_program.specs.Decoding.{IsBlock, IsAccepted, decoding_of}
 use Rattle.node_program.specs.Value.{row_at, value_within}
-use Rattle.worked_rows.specs.Butterfly.{butterfly, changed_butterfly}
+use Rattle.test_support.specs.Butterfly.{butterfly, changed_butterfly}
 
 abbrev AreElements : List ℕ → Type 0
 AreElements row = All (λ element. element < 256) row

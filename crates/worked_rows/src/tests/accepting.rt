@@ -1,6 +1,6 @@
 //! Which codes give every block back to their sinks.
 ghost use Rattle.node_program.specs.Decoding.{IsAccepted};
-ghost use Rattle.worked_rows.specs.Butterfly.{butterfly, changed_butterfly};
+ghost use Rattle.test_support.specs.Butterfly.{butterfly, changed_butterfly};
 
 // Both sinks of the butterfly get both rows, whatever they are.
 fn butterfly_is_accepted()

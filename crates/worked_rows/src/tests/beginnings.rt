@@ -1,8 +1,8 @@
 //! The beginnings of a network's text.
 use super::network_texts::net_of;
-use crate::texts::THREE_CORES_TEXT;
 use net_reader::ReadRefusal::{BadLine, NoSink, NoSource, UnknownLink};
 use std::alloc::Global;
+use test_support::texts::THREE_CORES_TEXT;
 
 // Cores that may fail, with comments of any bytes.
 const FAILING_CORES_TEXT: &[u8] = b"# two edges, three cores\r\n\

@@ -1,12 +1,14 @@
 //! The check of the examples, read from their files.
 use super::codes::{WIDE_ROWS, changed, is_file_of};
-use crate::codes::{checked_of, code_of};
-use crate::files::{BUTTERFLY, CUT_BUTTERFLY, DOUBLED_ONE_LINK, ONE_LINK, TWO_WAYS, WIDE_ONE_LINK};
-use crate::gates::{Entries, Meeting};
 use code_checker::CheckRefusal::NotIdentity;
 use code_checker::{CheckRefusal, check};
 use std::alloc::Global;
 use std::thread::Threads;
+use test_support::codes::{checked_of, code_of};
+use test_support::files::{
+    BUTTERFLY, CUT_BUTTERFLY, DOUBLED_ONE_LINK, ONE_LINK, TWO_WAYS, WIDE_ONE_LINK,
+};
+use test_support::gates::{Entries, Meeting};
 
 const ACCEPTED: &[&[u8]] = &[
     ONE_LINK,

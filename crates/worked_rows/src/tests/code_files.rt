@@ -1,12 +1,14 @@
 //! Code files are read and written back, or refused for their first fault.
 use super::codes::{WIDE_ROWS, changed, is_file_of};
-use crate::codes::code_of;
-use crate::files::{BUTTERFLY, CUT_BUTTERFLY, DOUBLED_ONE_LINK, ONE_LINK, TWO_WAYS, WIDE_ONE_LINK};
 use code_file::CodeRefusal;
 use code_file::CodeRefusal::{
     BadOperand, BadRate, NotRising, OutOfOrder, TrailingBytes, Truncated, ZeroCoefficient,
 };
 use std::alloc::Global;
+use test_support::codes::code_of;
+use test_support::files::{
+    BUTTERFLY, CUT_BUTTERFLY, DOUBLED_ONE_LINK, ONE_LINK, TWO_WAYS, WIDE_ONE_LINK,
+};
 
 const FILES: &[&[u8]] = &[
     ONE_LINK,

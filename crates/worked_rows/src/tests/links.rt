@@ -3,9 +3,9 @@ ghost use Rattle.std.specs.Prelude.{◌≡◌, ℕ, List, [], ◌∷◌, map, tr
 ghost use Rattle.std.specs.List.{range_with_len};
 ghost use Rattle.node_program.specs.CodeValue.{is_live_in, value_in, vector_in};
 ghost use Rattle.node_program.specs.Decoding.{decoding_of};
-ghost use Rattle.worked_rows.specs.Butterfly.{butterfly};
-ghost use Rattle.worked_rows.specs.CutButterfly.{cut_butterfly};
-ghost use Rattle.worked_rows.specs.OneLink.{doubled_one_link};
+ghost use Rattle.test_support.specs.Butterfly.{butterfly};
+ghost use Rattle.test_support.specs.CutButterfly.{cut_butterfly};
+ghost use Rattle.test_support.specs.OneLink.{doubled_one_link};
 
 // Where no link fails, the link from `c` to `d` and those behind it carry the sum of the two rows, and
 // each other link one of them.

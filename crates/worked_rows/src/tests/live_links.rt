@@ -1,8 +1,8 @@
 //! Which links of a code are live, by the table of all and each alone.
-use crate::codes::code_of;
-use crate::files::{CUT_BUTTERFLY, TWO_WAYS};
 use node_program::{Code, live, live_links};
 use std::alloc::Global;
+use test_support::codes::code_of;
+use test_support::files::{CUT_BUTTERFLY, TWO_WAYS};
 
 // Whether there are such a pattern and such a link, and the link is live or not, as is wanted.
 fn is_live(code: &Code, pattern: u32, link: usize, want: bool) -> bool {

@@ -1,9 +1,9 @@
 //! Texts of networks, and the parts of the networks that they stand for.
 use super::network_texts::{HEAD, net_of};
-use crate::networks::{has_links, has_nodes};
-use crate::texts::{BUTTERFLY_TEXT, ONE_LINK_TEXT};
 use net_model::{FieldChoice, Net};
 use std::alloc::Global;
+use test_support::networks::{has_links, has_nodes};
+use test_support::texts::{BUTTERFLY_TEXT, ONE_LINK_TEXT};
 
 // A text in pieces, and the parts of its network.
 struct Good {

@@ -1,11 +1,11 @@
 //! The files of the codes that the definitions give.
 ghost use Rattle.std.specs.Prelude.{◌≡◌, slice_set};
 ghost use Rattle.code_file.specs.Items.{bytes_of};
-ghost use Rattle.worked_rows.specs.OneLink.{one_link, wide_one_link, doubled_one_link};
-ghost use Rattle.worked_rows.specs.Butterfly.{butterfly, changed_butterfly};
-ghost use Rattle.worked_rows.specs.CutButterfly.{cut_butterfly};
+ghost use Rattle.test_support.specs.OneLink.{one_link, wide_one_link, doubled_one_link};
+ghost use Rattle.test_support.specs.Butterfly.{butterfly, changed_butterfly};
+ghost use Rattle.test_support.specs.CutButterfly.{cut_butterfly};
 
-use crate::files::{BUTTERFLY, CUT_BUTTERFLY, DOUBLED_ONE_LINK, ONE_LINK, WIDE_ONE_LINK};
+use test_support::files::{BUTTERFLY, CUT_BUTTERFLY, DOUBLED_ONE_LINK, ONE_LINK, WIDE_ONE_LINK};
 
 // The file of the code of one link.
 fn one_link_is_spelled()

@@ -2,12 +2,12 @@
 ghost use Rattle.std.specs.Prelude.{◌≡◌, ◌++◌, List, ℕ, [], ◌∷◌, codes, Ok, Err};
 ghost use Rattle.net_reader.specs.Text.{network_of, parts_of};
 ghost use Rattle.net_reader.specs.declared.refusal.ReadRefusal.TheVariants.{BadByte, BadLine, BadName, DuplicateLink, DuplicatePattern, DuplicateSink, SecondSource, SelfLoop, UnknownLink, RepeatedLink, SecondField, NoSource, NoSink, SinkIsSource};
-ghost use Rattle.worked_rows.specs.OneLink.{one_link, wide_one_link};
-ghost use Rattle.worked_rows.specs.Butterfly.{butterfly};
-ghost use Rattle.worked_rows.specs.CutButterfly.{cut_butterfly};
+ghost use Rattle.test_support.specs.OneLink.{one_link, wide_one_link};
+ghost use Rattle.test_support.specs.Butterfly.{butterfly};
+ghost use Rattle.test_support.specs.CutButterfly.{cut_butterfly};
 ghost use Rattle.worked_rows.specs.Networks.{of_any_field, two_links, both_links, three_cores};
 
-use crate::texts::{BUTTERFLY_TEXT, ONE_LINK_TEXT, THREE_CORES_TEXT, TWO_LINKS_TEXT};
+use test_support::texts::{BUTTERFLY_TEXT, ONE_LINK_TEXT, THREE_CORES_TEXT, TWO_LINKS_TEXT};
 
 // One link, with no line on the field and with each.
 fn one_link_is_read()

@@ -3,12 +3,12 @@ ghost use Rattle.std.specs.Prelude.{◌<◌, length};
 ghost use Rattle.gf_tables.specs.Kind.{IsOfKind};
 
 use super::codes::WIDE_ROWS;
-use crate::codes::code_of;
-use crate::files::{CUT_BUTTERFLY, TWO_WAYS};
 use field_vectors::Matrix;
 use gf_tables::{Field, FieldKind, Gf8, Gf16};
 use node_program::{Code, vectors};
 use std::alloc::Global;
+use test_support::codes::code_of;
+use test_support::files::{CUT_BUTTERFLY, TWO_WAYS};
 
 // Whether an entry of a matrix is the element of a number.
 fn is_entry<F: Field>(matrix: &Matrix<F>, row: usize, column: usize, number: u32) -> bool {

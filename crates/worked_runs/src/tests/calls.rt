@@ -5,7 +5,7 @@ use lif_outside::{Gate, Links, MemSink, MemStore, NoGate, SeedLinks};
 use lif_top::lif;
 use std::alloc::Global;
 use std::thread::Threads;
-use worked_rows::runs::words_of;
+use test_support::runs::words_of;
 
 /// A store with these files, where a read gives as much as is asked for.
 pub(super) fn store_of(alloc: Global, files: &[(&str, &[u8])]) -> Option<MemStore> {

@@ -5,7 +5,7 @@ use lif_outside::{MemSink, MemStore, SeedLinks};
 use std::alloc::Global;
 use std::test;
 use std::thread::Threads;
-use worked_rows::files::ONE_LINK;
+use test_support::files::ONE_LINK;
 
 // The places of the coefficient and of the entry in the file of the one link.
 const TIMES: usize = 33;

@@ -4,9 +4,9 @@ use lif_outside::{Gate, MemStore, NoGate};
 use std::alloc::{AllocError, Global};
 use std::test;
 use std::thread::Threads;
-use worked_rows::files::{BUTTERFLY, ONE_LINK};
-use worked_rows::gates::{Entries, Meeting, Pairing};
-use worked_rows::texts::{BUTTERFLY_TEXT, ONE_LINK_TEXT, THREE_CORES_TEXT, TWO_LINKS_TEXT};
+use test_support::files::{BUTTERFLY, ONE_LINK};
+use test_support::gates::{Entries, Meeting, Pairing};
+use test_support::texts::{BUTTERFLY_TEXT, ONE_LINK_TEXT, THREE_CORES_TEXT, TWO_LINKS_TEXT};
 
 // Whether a command on the file at `in` is done, by a gate.
 fn is_done_on<G: Gate + Sync, R: Threads + Sync>(

@@ -8,11 +8,11 @@ use lif_outside::{Flight, ListLinks, MemSink, MemStore, Spoil};
 use std::alloc::{AllocError, Global};
 use std::test;
 use std::thread::Threads;
-use worked_rows::draws::Draws;
-use worked_rows::files::{BUTTERFLY, TWO_WAYS};
-use worked_rows::orders::{Script, hostile};
-use worked_rows::runs::source_of;
-use worked_rows::watched::{Calls, Watched, watch};
+use test_support::draws::Draws;
+use test_support::files::{BUTTERFLY, TWO_WAYS};
+use test_support::orders::{Script, hostile};
+use test_support::runs::source_of;
+use test_support::watched::{Calls, Watched, watch};
 
 const BUTTERFLY_PLAN: Plan = Plan {
     file: BUTTERFLY,

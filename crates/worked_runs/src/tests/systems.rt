@@ -14,7 +14,7 @@ use std::test::Fail;
 use std::thread::Threads;
 use std::{fs, io};
 use system_files::FileStore;
-use worked_rows::files::ONE_LINK;
+use test_support::files::ONE_LINK;
 
 // A folder of this test alone, and the paths in it.
 const FOLDER: &str = "logged-run-test";

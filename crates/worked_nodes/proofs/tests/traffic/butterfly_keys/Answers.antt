@@ -1,7 +1,7 @@
 use Rattle.std.proofs.Common.{refl}
 use Rattle.node_program.specs.Value.{is_live_within}
-use Rattle.worked_rows.specs.Butterfly.{butterfly}
-use Rattle.worked_rows.specs.CutButterfly.{cut_butterfly}
+use Rattle.test_support.specs.Butterfly.{butterfly}
+use Rattle.test_support.specs.CutButterfly.{cut_butterfly}
 use Rattle.worked_nodes.proofs.tests.traffic.butterfly_keys.Goals as goal
 
 pub returns-clause-all : goal.returns-clause-all

@@ -1,6 +1,6 @@
 use Rattle.std.proofs.Common.{refl}
 use Rattle.node_program.specs.Value.{is_live_within}
-use Rattle.worked_rows.specs.OneLink.{doubled_one_link}
+use Rattle.test_support.specs.OneLink.{doubled_one_link}
 use Rattle.worked_nodes.proofs.tests.traffic.one_link_keys.Goals as goal
 
 pub returns : goal.returns

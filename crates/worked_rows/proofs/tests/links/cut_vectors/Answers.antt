@@ -2,7 +2,7 @@
 use Rattle.std.proofs.Common.{refl}
 use Rattle.gf_tables.specs.Product.{shift, repeated_shift, sum_of_shifts, octet_product, product}
 use Rattle.node_program.specs.Value.{value_within}
-use Rattle.worked_rows.specs.CutButterfly.{cut_butterfly}
+use Rattle.test_support.specs.CutButterfly.{cut_butterfly}
 use Rattle.worked_rows.proofs.tests.links.cut_vectors.Goals as goal
 
 pub returns : goal.returns

@@ -2,7 +2,7 @@
 use Rattle.std.proofs.Common.{refl}
 use Rattle.gf_tables.specs.Product.{shift, repeated_shift, sum_of_shifts, octet_product, product}
 use Rattle.node_program.specs.Value.{value_within}
-use Rattle.worked_rows.specs.OneLink.{doubled_one_link}
+use Rattle.test_support.specs.OneLink.{doubled_one_link}
 use Rattle.worked_rows.proofs.tests.links.doubled_value.Goals as goal
 
 pub returns : goal.returns

@@ -1,7 +1,7 @@
 -- The tests compute.
 use Rattle.std.proofs.Common.{refl}
 use Rattle.node_program.specs.Value.{is_live_within}
-use Rattle.worked_rows.specs.CutButterfly.{cut_butterfly}
+use Rattle.test_support.specs.CutButterfly.{cut_butterfly}
 use Rattle.worked_rows.proofs.tests.links.live_links.Goals as goal
 
 pub returns : goal.returns

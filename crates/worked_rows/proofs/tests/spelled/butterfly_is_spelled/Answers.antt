@@ -1,7 +1,7 @@
 -- The items compute.
 use Rattle.std.proofs.Common.{refl}
 use Rattle.code_file.specs.Items.{bytes_of, items_of, front_items}
-use Rattle.worked_rows.specs.Butterfly.{butterfly}
+use Rattle.test_support.specs.Butterfly.{butterfly}
 use Rattle.worked_rows.proofs.tests.spelled.butterfly_is_spelled.Goals as goal
 
 pub returns : goal.returns

@@ -1,7 +1,7 @@
 -- The parts compute.
 use Rattle.std.proofs.Common.{refl}
-use Rattle.worked_rows.specs.Butterfly.{butterfly}
-use Rattle.worked_rows.specs.CutButterfly.{cut_butterfly}
+use Rattle.test_support.specs.Butterfly.{butterfly}
+use Rattle.test_support.specs.CutButterfly.{cut_butterfly}
 use Rattle.worked_rows.proofs.tests.texts.butterfly_is_read.Goals as goal
 
 pub returns : goal.returns

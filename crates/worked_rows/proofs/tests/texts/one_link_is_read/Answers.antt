@@ -1,6 +1,6 @@
 -- The parts compute.
 use Rattle.std.proofs.Common.{refl}
-use Rattle.worked_rows.specs.OneLink.{one_link, wide_one_link}
+use Rattle.test_support.specs.OneLink.{one_link, wide_one_link}
 use Rattle.worked_rows.proofs.tests.texts.one_link_is_read.Goals as goal
 
 pub returns : goal.returns

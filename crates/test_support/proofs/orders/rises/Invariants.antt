@@ -1,0 +1,6 @@
+-- the numbers so far rise
+use Rattle.std.proofs.Common.{ℕ, ◌+◌, ◌<◌, slice_index}
+use Rattle.test_support.proofs.orders.rises.Given as goal
+
+abbrev pub invariant-loop-place : goal.invariant-loop-place
+invariant-loop-place l = (k : ℕ) → k + 1 < l.place → slice_index l.numbers k < slice_index l.numbers (k + 1)

@@ -1,0 +1,5 @@
+pub mod ButterflyCode
+pub mod OneLink
+pub mod Butterfly
+pub mod CutButterfly
+pub mod WatchLaws

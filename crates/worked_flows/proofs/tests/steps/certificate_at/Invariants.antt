@@ -1,5 +1,0 @@
-use Rattle.worked_flows.proofs.tests.steps.certificate_at.Given as goal
-
--- the ledger of the blank that is passed
-abbrev pub ghosts-certificate_from : goal.ghosts-certificate_from
-ghosts-certificate_from a = record { name = a.blank.name; parts = a.blank.parts }
