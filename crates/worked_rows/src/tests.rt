@@ -9,6 +9,7 @@ mod codes;
 mod combinations;
 mod counting;
 mod demands;
+mod fields;
 mod flows;
 mod limits;
 mod links;

@@ -1,4 +1,4 @@
-use Rattle.worked_fields.proofs.tests.steps.places.Given as goal
+use Rattle.worked_rows.proofs.tests.fields.steps.places.Given as goal
 
 -- the ledger of the blank that is passed
 abbrev pub ghosts-places_from : goal.ghosts-places_from

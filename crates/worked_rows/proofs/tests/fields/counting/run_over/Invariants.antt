@@ -1,4 +1,4 @@
-use Rattle.worked_fields.proofs.tests.counting.run_over.Given as goal
+use Rattle.worked_rows.proofs.tests.fields.counting.run_over.Given as goal
 
 -- the ledger of the blank that is passed
 abbrev pub ghosts-run_from : goal.ghosts-run_from

@@ -1,6 +1,6 @@
 use Rattle.std.proofs.Common.{ap, ◌∙◌}
 use Rattle.field_vectors.proofs.NumberLaws.{number-dot_of}
-use Rattle.worked_fields.proofs.tests.rows_on_numbers.dot_number.Goals as goal
+use Rattle.worked_rows.proofs.tests.fields.rows_on_numbers.dot_number.Goals as goal
 
 pub returns : goal.returns
 returns g c =

@@ -1,6 +1,6 @@
 use Rattle.std.proofs.Common.{◌≢◌, ◌<◌, ℕ, get_or}
 use Rattle.field_vectors.specs.Grid.{entry_of}
-use Rattle.worked_fields.proofs.tests.choices.is_nonzero_at.Given as goal
+use Rattle.worked_rows.proofs.tests.fields.choices.is_nonzero_at.Given as goal
 
 -- the rows before are not zero at their places
 abbrev pub invariant-loop-row : goal.invariant-loop-row

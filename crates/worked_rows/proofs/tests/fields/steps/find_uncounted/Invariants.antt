@@ -1,4 +1,4 @@
-use Rattle.worked_fields.proofs.tests.steps.find_uncounted.Given as goal
+use Rattle.worked_rows.proofs.tests.fields.steps.find_uncounted.Given as goal
 
 -- the ledger of the blank that is passed
 abbrev pub ghosts-find_from : goal.ghosts-find_from
