@@ -1,1 +1,2 @@
 mod TwoRows
+mod RoomLaws

@@ -19,6 +19,7 @@ mod names;
 mod network_texts;
 mod networks;
 mod orders;
+mod outside;
 mod products;
 mod renumbered;
 mod reports;

@@ -2,7 +2,7 @@ use Rattle.std.specs.Prelude.{◌≡◌, ◌≤◌, ◌*◌, [], length}
 use Rattle.std.proofs.Common.{subst, sym}
 use Rattle.coded_traffic.specs.Traffic.{room_for}
 use Rattle.node_program.specs.declared.code.Code.{Code}
-use Rattle.worked_nodes.proofs.OpenedLaws.{just_opened}
+use Rattle.worked_nodes.proofs.tests.OpenedLaws.{just_opened}
 use Rattle.worked_nodes.proofs.tests.carrying.carries_over.Goals as goal
 use Rattle.worked_nodes.proofs.tests.carrying.carries_over.Goals.{In-Ok-open}
 

@@ -1,6 +1,6 @@
 use Rattle.std.proofs.Common.{arith}
-use Rattle.worked_outside.proofs.RoomLaws.{room-put}
-use Rattle.worked_outside.proofs.tests.links.launch.Goals as goal
+use Rattle.worked_rows.proofs.tests.RoomLaws.{room-put}
+use Rattle.worked_rows.proofs.tests.outside.links.launch.Goals as goal
 
 pub returns-in-Ok : goal.returns-in-Ok
 returns-in-Ok g c =

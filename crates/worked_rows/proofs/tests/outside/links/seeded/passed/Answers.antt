@@ -1,7 +1,7 @@
 use Rattle.std.proofs.Common.{arith, refl}
 use Rattle.lif_outside.specs.Seeded.{always, held_by}
-use Rattle.worked_outside.proofs.RoomLaws.{room-put, room-taken}
-use Rattle.worked_outside.proofs.tests.links.seeded.passed.Goals as goal
+use Rattle.worked_rows.proofs.tests.RoomLaws.{room-put, room-taken}
+use Rattle.worked_rows.proofs.tests.outside.links.seeded.passed.Goals as goal
 
 pub put-requires : goal.put-requires
 put-requires c =
