@@ -31,17 +31,8 @@ mod two_hundred;
 mod vectors;
 
 use net_model::{LinkList, Net};
-use net_reader::read_net;
+use network_texts::net_of;
 use std::alloc::{AllocError, Global};
-
-// The network of a text.
-fn read(alloc: Global, text: &[u8]) -> Option<Net> {
-    if text.len() <= 4_194_304 {
-        read_net(alloc, text).ok()
-    } else {
-        None
-    }
-}
 
 fn add_sinks(text: &mut String, sinks: &[u32]) -> Result<(), AllocError> {
     for sink in sinks {
@@ -101,7 +92,7 @@ fn network_of(
     patterns: &[&[u32]],
 ) -> Option<Net> {
     match text_of(alloc, ends, sinks, patterns) {
-        Ok(text) => read(alloc, text.as_bytes()),
+        Ok(text) => net_of(alloc, text.as_bytes()).ok(),
         Err(_) => None,
     }
 }

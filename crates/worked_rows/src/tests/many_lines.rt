@@ -3,43 +3,20 @@ use super::network_texts::{net_of, refusal};
 use net_reader::ReadRefusal::TooMany;
 use net_reader::{ReadRefusal, What};
 use std::alloc::{AllocError, Global};
+use test_support::texts::numbered;
 
-// A first piece of a text, then so many lines of the words before a name of four digits and of those behind it, and a
-// last piece.
+// A first piece of a text, then so many lines, each with its number between words, and a last piece.
 struct Lines {
-    first: &'static [u8],
-    before: &'static [u8],
-    behind: &'static [u8],
-    count: u32,
-    last: &'static [u8],
+    first: &'static str,
+    before: &'static str,
+    behind: &'static str,
+    count: u64,
+    last: &'static str,
 }
 
-fn digit(number: u32) -> u8 {
-    b'0' + (number % 10) as u8
-}
-
-fn add_line(text: &mut Vec<u8>, lines: &Lines, number: u32) -> Result<(), AllocError> {
-    let name = [
-        digit(number / 1000),
-        digit(number / 100),
-        digit(number / 10),
-        digit(number),
-    ];
-    text.extend_from_slice(lines.before)?;
-    text.extend_from_slice(&name)?;
-    text.extend_from_slice(lines.behind)
-}
-
-fn add_lines(text: &mut Vec<u8>, lines: &Lines) -> Result<(), AllocError> {
-    for number in 0..lines.count {
-        add_line(text, lines, number)?;
-    }
-    text.extend_from_slice(lines.last)
-}
-
-fn text_of(alloc: Global, lines: &Lines) -> Result<Vec<u8>, AllocError> {
-    let mut text = Vec::from_slice(alloc, lines.first)?;
-    add_lines(&mut text, lines)?;
+fn text_of(alloc: Global, lines: &Lines) -> Result<String, AllocError> {
+    let mut text = numbered(alloc, lines.first, lines.before, lines.behind, lines.count)?;
+    text.push_str(lines.last)?;
     Ok(text)
 }
 
@@ -53,7 +30,7 @@ fn sizes(alloc: Global, text: &[u8]) -> Option<[usize; 3]> {
 
 fn has_sizes(alloc: Global, lines: &Lines, want: [usize; 3]) -> bool {
     match text_of(alloc, lines) {
-        Ok(text) => sizes(alloc, &text) == Some(want),
+        Ok(text) => sizes(alloc, text.as_bytes()) == Some(want),
         Err(_) => false,
     }
 }
@@ -61,31 +38,31 @@ fn has_sizes(alloc: Global, lines: &Lines, want: [usize; 3]) -> bool {
 const FULL: &[(Lines, [usize; 3])] = &[
     (
         Lines {
-            first: b"source s\n",
-            before: b"sink t",
-            behind: b"\n",
+            first: "source s\n",
+            before: "sink t",
+            behind: "\n",
             count: 4095,
-            last: b"",
+            last: "",
         },
         [4096, 0, 1],
     ),
     (
         Lines {
-            first: b"source s\nsink t\n",
-            before: b"link l",
-            behind: b" s t\n",
+            first: "source s\nsink t\n",
+            before: "link l",
+            behind: " s t\n",
             count: 8192,
-            last: b"",
+            last: "",
         },
         [2, 8192, 1],
     ),
     (
         Lines {
-            first: b"source s\nsink t\nlink l s t\n",
-            before: b"pattern p",
-            behind: b" l\n",
+            first: "source s\nsink t\nlink l s t\n",
+            before: "pattern p",
+            behind: " l\n",
             count: 4095,
-            last: b"",
+            last: "",
         },
         [2, 1, 4096],
     ),
@@ -108,24 +85,24 @@ fn as_many_as_may_be(rt: HostRuntime) {
 
 fn is_refused(alloc: Global, lines: &Lines, why: ReadRefusal) -> bool {
     match text_of(alloc, lines) {
-        Ok(text) => refusal(alloc, &text) == Some(why),
+        Ok(text) => refusal(alloc, text.as_bytes()) == Some(why),
         Err(_) => false,
     }
 }
 
 const NODES: Lines = Lines {
-    first: b"#\n",
-    before: b"sink t",
-    behind: b"\n",
+    first: "#\n",
+    before: "sink t",
+    behind: "\n",
     count: 4096,
-    last: b"",
+    last: "",
 };
 
 // With the last line there is one too many.
 const OVER: &[(Lines, ReadRefusal)] = &[
     (
         Lines {
-            last: b"sink t\n",
+            last: "sink t\n",
             ..NODES
         },
         TooMany {
@@ -135,7 +112,7 @@ const OVER: &[(Lines, ReadRefusal)] = &[
     ),
     (
         Lines {
-            last: b"source s\n",
+            last: "source s\n",
             ..NODES
         },
         TooMany {
@@ -145,7 +122,7 @@ const OVER: &[(Lines, ReadRefusal)] = &[
     ),
     (
         Lines {
-            last: b"\nlink l t0000 t",
+            last: "\nlink l t0 t",
             ..NODES
         },
         TooMany {
@@ -156,9 +133,9 @@ const OVER: &[(Lines, ReadRefusal)] = &[
     // The tail is the last node that there may be.
     (
         Lines {
-            first: b"",
+            first: "",
             count: 4095,
-            last: b"link l s t\n",
+            last: "link l s t\n",
             ..NODES
         },
         TooMany {
@@ -168,11 +145,11 @@ const OVER: &[(Lines, ReadRefusal)] = &[
     ),
     (
         Lines {
-            first: b"",
-            before: b"link l",
-            behind: b" s t\n",
+            first: "",
+            before: "link l",
+            behind: " s t\n",
             count: 8192,
-            last: b"link l t s\n",
+            last: "link l t s\n",
         },
         TooMany {
             line: 8193,
@@ -181,11 +158,11 @@ const OVER: &[(Lines, ReadRefusal)] = &[
     ),
     (
         Lines {
-            first: b"link l s t\n",
-            before: b"pattern p",
-            behind: b" l\n",
+            first: "link l s t\n",
+            before: "pattern p",
+            behind: " l\n",
             count: 4095,
-            last: b"pattern p l",
+            last: "pattern p l",
         },
         TooMany {
             line: 4097,

@@ -1,4 +1,4 @@
-//! Worked examples that are run, by subject. They show what no clause says: that calls succeed while there is memory.
+//! Stores, sinks, links, and files of a system: what no clause says, as that calls succeed while there is memory.
 ghost use Rattle.std.specs.Prelude.{OnOk};
 
 mod file_stores;

@@ -1,5 +1,5 @@
 //! Networks whose links get new numbers.
-use super::read;
+use super::network_texts::net_of;
 use net_model::{FieldChoice, Link, Net, Pattern};
 use std::alloc::Global;
 
@@ -95,9 +95,9 @@ fn is_renumbered(alloc: Global, net: &Net, example: &Example) -> bool {
 }
 
 fn is_example(alloc: Global, example: &Example) -> bool {
-    match read(alloc, example.text) {
-        Some(net) => is_renumbered(alloc, &net, example),
-        None => false,
+    match net_of(alloc, example.text) {
+        Ok(net) => is_renumbered(alloc, &net, example),
+        Err(_) => false,
     }
 }
 

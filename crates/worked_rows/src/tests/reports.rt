@@ -1,5 +1,5 @@
 //! Reports of certificates.
-use super::read;
+use super::network_texts::net_of;
 use super::steps::certificate_at;
 use net_model::Net;
 use report_text::{entry, head};
@@ -65,9 +65,9 @@ fn are_reported(alloc: Global, net: &Net, lines: &[&[u8]]) -> bool {
 }
 
 fn is_butterfly_reported(alloc: Global) -> bool {
-    match read(alloc, BUTTERFLY) {
-        Some(net) => are_reported(alloc, &net, OF_BUTTERFLY),
-        None => false,
+    match net_of(alloc, BUTTERFLY) {
+        Ok(net) => are_reported(alloc, &net, OF_BUTTERFLY),
+        Err(_) => false,
     }
 }
 
