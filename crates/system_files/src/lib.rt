@@ -5,7 +5,7 @@
 //! `specs/Store.antt` and `specs/Say.antt`, what both show, `specs/Handle.antt`, what a read from a place gives,
 //! `specs/Open.antt`, which files are open, and `specs/Known.antt`, which may be made. The law that matters is `accounts`
 //! of the traits `Store` and `Sink`: each call is one that they promise, and the counts account for it. Nothing is told of
-//! what a system holds; `worked_outside` shows that all of this works.
+//! what a system holds; `worked_rows` shows that all of this works.
 #![tactic(auto)]
 
 mod faults;
