@@ -16,7 +16,6 @@ use Rattle.lif_outside.specs.Calls.{Calls, Deeds, Outside}
 use Rattle.lif_outside.specs.Moves.{FollowMoves, InFlight, Move, opened, pairs_put}
 use Rattle.lif_outside.specs.Moves as moves
 use Rattle.node_program.specs.declared.code.Code.{Code}
-use Rattle.relay_runner.specs.Carried.{IsCarried, packets_given}
 use Rattle.top_base.proofs.LeavingLaws.{keep_files, none_keep}
 use Rattle.top_base.proofs.PerformingLaws.{HaveFailedBy, IsKnown}
 use Rattle.top_base.specs.Lines.{demo_lines}
@@ -26,7 +25,7 @@ use Rattle.top_base.specs.Words.{Demo}
 use Rattle.top_base.specs.declared.outcome.Outcome.{Outcome}
 use Rattle.top_base.specs.declared.status.Status.{Status}
 use Rattle.top_base.specs.declared.status.Status.TheVariants.{Done, LinkFault, OutOfMemory, Usage}
-use Rattle.lif_top.proofs.CarriedLaws.{carried-decoded, carried-some, length-blocks_from}
+use Rattle.source_delivery.proofs.CarriedLaws.{carried-decoded, carried-some, length-blocks_from}
 use Rattle.lif_top.proofs.DemoRuns.{none-there}
 use Rattle.lif_top.proofs.FrameLaws.{length-put}
 use Rattle.lif_top.proofs.TallyLaws.{sum-pieces}
@@ -34,8 +33,8 @@ use Rattle.lif_top.specs.Demo.Command.{demo_command}
 use Rattle.lif_top.specs.Demo.Due.{ChangesTo, DueOf, IsShown, LinksWork}
 use Rattle.lif_top.specs.Demo.Given.{blocks_in, demo_seed, source_of}
 use Rattle.lif_top.specs.Demo.Runs.{CarriesSource, RunsDemo, Shows, sum_received}
-use Rattle.lif_top.specs.Send.Carried.{AreCarried, Breaks, CarriesFirst, IsOver, blocks_from}
-use Rattle.lif_top.specs.Send.Turns.{received_at}
+use Rattle.source_delivery.specs.Carried.{AreCarried, Breaks, CarriesFirst, IsOver, blocks_from, IsCarried, packets_given}
+use Rattle.source_delivery.specs.Turns.{received_at}
 
 module _ (faithful : Bool) (demo : Demo) where
   -- there is no call on the store

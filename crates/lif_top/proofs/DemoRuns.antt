@@ -9,25 +9,24 @@ use Rattle.lif_outside.specs.Moves.{FollowMoves, InFlight, Move, open_refused, o
 use Rattle.lif_outside.specs.FileCalls.{appends_of}
 use Rattle.net_model.specs.Renumbering.{renumbered_pattern}
 use Rattle.node_program.specs.declared.code.Code.{Code}
-use Rattle.relay_runner.specs.Carried.{packets_given}
-use Rattle.relay_runner.specs.Running.{Running}
+use Rattle.source_delivery.specs.Running.{Running}
 use Rattle.top_base.specs.Lines.{demo_lines, out_of_memory_line}
 use Rattle.top_base.specs.declared.status.Status.{Status}
 use Rattle.top_base.specs.declared.status.Status.TheVariants.{OutOfMemory}
 use Rattle.top_base.specs.Words.{Demo}
-use Rattle.lif_top.proofs.CarriedLaws.{carried-some, length-blocks_from, over-are}
-use Rattle.lif_top.proofs.DeliveryLaws.{opened-can}
+use Rattle.source_delivery.proofs.CarriedLaws.{carried-some, length-blocks_from, over-are}
+use Rattle.source_delivery.proofs.DeliveryLaws.{opened-can}
 use Rattle.lif_top.proofs.FrameLaws.{length-put, length-traffic}
 use Rattle.lif_top.proofs.TallyLaws.{sum-turns, tallies-unstopped}
-use Rattle.lif_top.proofs.TurnLaws.{turns-are}
+use Rattle.source_delivery.proofs.TurnLaws.{turns-are}
 use Rattle.lif_top.specs.Demo.Given.{IsDemoCode, blocks_in, demo_seed, source_of}
 use Rattle.lif_top.specs.Demo.Runs.{CarriesSource, RunsDemo, Shows, received_before, sum_received}
 use Rattle.lif_top.specs.Demo.Tally.{Tallies, sum_of}
-use Rattle.lif_top.specs.Send.Carried.{AreCarried, Breaks, IsOver, blocks_from}
-use Rattle.lif_top.specs.Send.Delivering.{CanCarry, DeliversSome, Interrupts}
+use Rattle.source_delivery.specs.Carried.{AreCarried, Breaks, IsOver, blocks_from, packets_given}
+use Rattle.source_delivery.specs.Delivering.{CanCarry, DeliversSome, Interrupts}
 use Rattle.lif_top.specs.Send.Runs.{link_calls}
-use Rattle.lif_top.specs.Send.Turns.{turns_before}
-use Rattle.lif_top.specs.declared.delivery.DeliveryFault.TheVariants as fault
+use Rattle.source_delivery.specs.Turns.{turns_before}
+use Rattle.source_delivery.specs.declared.delivery.DeliveryFault.TheVariants as fault
 use Rattle.lif_top.specs.declared.tally.Tally.{Tally}
 
 -- the code has the pattern `none`

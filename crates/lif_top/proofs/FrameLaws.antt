@@ -13,12 +13,12 @@ use Rattle.coded_traffic.specs.Traffic.{Key, Window, is_same_key, key_of, keys_o
 use Rattle.lif_outside.specs.Moves.{Move, pairs_put}
 use Rattle.node_program.specs.CodeValue.{is_live_in}
 use Rattle.node_program.specs.declared.code.Code.{Code}
-use Rattle.node_stations.specs.Putting.{flight_of}
+use Rattle.source_delivery.specs.Putting.{flight_of}
 use Rattle.relay_core.proofs.ListLaws.{count-none, same_counts}
 use Rattle.relay_core.proofs.PacketLaws.{itself, same_key, times-has, times-none, times_of-map}
 use Rattle.relay_core.proofs.TrafficLaws.{among-is}
 use Rattle.relay_core.specs.Core.{has_key}
-use Rattle.relay_runner.specs.Carried.{IsCarried}
+use Rattle.source_delivery.specs.Carried.{IsCarried}
 
 module _ {faithful : Bool} {code : Code} {pattern : ℕ} {window : Window} {moves : List Move} (is : IsCarried faithful code pattern window moves) where
   -- a key stands among the packets put as often as among those of the traffic

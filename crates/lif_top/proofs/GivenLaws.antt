@@ -24,11 +24,6 @@ module _ (words : SendWords) (code at_hand : Code) where
   pub outputs_in : (paths : List (List ℕ)) → at_hand ≡ code → paths ≡ output_paths words.prefix.now at_hand.net → paths ≡ outputs_of (given_in words) code
   outputs_in paths is are = are ∙ ap (λ code. output_paths words.prefix.now code.net) is
 
--- what holds of three things holds of those that they are
-pub subst-three : {A B C : Type 0} (D : A → B → C → Type 0) {a a' : A} {b b' : B} {c c' : C} → a ≡ a' → b ≡ b' → c ≡ c' → D a b c → D a' b' c'
-subst-three D {a' = a'} {b = b} {b' = b'} {c = c} one two three holds =
-    subst (λ c. D a' b' c) three (subst (λ b. D a' b c) two (subst (λ a. D a b c) one holds))
-
 -- the pattern of a code at work, where it is the one that is named
 pub pattern-at_work : (send : Send) (code : Code) (pattern : ℕ) → pattern_of send code ≡ Some pattern → pattern ≡ pattern_in send code
 pattern-at_work send code pattern named = sym (ap (λ (found : Option ℕ). unwrap_or found 0) named)

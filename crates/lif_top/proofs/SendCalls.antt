@@ -13,12 +13,12 @@ use Rattle.top_base.specs.Lines.{sent_line, write_fault_line}
 use Rattle.top_base.specs.Words.{Send, source_limit}
 use Rattle.top_base.specs.declared.status.Status.TheVariants.{Done, WriteFault}
 use Rattle.lif_top.specs.Send.Given.{IsClear, outputs_of, pattern_in}
-use Rattle.lif_top.specs.Send.Runs.{AtRest, Broken, Carries, RunsCode, behind_open}
-use Rattle.lif_top.specs.Send.Streaming.{StopsStreaming, StreamsAll, StreamsSource, outcome_of}
-use Rattle.lif_top.specs.declared.delivery.DeliveryFault.TheVariants as fault
-use Rattle.lif_top.specs.declared.delivery.SentCounts.{SentCounts}
-use Rattle.lif_top.specs.declared.streaming.StreamFault.{StreamFault}
-use Rattle.lif_top.specs.declared.streaming.StreamFault.TheVariants as stream
+use Rattle.lif_top.specs.Send.Runs.{Broken, Carries, RunsCode, behind_open, outcome_of}
+use Rattle.source_delivery.specs.Streaming.{AtRest, StopsStreaming, StreamsAll, StreamsSource}
+use Rattle.source_delivery.specs.declared.delivery.DeliveryFault.TheVariants as fault
+use Rattle.source_delivery.specs.declared.delivery.SentCounts.{SentCounts}
+use Rattle.source_delivery.specs.declared.streaming.StreamFault.{StreamFault}
+use Rattle.source_delivery.specs.declared.streaming.StreamFault.TheVariants as stream
 
 module _ (faithful : Bool) (send : Send) (code : Code) (clear : IsClear send code) where
   -- a sink's file couldn't be created

@@ -1,5 +1,5 @@
 -- What `send` leaves, by the calls after an accepted code was read.
-use Rattle.std.specs.Prelude.{◌≡◌, ◌⊎◌, ◌<◌, ◌||◌, ◌*◌, ◌/◌, ◌^◌, ℕ, Bool, true, false, cond, if◌then◌else◌, min, nat_lt, List, [], ◌∷◌, ◌++◌, IsSome, Option, None, Some, Ok, length, position, take, unwrap_or, Contains}
+use Rattle.std.specs.Prelude.{◌≡◌, ◌⊎◌, ◌<◌, ◌||◌, ◌*◌, ◌^◌, ℕ, Bool, true, false, cond, min, nat_lt, List, [], ◌∷◌, ◌++◌, IsSome, Option, None, Some, Ok, length, position, take, unwrap_or, Contains}
 use Rattle.std.specs.List.{AllByRecursion, concat, list_any, position_or_len}
 use Rattle.std.specs.Str.{bytes_eq}
 use Rattle.std.proofs.Common.{refl, sym, ap, subst, ◌∙◌, inl, inr, ⊎_elim, arith}
@@ -16,7 +16,7 @@ use Rattle.generation_frame.specs.declared.frame.Packet.{Packet}
 use Rattle.lif_outside.proofs.DeedLaws.{Accounted}
 use Rattle.lif_outside.proofs.FileCallLaws.{appends_held, appends_keep, fault_there, long_held, reads_begin, whole_held}
 use Rattle.lif_outside.proofs.OpenLaws.{quiet-after, seed-after}
-use Rattle.lif_outside.proofs.StreamLaws.{fault_begins, reads_among, reads_happen, stream_keeps, whole_begins, whole_ended, whole_gave, writes_among, writes_happen}
+use Rattle.lif_outside.proofs.StreamLaws.{fault_begins, reads_among, reads_happen, stream_keeps, whole_begins, whole_gave, writes_among, writes_happen}
 use Rattle.lif_outside.proofs.TurnLaws.{appends-fault, appends-front, appends-stopped, bytes_appended-appends_to, creates_of-empty, creates_of-fault, creates_of-keep, creates_of-stopped, front_keeps, stops_keep}
 use Rattle.lif_outside.specs.Calls.{Calls, Deeds, Outside}
 use Rattle.lif_outside.specs.EventLaws.{KeepsPath, happen_keeping}
@@ -30,9 +30,8 @@ use Rattle.lif_outside.specs.Told.{Becomes, Told}
 use Rattle.lif_outside.specs.ToldLaws.{becomes_weaker}
 use Rattle.name_texts.specs.Names.{node_name}
 use Rattle.node_program.specs.declared.code.Code.{Code}
-use Rattle.node_stations.specs.Decoded.{decoded_of}
-use Rattle.node_stations.specs.Opening.{demand_of}
-use Rattle.relay_runner.specs.Carried.{IsCarried, packets_given}
+use Rattle.source_delivery.specs.Decoded.{decoded_of}
+use Rattle.source_delivery.specs.Opening.{demand_of}
 use Rattle.top_base.proofs.LeavingLaws.{happen_later, happen_parts, keep_files, later_among, none_keep, told_at}
 use Rattle.top_base.proofs.PathLaws.{clear_apart, clear_distinct}
 use Rattle.top_base.specs.Accepting.{HoldsCode}
@@ -41,13 +40,15 @@ use Rattle.top_base.specs.Performs.{LeavesAll}
 use Rattle.top_base.specs.Words.{Send, source_limit}
 use Rattle.top_base.specs.declared.status.Status.{Status}
 use Rattle.top_base.specs.declared.status.Status.TheVariants.{Done, LinkFault, OutOfMemory, ReadFault, SamePath, TooLong, UnknownPattern, WriteFault}
-use Rattle.lif_top.proofs.CarriedLaws.{carried-decoded, carried-some, length-blocks_from}
-use Rattle.lif_top.proofs.TurnLaws.{turns-are, turns-of_pieces}
+use Rattle.source_delivery.proofs.CarriedLaws.{carried-decoded, carried-some, length-blocks_from}
+use Rattle.source_delivery.proofs.StreamingLaws.{all-brought}
+use Rattle.source_delivery.proofs.TurnLaws.{turns-are, turns-of_pieces}
 use Rattle.lif_top.specs.Paths.{output_path}
-use Rattle.lif_top.specs.Send.Carried.{blocks_from}
+use Rattle.source_delivery.specs.Carried.{blocks_from, IsCarried, packets_given}
 use Rattle.lif_top.specs.Send.Changes.{ChangesTo, HasCode, LeavesPart, LeavesSource, LeavesUnwritten}
 use Rattle.lif_top.specs.Send.Given.{IsClear, outputs_of, pattern_in}
-use Rattle.lif_top.specs.Send.Runs.{AfterCreates, AtRest, Broken, Carries, RunsCode, Sent, StopsAtCreate, blocks_brought, deliveries}
+use Rattle.lif_top.specs.Send.Runs.{AfterCreates, Broken, Carries, RunsCode, Sent, StopsAtCreate, deliveries}
+use Rattle.source_delivery.specs.Streaming.{AtRest, blocks_brought}
 
 -- the front of a front is a front
 take_twice : (k n : ℕ) (xs : List ℕ) → (m : ℕ) × (take k (take n xs) ≡ take m xs)
@@ -61,12 +62,6 @@ prefix_of_front : (bytes : List ℕ) (rate count : ℕ) (b : Option (List ℕ)) 
 prefix_of_front bytes rate count b held =
     let within = take_twice held.0 (count * capacity rate) bytes in
     (within.0, held.1 ∙ ap (λ front. Some (take held.0 front)) (concat-pieces_before bytes rate count) ∙ ap Some within.1)
-
--- a source that was read to its end comes whole, and brings all its blocks
-pub all-brought : (path : List ℕ) (limit : ℕ) (source : List ℕ) (reads : List Event) (rate : ℕ) → ReadsWhole path limit source reads → blocks_brought reads rate ≡ block_count source rate
-all-brought path limit source reads rate whole =
-    ap (λ ended. if ended then block_count (bytes_read reads) rate else length (bytes_read reads) / capacity rate) (whole_ended path limit source reads whole)
-    ∙ ap (λ bytes. block_count bytes rate) (whole_gave path limit source reads whole)
 
 -- a pattern that is known is one of the code's
 pub within-patterns : {X : Type 0} (test : X → Bool) (patterns : List X) → IsSome (position test patterns) → unwrap_or (position test patterns) 0 < length patterns

@@ -35,10 +35,10 @@ use Rattle.top_base.specs.declared.status.Status.TheVariants.{Done, LinkFault, O
 use Rattle.lif_top.specs.Send.Changes.{Changes, ChangesTo}
 use Rattle.lif_top.specs.Send.Command.{send_command}
 use Rattle.lif_top.specs.Send.Due.{DueOf, DueWith, NoFault, OwedOf}
-use Rattle.lif_top.specs.Send.Carried.{AreCarried}
+use Rattle.source_delivery.specs.Carried.{AreCarried, packets_given}
 use Rattle.lif_top.specs.Send.Given.{outputs_of, pattern_in}
-use Rattle.lif_top.specs.Send.Runs.{AfterCreates, AtRest, Broken, Carries, RunsCode, Sends, deliveries}
-use Rattle.relay_runner.specs.Carried.{packets_given}
+use Rattle.lif_top.specs.Send.Runs.{AfterCreates, Broken, Carries, RunsCode, Sends, deliveries}
+use Rattle.source_delivery.specs.Streaming.{AtRest}
 use Rattle.lif_top.proofs.SendLeaving.{at_source, changes_with, deliveries_are, links_fault, part_keeps, source_held}
 
 module _ (faithful : Bool) (send : Send) where

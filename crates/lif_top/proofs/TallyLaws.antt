@@ -16,7 +16,7 @@ use Rattle.lif_outside.specs.FileCalls.{AreAppendsTo, StopsWithin, Written, appe
 use Rattle.node_program.specs.declared.code.Code.{Code}
 use Rattle.lif_top.specs.Demo.Runs.{received_before}
 use Rattle.lif_top.specs.Demo.Tally.{Tallies, sum_of}
-use Rattle.lif_top.specs.Send.Turns.{has_bytes, part_at, received_at, turn_at, turns_before}
+use Rattle.source_delivery.specs.Turns.{has_bytes, part_at, received_at, turn_at, turns_before}
 use Rattle.lif_top.specs.declared.tally.Tally.{Tally}
 
 -- no append fails

@@ -50,3 +50,6 @@ pub use Rattle.net_model.specs.Renumbering
 pub use Rattle.node_program.specs.Code
 pub use Rattle.node_program.specs.Decoding
 pub use Rattle.report_text.specs.Report
+pub use Rattle.source_delivery.specs.Carried
+pub use Rattle.source_delivery.specs.Streaming
+pub use Rattle.source_delivery.specs.Turns

@@ -5,8 +5,6 @@
 //! docs/ARCHITECTURE.md has the way from `lif` down to 'the sink's file is the source'.
 #![tactic(auto)]
 
-mod delivering;
-mod delivery;
 mod demo;
 mod launching;
 mod paths;
@@ -14,7 +12,6 @@ mod preparing;
 mod program;
 mod running;
 mod sending;
-mod streaming;
 mod tally;
 
 pub use code_file::CodeRefusal;

@@ -9,12 +9,12 @@ ghost use Rattle.top_base.specs.Given.{given_in};
 ghost use Rattle.lif_top.specs.Send.Ready.{IsReady};
 ghost use Rattle.lif_top.specs.Send.Runs.{RunsCode, link_calls};
 
-use crate::delivery::Delivery;
 use crate::paths::{output_paths, shared_path};
 use code_checker::Checked;
 use gf_tables::Field;
 use lif_outside::Links;
 use net_model::Net;
+use source_delivery::Delivery;
 use std::alloc::Global;
 use top_base::{Line, Outcome, SendWords, Status};
 

@@ -11,7 +11,7 @@ use Rattle.top_base.specs.declared.outcome.Outcome.{Outcome}
 use Rattle.top_base.specs.declared.status.Status.{Status}
 use Rattle.top_base.specs.declared.status.Status.TheVariants.{Done, LinkFault}
 use Rattle.lif_top.specs.Demo.Given.{IsDemoCode, blocks_in, demo_seed, source_of}
-use Rattle.lif_top.specs.Send.Carried.{blocks_from}
+use Rattle.source_delivery.specs.Carried.{blocks_from}
 
 -- The lines of a code: the frames are the traffic of the source's blocks, and by faithful links the sum is that of the source's
 -- bytes for each sink.

@@ -5,7 +5,7 @@ use Rattle.generation_frame.specs.Blocks.{pieces}
 use Rattle.node_program.specs.declared.code.Code.{Code}
 use Rattle.top_base.specs.Words.{Demo}
 use Rattle.lif_top.specs.Demo.Given.{source_of}
-use Rattle.lif_top.specs.Send.Ready.{paths_of}
+use Rattle.source_delivery.specs.Delivery.{paths_of}
 use Rattle.lif_top.specs.declared.demo.Begun.{Begun}
 
 -- the code is at work under the pattern `none` and begins with the number 0, there is the source, and how many frames a block takes

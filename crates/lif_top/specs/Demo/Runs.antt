@@ -7,14 +7,13 @@ use Rattle.lif_outside.specs.Calls.{Calls}
 use Rattle.lif_outside.specs.Moves.{Move, open_refused, opened, pairs_put}
 use Rattle.lif_outside.specs.Sequences.{Are, Then}
 use Rattle.node_program.specs.declared.code.Code.{Code}
-use Rattle.relay_runner.specs.Carried.{packets_given}
 use Rattle.top_base.specs.Lines.{demo_lines, link_fault_line, out_of_memory_line}
 use Rattle.top_base.specs.Words.{Demo}
 use Rattle.top_base.specs.declared.status.Status.{Status}
 use Rattle.top_base.specs.declared.status.Status.TheVariants.{Done, LinkFault, OutOfMemory}
 use Rattle.lif_top.specs.Demo.Given.{IsDemoCode, blocks_in, demo_seed, source_of}
-use Rattle.lif_top.specs.Send.Carried.{Breaks, CarriesFirst, IsOver}
-use Rattle.lif_top.specs.Send.Turns.{received_at}
+use Rattle.source_delivery.specs.Carried.{Breaks, CarriesFirst, IsOver, packets_given}
+use Rattle.source_delivery.specs.Turns.{received_at}
 
 -- what all sinks of a code get of the first generations, by what came
 abbrev pub received_before : Code → List Packet → ℕ → List ℕ

@@ -1,16 +1,11 @@
 -- What `send` has before it makes anything.
-use Rattle.std.specs.Prelude.{◌≡◌, ℕ, false, List, [], length, map, Some, string_bytes}
-use Rattle.generation_frame.specs.Blocks.{block_count}
+use Rattle.std.specs.Prelude.{◌≡◌, false, [], Some}
 use Rattle.lif_outside.specs.Files.{AreDistinct}
 use Rattle.node_program.specs.declared.code.Code.{Code}
 use Rattle.lif_top.specs.Send.Given.{IsClear, outputs_of, pattern_of}
 use Rattle.top_base.specs.Words.{Send}
-use Rattle.lif_top.specs.declared.delivery.Delivery.{Delivery}
-use Rattle.lif_top.specs.declared.delivery.SentCounts.{SentCounts}
-
--- the paths of the sinks' files
-abbrev pub paths_of : {F : Type 0} → Delivery F → List (List ℕ)
-paths_of delivery = map string_bytes delivery.outputs.items
+use Rattle.source_delivery.specs.Delivery.{paths_of}
+use Rattle.source_delivery.specs.declared.delivery.Delivery.{Delivery}
 
 -- the code is at work under the pattern and begins with the number 0, the paths are those of its sinks' files, and nothing is
 -- gathered yet
@@ -23,9 +18,3 @@ pub record IsReady {F : Type 0} (send : Send) (code : Code) (delivery : Delivery
   pub paths : paths_of delivery ≡ outputs_of send code
   pub distinct : AreDistinct (paths_of delivery)
   pub nothing : delivery.gathered.items ≡ []
-
--- how much of a source was sent
-pub record AreCounts (code : Code) (source : List ℕ) (counts : SentCounts) : Type 0 where
-  pub bytes : counts.bytes ≡ length source
-  pub generations : counts.generations ≡ block_count source code.rate
-  pub sinks : counts.sinks ≡ length code.net.sinks

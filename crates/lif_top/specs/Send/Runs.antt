@@ -1,36 +1,27 @@
 -- The calls of `send`, by its outcome. This holds of every store and of all links.
-use Rattle.std.specs.Prelude.{◌≡◌, ◌⊎◌, ◌/◌, ℕ, Bool, if◌then◌else◌, min, length, List, [], ◌∷◌, Some, IsSome, IsNone}
+use Rattle.std.specs.Prelude.{◌≡◌, ◌⊎◌, ℕ, Bool, List, [], ◌∷◌, Some, IsSome, IsNone}
 use Rattle.coded_traffic.specs.Traffic.{room_for}
-use Rattle.generation_frame.specs.Blocks.{block_count, capacity}
+use Rattle.generation_frame.specs.Blocks.{block_count}
 use Rattle.generation_frame.specs.declared.frame.Packet.{Packet}
 use Rattle.lif_outside.specs.Calls.{Calls, MakesNone}
 use Rattle.lif_outside.specs.Events.{Event}
 use Rattle.lif_outside.specs.Moves.{Move, open_refused, opened}
-use Rattle.lif_outside.specs.FileCalls.{ReadsPastLimit, ReadsToFault, ReadsWhole, StopsWithin, appends_of, bytes_read, creates_of}
+use Rattle.lif_outside.specs.FileCalls.{ReadsPastLimit, ReadsToFault, ReadsWhole, StopsWithin, bytes_read, creates_of}
 use Rattle.lif_outside.specs.Sequences.{Are, IsFrontOf, Then}
-use Rattle.lif_outside.specs.Streams.{Streams, have_ended, reads_in}
+use Rattle.lif_outside.specs.Streams.{Streams, reads_in}
 use Rattle.node_program.specs.declared.code.Code.{Code}
-use Rattle.relay_runner.specs.Carried.{packets_given}
 use Rattle.top_base.specs.Inputs.{ReadsAny}
 use Rattle.top_base.specs.Lines.{link_fault_line, out_of_memory_line, read_fault_line, same_path_line, too_long_line, unknown_pattern_line, write_fault_line}
 use Rattle.top_base.specs.Words.{Send, source_limit}
 use Rattle.top_base.specs.declared.outcome.Outcome.{Outcome}
 use Rattle.top_base.specs.declared.status.Status.{Status}
 use Rattle.top_base.specs.declared.status.Status.TheVariants.{Done, LinkFault, OutOfMemory, ReadFault, SamePath, TooLong, UnknownPattern, WriteFault}
-use Rattle.lif_top.specs.Send.Carried.{Breaks, CarriesFirst, IsOver}
+use Rattle.source_delivery.specs.Carried.{Breaks, CarriesFirst, packets_given}
+use Rattle.source_delivery.specs.Streaming.{AtRest, blocks_brought, deliveries_to}
+use Rattle.source_delivery.specs.declared.delivery.DeliveryFault.TheVariants as fault
+use Rattle.source_delivery.specs.declared.streaming.StreamFault.{StreamFault}
+use Rattle.source_delivery.specs.declared.streaming.StreamFault.TheVariants as stream
 use Rattle.lif_top.specs.Send.Given.{IsClear, line_of_sent, outputs_of, pattern_in, pattern_of, shared_of}
-use Rattle.lif_top.specs.Send.Turns.{turns_before}
-
--- how many blocks reads of a source bring: one comes when it is whole, or when the source ended
-abbrev pub blocks_brought : List Event → ℕ → ℕ
-blocks_brought reads rate =
-    if have_ended reads then block_count (bytes_read reads) rate else length (bytes_read reads) / capacity rate
-
--- What the files at these paths get of what was read: generation by generation, of the blocks that were carried, and of each
--- sink by sink, what the sink decodes of the packets that came.
-abbrev pub deliveries_to : List (List ℕ) → Code → ℕ → List Packet → ℕ → List Event → List Event
-deliveries_to paths code pattern came carried reads =
-    appends_of (turns_before paths code pattern came (min carried (blocks_brought reads code.rate)))
 
 -- what each sink's file gets of what was read of SRC
 abbrev pub deliveries : Send → Code → List Packet → ℕ → List Event → List Event
@@ -61,10 +52,7 @@ pub record Carries (faithful : Bool) (send : Send) (code : Code) (P : List Event
       (R (bytes_read (reads_in on_store.later)) (blocks_brought (reads_in on_store.later) code.rate)) carried)
       calls.on_links
 
--- the calls on the links are over with the blocks carried, or one failed
-abbrev pub AtRest : List ℕ → ℕ → ℕ → List Move → Type 0
-AtRest file blocks = IsOver
-
+-- a call on the links failed, once the first blocks were carried
 abbrev pub Broken : Bool → Send → Code → List ℕ → ℕ → ℕ → List Move → Type 0
 Broken faithful send code file blocks = Breaks faithful code (pattern_in send code) file blocks
 
@@ -106,3 +94,10 @@ RunsCode faithful send code status line calls = ⊥
 -- the calls of an outcome after an accepted code was read, by links that are faithful or not
 abbrev pub Sends : Bool → Send → Code → Outcome → Calls → Type 0
 Sends faithful send code outcome calls = RunsCode faithful send code outcome.status outcome.line calls
+
+-- what a source that was not streamed to its end makes of the command
+abbrev pub outcome_of : StreamFault → Outcome
+outcome_of stream.Read = record { status = ReadFault; line = read_fault_line }
+outcome_of stream.TooLong = record { status = TooLong; line = too_long_line }
+outcome_of (stream.Sinks fault.Links) = record { status = LinkFault; line = link_fault_line }
+outcome_of (stream.Sinks fault.Write) = record { status = WriteFault; line = write_fault_line }

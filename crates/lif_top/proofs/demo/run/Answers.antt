@@ -11,13 +11,13 @@ use Rattle.top_base.specs.Given.{demo_given_in}
 use Rattle.top_base.specs.Lines.{demo_lines}
 use Rattle.lif_top.proofs.DemoRuns.{broken-off, never-unwritten, shown}
 use Rattle.lif_top.proofs.FrameLaws.{few-live}
-use Rattle.lif_top.proofs.GivenLaws.{subst-three}
+use Rattle.source_delivery.proofs.Triples.{subst-three}
 use Rattle.lif_top.specs.Demo.Given.{blocks_in, demo_seed, source_of}
 use Rattle.lif_top.specs.Demo.Runs.{RunsDemo}
-use Rattle.lif_top.specs.Send.Delivering.{DeliversSome, Interrupts}
-use Rattle.lif_top.specs.Send.Ready.{paths_of}
+use Rattle.source_delivery.specs.Delivering.{DeliversSome, Interrupts}
+use Rattle.source_delivery.specs.Delivery.{paths_of}
 use Rattle.lif_top.specs.Send.Runs.{link_calls}
-use Rattle.lif_top.specs.declared.delivery.DeliveryFault.TheVariants as fault
+use Rattle.source_delivery.specs.declared.delivery.DeliveryFault.TheVariants as fault
 use Rattle.lif_top.proofs.demo.run.Goals as goal
 
 pub carry_source-requires-clause-short : goal.carry_source-requires-clause-short

@@ -9,12 +9,13 @@ use Rattle.top_base.specs.Given.{given_in}
 use Rattle.top_base.specs.Words.{source_limit}
 use Rattle.top_base.specs.declared.outcome.Outcome.{Outcome}
 use Rattle.top_base.specs.declared.status.Status.TheVariants.{Done}
-use Rattle.lif_top.proofs.GivenLaws.{pattern-at_work, subst-three}
+use Rattle.lif_top.proofs.GivenLaws.{pattern-at_work}
+use Rattle.source_delivery.proofs.Triples.{subst-three}
 use Rattle.lif_top.proofs.SendCalls.{sent, unmade, unsent}
-use Rattle.lif_top.proofs.Turning.{created_there}
-use Rattle.lif_top.specs.Send.Ready.{paths_of}
+use Rattle.source_delivery.proofs.Turning.{created_there}
+use Rattle.source_delivery.specs.Delivery.{paths_of}
 use Rattle.lif_top.specs.Send.Runs.{RunsCode, behind_open}
-use Rattle.lif_top.specs.Send.Streaming.{StopsStreaming, StreamsAll}
+use Rattle.source_delivery.specs.Streaming.{StopsStreaming, StreamsAll}
 use Rattle.lif_top.proofs.sending.deliver.Goals as goal
 
 -- a sink's file couldn't be created

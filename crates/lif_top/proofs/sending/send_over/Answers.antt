@@ -6,7 +6,7 @@ use Rattle.lif_outside.specs.Calls.{Calls}
 use Rattle.lif_outside.specs.LinksAccounts.{holding}
 use Rattle.lif_outside.specs.Moves.{opened}
 use Rattle.top_base.specs.Given.{given_in}
-use Rattle.lif_top.proofs.DeliveryLaws.{opened-can}
+use Rattle.source_delivery.proofs.DeliveryLaws.{opened-can}
 use Rattle.lif_top.proofs.GivenLaws.{pattern-within}
 use Rattle.lif_top.specs.Send.Runs.{RunsCode, Sends, behind_open, link_calls}
 use Rattle.lif_top.proofs.sending.send_over.Goals as goal

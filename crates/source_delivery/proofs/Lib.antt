@@ -1,0 +1,9 @@
+pub mod CarriedLaws
+pub mod DeliveryLaws
+pub mod GatherLaws
+pub mod Pieces
+pub mod StreamingLaws
+pub mod Triples
+pub mod TurnLaws
+pub mod Turning
+pub mod WindowLaws

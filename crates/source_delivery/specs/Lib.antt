@@ -1,0 +1,10 @@
+pub mod Delivery
+pub mod Turns
+pub mod Carried
+pub mod Delivering
+pub mod Streaming
+pub use Rattle.node_stations.specs.Decoded
+pub use Rattle.node_stations.specs.Opening
+pub use Rattle.node_stations.specs.Putting
+pub use Rattle.relay_runner.specs.Runner
+pub use Rattle.relay_runner.specs.Running

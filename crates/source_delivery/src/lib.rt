@@ -1,0 +1,15 @@
+//! A source that is delivered over links to the sinks' files: a code at work takes it in window by window, and each sink's file
+//! gets what the sink decodes.
+//!
+//! Begin with `Delivery::open` and `Delivery::create_outputs`; `stream` then reads the source from a store as it is carried, and
+//! `carry_source` carries one that is in memory. Read `specs/Turns.antt`, what the sinks' files get of what came, and
+//! `specs/Streaming.antt`, the calls of a source that is streamed. The law that matters is `turns-of_pieces` in proofs/TurnLaws:
+//! where each sink decodes the source's blocks, what its file gets is the source, piece by piece.
+#![tactic(auto)]
+
+mod delivering;
+mod delivery;
+mod streaming;
+
+pub use delivery::{Delivery, DeliveryFault, SentCounts};
+pub use streaming::StreamFault;
