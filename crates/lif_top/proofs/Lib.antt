@@ -1,12 +1,3 @@
 pub mod CommandLaws
-pub mod DemoPerforms
-pub mod DemoRuns
-pub mod FrameLaws
-pub mod GivenLaws
-pub mod PathLaws
 pub mod Promising
-pub mod SendCalls
-pub mod SendLeaving
-pub mod SendPerforms
-pub mod TallyLaws
 pub mod WordLaws

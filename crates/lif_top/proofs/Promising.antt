@@ -20,8 +20,8 @@ use Rattle.top_base.specs.declared.status.Status.{Status}
 use Rattle.top_base.specs.declared.status.Status.TheVariants.{Done, Usage}
 use Rattle.top_tools.proofs.ToolLaws.{check_known, check_used, compile_known, compile_used, cuts_known, cuts_used, order_known, order_used}
 use Rattle.lif_top.specs.Promises.{Promises, does_form, misuse}
-use Rattle.lif_top.proofs.DemoPerforms.{demo_known, demo_used}
-use Rattle.lif_top.proofs.SendPerforms.{send_known, send_used}
+use Rattle.top_runs.proofs.DemoPerforms.{demo_known, demo_used}
+use Rattle.top_runs.proofs.SendPerforms.{send_known, send_used}
 
 -- a status is that of words that are no form where the outcome's is, and nowhere else
 unsaid_used : (status : Status) → status ≢ Usage → status_unsaid status ≢ Usage

@@ -1,9 +1,9 @@
-pub mod Paths
 pub mod Launch
 pub mod Promises
 pub mod Run
-pub mod Send
-pub mod Demo
+pub use Rattle.top_runs.specs.Demo
+pub use Rattle.top_runs.specs.Paths
+pub use Rattle.top_runs.specs.Send
 pub use Rattle.top_base.specs.Accepting
 pub use Rattle.top_base.specs.Acting
 pub use Rattle.top_base.specs.Causes
@@ -50,6 +50,6 @@ pub use Rattle.net_model.specs.Renumbering
 pub use Rattle.node_program.specs.Code
 pub use Rattle.node_program.specs.Decoding
 pub use Rattle.report_text.specs.Report
-pub use Rattle.source_delivery.specs.Carried
-pub use Rattle.source_delivery.specs.Streaming
-pub use Rattle.source_delivery.specs.Turns
+pub use Rattle.top_runs.specs.Carried
+pub use Rattle.top_runs.specs.Streaming
+pub use Rattle.top_runs.specs.Turns

@@ -14,8 +14,8 @@ use Rattle.top_base.specs.Words.{Command, check, command_of, compile, cuts, demo
 use Rattle.top_base.specs.declared.outcome.Outcome.{Outcome}
 use Rattle.top_base.specs.declared.status.Status.{Status}
 use Rattle.top_base.specs.declared.status.Status.TheVariants.{Usage}
-use Rattle.lif_top.specs.Demo.Command.{demo_command}
-use Rattle.lif_top.specs.Send.Command.{send_command}
+use Rattle.top_runs.specs.Demo.Command.{demo_command}
+use Rattle.top_runs.specs.Send.Command.{send_command}
 
 -- words that are no form come to the usage
 abbrev pub misuse : Outcome

@@ -1,18 +1,14 @@
 //! The program: words to commands, and what they do.
 //!
 //! There is one call, `lif`; `run`, which makes it with the words as a system gave them and ends with the number of its
-//! status; and `launch`, which is a run over the words, the files and the output of a system. Read `specs/Promises.antt`, the clause of `lif`, and `specs/Send/Command.antt`, the four words of `send`.
-//! docs/ARCHITECTURE.md has the way from `lif` down to 'the sink's file is the source'.
+//! status; and `launch`, which is a run over the words, the files and the output of a system. Read `specs/Promises.antt`, the
+//! clause of `lif`, and `specs/Send/Command.antt` of `top_runs`, the four words of `send`. docs/ARCHITECTURE.md has the way from
+//! `lif` down to 'the sink's file is the source'.
 #![tactic(auto)]
 
-mod demo;
 mod launching;
-mod paths;
-mod preparing;
 mod program;
 mod running;
-mod sending;
-mod tally;
 
 pub use code_file::CodeRefusal;
 pub use launching::launch;

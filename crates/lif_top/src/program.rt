@@ -5,12 +5,11 @@ ghost use Rattle.top_base.specs.Performs.{RunsOn};
 ghost use Rattle.top_base.specs.Words.{command_of};
 ghost use Rattle.lif_top.specs.Promises.{Promises, does_form};
 
-use crate::demo::demo;
-use crate::sending::send;
 use lif_outside::{Gate, Links, Sink, Store};
 use std::alloc::Global;
 use std::thread::Threads;
 use top_base::{Command, Outcome, Status, command_of, conclude};
+use top_runs::{demo, send};
 use top_tools::{check, compile, cuts, order};
 
 // What the words come to: the command that they are, or the usage.

@@ -8,9 +8,9 @@ use Rattle.top_base.specs.Lines.{usage_line}
 use Rattle.top_base.specs.Performs.{RunsOn}
 use Rattle.top_base.specs.Words.{Command, check, command_of, compile, cuts, demo, order}
 use Rattle.top_base.specs.declared.status.Status.TheVariants.{Usage}
-use Rattle.lif_top.specs.Demo.Runs.{RunsDemo}
+use Rattle.top_runs.specs.Demo.Runs.{RunsDemo}
 use Rattle.lif_top.specs.Promises.{does_form}
-use Rattle.lif_top.specs.Send.Runs.{link_calls}
+use Rattle.top_runs.specs.Send.Runs.{link_calls}
 use Rattle.lif_top.proofs.CommandLaws.{runs_form}
 use Rattle.lif_top.proofs.program.carry_out.Goals as goal
 

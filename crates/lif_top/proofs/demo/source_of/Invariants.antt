@@ -1,8 +1,0 @@
-use Rattle.std.proofs.Common.{◌≡◌, map}
-use Rattle.std.specs.List.{range_with_len}
-use Rattle.net_maker.specs.Source.{source_byte}
-use Rattle.lif_top.proofs.demo.source_of.Given as goal
-
--- the bytes so far
-abbrev pub invariant-loop-place : goal.invariant-loop-place
-invariant-loop-place l = l.source.items ≡ map source_byte (range_with_len 0 l.place)

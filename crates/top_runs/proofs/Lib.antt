@@ -1,0 +1,9 @@
+pub mod DemoPerforms
+pub mod DemoRuns
+pub mod FrameLaws
+pub mod GivenLaws
+pub mod PathLaws
+pub mod SendCalls
+pub mod SendLeaving
+pub mod SendPerforms
+pub mod TallyLaws

@@ -1,0 +1,20 @@
+use Rattle.std.proofs.Common.{◌≡◌, refl, sym, ap, subst, ◌∙◌}
+use Rattle.gf_tables.specs.Kind.{IsOfKind}
+use Rattle.gf_tables.specs.Product.{octet_product, pair_product, product}
+use Rattle.gf_tables.specs.declared.kind.FieldKind.TheVariants.{Eight, Sixteen}
+use Rattle.node_program.specs.declared.code.Code.{Code}
+use Rattle.top_runs.proofs.showing.demo.Goals as goal
+
+pub show-requires-clause-field : goal.show-requires-clause-field
+unfolding product
+show-requires-clause-field g c κs within =
+    let is : c.in-Ok.code.field ≡ Eight = ap (λ (code : Code). code.field) (sym c.code-2.ensures.value) ∙ c.in-Eight.is in
+    subst (λ kind. IsOfKind kind 256 1 8 (octet_product 285)) (sym is)
+    (record { size = refl; bytes = refl; mark = refl; product_at = λ a b h k. refl })
+
+pub show-requires-in-Sixteen-clause-field : goal.show-requires-in-Sixteen-clause-field
+unfolding product
+show-requires-in-Sixteen-clause-field g c κs within =
+    let is : c.in-Ok.code.field ≡ Sixteen = ap (λ (code : Code). code.field) (sym c.code-2.ensures.value) ∙ c.in-Sixteen.is in
+    subst (λ kind. IsOfKind kind 65536 2 16 (pair_product (octet_product 285) 256 32)) (sym is)
+    (record { size = refl; bytes = refl; mark = refl; product_at = λ a b h k. refl })

@@ -1,0 +1,6 @@
+pub mod Paths
+pub mod Send
+pub mod Demo
+pub use Rattle.source_delivery.specs.Carried
+pub use Rattle.source_delivery.specs.Streaming
+pub use Rattle.source_delivery.specs.Turns

@@ -1,0 +1,54 @@
+//! The paths of the sinks' files.
+ghost use Rattle.std.specs.Prelude.{◌≡◌, ◌++◌, ◌∷◌, [], IfOk, map, string_bytes};
+ghost use Rattle.std.specs.Option.{option_map};
+ghost use Rattle.lif_outside.specs.Files.{AreDistinct};
+ghost use Rattle.net_model.specs.Name.{IsName};
+ghost use Rattle.top_base.specs.Paths.{shared_path};
+ghost use Rattle.top_runs.specs.Paths.{output_path, output_paths};
+
+use name_texts::sink_name;
+use net_model::Net;
+use std::alloc::{AllocError, Global};
+
+/// The path of a sink's file: the prefix, a dot and the sink's name.
+fn output_path(alloc: Global, prefix: &str, sink: &[u8]) -> Result<String, AllocError>
+    requires { IsName sink.now }
+    ensures { IfOk result (λ path. string_bytes path ≡ output_path prefix.now sink.now) }
+{
+    let mut path = String::from_str(alloc, prefix)?;
+    path.push('.')?;
+    for byte in sink {
+        path.push(char::from(*byte))?;
+    }
+    Ok(path)
+}
+
+/// The paths of the files of all sinks, in their order.
+pub fn output_paths(alloc: Global, prefix: &str, net: &Net) -> Result<Vec<String>, AllocError>
+    ensures paths { IfOk result
+        (λ paths. map string_bytes paths.items ≡ output_paths prefix.now net.now) }
+    ensures distinct { IfOk result (λ paths. AreDistinct (map string_bytes paths.items)) }
+{
+    let mut paths = Vec::with_capacity(alloc, net.sinks.len())?;
+    for place in 0..net.sinks.len() {
+        paths.push(output_path(alloc, prefix, sink_name(net, place))?)?;
+    }
+    Ok(paths)
+}
+
+/// The first output's path that is that of the code or of the source. No two outputs' paths are equal.
+pub fn shared_path<'a>(code: &'a str, source: &'a str, outputs: &[String]) -> Option<&'a str>
+    requires distinct { AreDistinct (map string_bytes outputs.now) }
+    ensures { option_map (λ path. path.now) result
+        ≡ shared_path (code.now ∷ source.now ∷ []) (map string_bytes outputs.now) }
+{
+    for output in outputs {
+        if output.as_str() == code {
+            return Some(code);
+        }
+        if output.as_str() == source {
+            return Some(source);
+        }
+    }
+    None
+}
