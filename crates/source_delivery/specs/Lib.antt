@@ -8,3 +8,4 @@ pub use Rattle.node_stations.specs.Opening
 pub use Rattle.node_stations.specs.Putting
 pub use Rattle.relay_runner.specs.Runner
 pub use Rattle.relay_runner.specs.Running
+pub use Rattle.relay_runner.specs.Showing

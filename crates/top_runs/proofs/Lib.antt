@@ -1,8 +1,10 @@
 pub mod DemoPerforms
 pub mod DemoRuns
+pub mod DemoShown
 pub mod FrameLaws
 pub mod GivenLaws
 pub mod PathLaws
+pub mod ReceivedLaws
 pub mod SendCalls
 pub mod SendLeaving
 pub mod SendPerforms

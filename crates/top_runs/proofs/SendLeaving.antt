@@ -1,5 +1,5 @@
 -- What `send` leaves, by the calls after an accepted code was read.
-use Rattle.std.specs.Prelude.{◌≡◌, ◌⊎◌, ◌<◌, ◌||◌, ◌*◌, ◌^◌, ℕ, Bool, true, false, cond, min, nat_lt, List, [], ◌∷◌, ◌++◌, IsSome, Option, None, Some, Ok, length, position, take, unwrap_or, Contains}
+use Rattle.std.specs.Prelude.{◌≡◌, ◌⊎◌, ◌<◌, ◌||◌, ◌*◌, ◌/◌, ◌^◌, ℕ, Bool, true, false, cond, if◌then◌else◌, min, nat_lt, List, [], ◌∷◌, ◌++◌, IsSome, Option, None, Some, Ok, length, position, take, unwrap_or, Contains, slice_get}
 use Rattle.std.specs.List.{AllByRecursion, concat, list_any, position_or_len}
 use Rattle.std.specs.Str.{bytes_eq}
 use Rattle.std.proofs.Common.{refl, sym, ap, subst, ◌∙◌, inl, inr, ⊎_elim, arith}
@@ -7,6 +7,7 @@ use Rattle.std.proofs.Math.Bool.{or-true}
 use Rattle.std.proofs.lemmas.Bool.{cases_lt, false≢true, ltb-true, or_left, or_right}
 use Rattle.std.proofs.lemmas.List.{append-nil, length-map, length-take, take_all, take-take}
 use Rattle.std.proofs.lemmas.List.Folds.{list_any-append}
+use Rattle.std.proofs.lemmas.Option.{slice_get-get_or}
 use Rattle.std.proofs.lemmas.Slice.Eq.{bytes_eq-Decides}
 use Rattle.coded_traffic.specs.Traffic.{room_for}
 use Rattle.generation_frame.proofs.BlockLaws.{counted-block}
@@ -16,14 +17,14 @@ use Rattle.generation_frame.specs.declared.frame.Packet.{Packet}
 use Rattle.lif_outside.proofs.DeedLaws.{Accounted}
 use Rattle.lif_outside.proofs.FileCallLaws.{appends_held, appends_keep, fault_there, long_held, reads_begin, whole_held}
 use Rattle.lif_outside.proofs.OpenLaws.{quiet-after, seed-after}
-use Rattle.lif_outside.proofs.StreamLaws.{fault_begins, reads_among, reads_happen, stream_keeps, whole_begins, whole_gave, writes_among, writes_happen}
-use Rattle.lif_outside.proofs.TurnLaws.{appends-fault, appends-front, appends-stopped, bytes_appended-appends_to, creates_of-empty, creates_of-fault, creates_of-keep, creates_of-stopped, front_keeps, stops_keep}
+use Rattle.lif_outside.proofs.StreamLaws.{fault_begins, reads_among, reads_happen, stream_keeps, whole_begins, whole_ended, whole_gave, writes_among, writes_happen}
+use Rattle.lif_outside.proofs.TurnLaws.{appends-fault, appends-front, appends-stopped, creates_of-empty, creates_of-fault, creates_of-keep, creates_of-stopped, front_keeps, stops_keep}
 use Rattle.lif_outside.specs.Calls.{Calls, Deeds, Outside}
 use Rattle.lif_outside.specs.EventLaws.{KeepsPath, happen_keeping}
 use Rattle.lif_outside.specs.Events.{Event, Follow, HappenAt, append_failed}
 use Rattle.lif_outside.specs.FileCalls.{AreAppendsTo, ReadsPastLimit, ReadsToFault, ReadsWhole, StopsWithin, bytes_appended, bytes_read, creates_of}
 use Rattle.lif_outside.specs.Files.{AreDistinct, ChangesOnly, Files, Holds, HoldsPrefix, IsSameOrEmpty}
-use Rattle.lif_outside.specs.Moves.{FollowMoves, InFlight, Move, is_fault, opened}
+use Rattle.lif_outside.specs.Moves.{FollowMoves, InFlight, Move, flights_given, is_fault, opened}
 use Rattle.lif_outside.specs.Sequences.{Are, IsFrontOf}
 use Rattle.lif_outside.specs.Streams.{reads_in, writes_in}
 use Rattle.lif_outside.specs.Told.{Becomes, Told}
@@ -41,16 +42,18 @@ use Rattle.top_base.specs.Words.{Send, source_limit}
 use Rattle.top_base.specs.declared.status.Status.{Status}
 use Rattle.top_base.specs.declared.status.Status.TheVariants.{Done, LinkFault, OutOfMemory, ReadFault, SamePath, TooLong, UnknownPattern, WriteFault}
 use Rattle.source_delivery.proofs.CarriedLaws.{carried-decoded, carried-some, length-blocks_from}
+use Rattle.top_runs.proofs.ReceivedLaws.{bytes-received, pieces-received}
+use Rattle.source_delivery.proofs.TurnLaws.{turns-are}
 use Rattle.source_delivery.proofs.StreamingLaws.{all-brought}
-use Rattle.source_delivery.proofs.TurnLaws.{turns-are, turns-of_pieces}
 use Rattle.top_runs.specs.Paths.{output_path}
-use Rattle.source_delivery.specs.Carried.{blocks_from, IsCarried, packets_given}
-use Rattle.top_runs.specs.Send.Changes.{ChangesTo, HasCode, LeavesPart, LeavesSource, LeavesUnwritten}
+use Rattle.source_delivery.specs.Carried.{IsCarried, blocks_from, packets_given}
+use Rattle.top_runs.specs.Send.Changes.{ChangesTo, HasCode, HoldsReceived, LeavesPart, LeavesSource, LeavesUnwritten, received_by}
 use Rattle.top_runs.specs.Send.Given.{IsClear, outputs_of, pattern_in}
 use Rattle.top_runs.specs.Send.Runs.{AfterCreates, Broken, Carries, RunsCode, Sent, StopsAtCreate, deliveries}
 use Rattle.source_delivery.specs.Streaming.{AtRest, blocks_brought}
 
 -- the front of a front is a front
+
 take_twice : (k n : ℕ) (xs : List ℕ) → (m : ℕ) × (take k (take n xs) ≡ take m xs)
 take_twice k n xs = ⊎_elim
     (λ less. (k, take-take k n xs (omega (arith, less))))
@@ -71,6 +74,10 @@ within-patterns test patterns is = by_test (nat_lt (position_or_len test pattern
         → unwrap_or (cond within (Some (position_or_len test patterns)) None) 0 < length patterns
     by_test true e is = ltb-true (position_or_len test patterns) (length patterns) e
     by_test false e is = absurd (false≢true is)
+
+-- where a path stands
+place_of : (paths : List (List ℕ)) (path : List ℕ) → (there : Contains paths path) → slice_get paths there.0 ≡ Some path
+place_of paths path there = slice_get-get_or paths there.0 path there.1 ∙ ap Some there.2
 
 -- ---- the calls after the code was read, seen at a path
 
@@ -104,9 +111,9 @@ module _ (send : Send) (code : Code) where
         happen_later is.first is.later calls is.events_are place a b keeps happen
 
     -- what the other calls leave
-    leaves_outputs : (R : Option (List ℕ) → Type 0) → ((place : List ℕ) → ¬ Contains (outputs_of send code) place → AllByRecursion (KeepsPath place) is.later)
-        → ((place : List ℕ) (b : Option (List ℕ)) → Contains (outputs_of send code) place → HappenAt place is.later (Some []) b → R b)
-        → (before after : Option Files) → Becomes before after (Follow calls) → Becomes before after (ChangesOnly (outputs_of send code) (λ path old new. R new))
+    leaves_outputs : (R : List ℕ → Option (List ℕ) → Type 0) → ((place : List ℕ) → ¬ Contains (outputs_of send code) place → AllByRecursion (KeepsPath place) is.later)
+        → ((place : List ℕ) (b : Option (List ℕ)) → Contains (outputs_of send code) place → HappenAt place is.later (Some []) b → R place b)
+        → (before after : Option Files) → Becomes before after (Follow calls) → Becomes before after (ChangesOnly (outputs_of send code) (λ path old new. R path new))
     leaves_outputs R keeps held before after change = becomes_weaker change (λ old new follow. record {
       others = λ path apart. happen_keeping path is.later (old path) (new path) (keeps path apart) (elsewhere path (old path) (new path) apart (follow path));
       these = λ path there. held path (new path) there (at_output path (old path) (new path) there (follow path));
@@ -142,8 +149,8 @@ module _ (send : Send) (code : Code) where
           (elsewhere _ calls.on_store is.on_store send.source a b (source_apart is.clear) happen)
 
       -- what is left at the outputs is left by the writes
-      leaves_carried : (L : Option (List ℕ) → Type 0) → ((place : List ℕ) (b : Option (List ℕ)) → Contains (outputs_of send code) place → HappenAt place writes_of (Some []) b → L b)
-          → (before after : Option Files) → Becomes before after (Follow calls.on_store) → Becomes before after (ChangesOnly (outputs_of send code) (λ path old new. L new))
+      leaves_carried : (L : List ℕ → Option (List ℕ) → Type 0) → ((place : List ℕ) (b : Option (List ℕ)) → Contains (outputs_of send code) place → HappenAt place writes_of (Some []) b → L place b)
+          → (before after : Option Files) → Becomes before after (Follow calls.on_store) → Becomes before after (ChangesOnly (outputs_of send code) (λ path old new. L path new))
       leaves_carried L held before after change = leaves_outputs _ calls.on_store is.on_store L
           (λ place apart. stream_keeps place is.on_store.later (writes_keep place apart))
           (λ place b there happen. held place b there (writes_happen place is.on_store.later (Some []) b happen))
@@ -155,9 +162,13 @@ module _ (send : Send) (code : Code) where
       written_among : (event : Event) → Contains writes_of event → Contains calls.on_store event
       written_among event there = create_among _ calls.on_store is.on_store event (writes_among is.on_store.later event there)
 
-      -- by faithful links, what is delivered to each output is the front of what was read
-      count_of : ℕ
+      -- what is delivered to each output is what its sink decodes of what came
+      abbrev pub count_of : ℕ
       count_of = min is.carried (blocks_brought reads_of code.rate)
+
+      pub bytes_got : (path : List ℕ) (place : ℕ) → slice_get (outputs_of send code) place ≡ Some path
+          → bytes_appended path due_of ≡ received_by code (pattern_in send code) (packets_given calls.on_links) count_of place
+      bytes_got path place there = bytes-received (outputs_of send code) code (pattern_in send code) (packets_given calls.on_links) path place (distinct is.clear) there count_of
 
       abbrev on_links_of : List Move
       on_links_of = is.on_links.later
@@ -166,24 +177,23 @@ module _ (send : Send) (code : Code) where
       came-same : packets_given calls.on_links ≡ packets_given on_links_of
       came-same = ap packets_given (is.on_links.events_are ∙ ap (λ (first : List Move). first ++ on_links_of) is.on_links.holds_first)
 
-      pub bytes_delivered : faithful ≡ true → (place : List ℕ) → Contains (outputs_of send code) place
-          → bytes_appended place due_of ≡ concat (pieces_before (bytes_read reads_of) code.rate (min is.carried (blocks_brought reads_of code.rate)))
-      bytes_delivered by_faithful place there =
-          let outputs = outputs_of send code in
+      -- by faithful links, that is the front of what was read
+      pub got_front : faithful ≡ true → (place : ℕ) → place < length (outputs_of send code)
+          → received_by code (pattern_in send code) (packets_given calls.on_links) count_of place ≡ concat (pieces_before (bytes_read reads_of) code.rate count_of)
+      got_front by_faithful place within =
           let pattern = pattern_in send code in
-          let count = min is.carried (blocks_brought reads_of code.rate) in
-          ap (bytes_appended place)
-          (turns-of_pieces outputs code pattern (packets_given calls.on_links) (bytes_read reads_of) code.rate count
-          (λ generation below sink within.
+          pieces-received code pattern (packets_given calls.on_links) (bytes_read reads_of) code.rate place count_of (λ generation below.
           let short : length (piece_of (bytes_read reads_of) code.rate generation) < 2 ^ 32 =
           omega (arith, length-piece_of (bytes_read reads_of) code.rate generation, code.code.draft.low_rate) in
-          ap (λ came. counted_bytes (decoded_of code (demand_of code pattern sink) came generation)) came-same
+          ap (λ came. counted_bytes (decoded_of code (demand_of code pattern place) came generation)) came-same
           ∙ ap counted_bytes
           (carried-decoded faithful code pattern (bytes_read reads_of) (blocks_brought reads_of code.rate)
-          (R (bytes_read reads_of) (blocks_brought reads_of code.rate)) is.carried on_links_of is.on_links.holds_later (known is.clear) by_faithful generation sink
+          (R (bytes_read reads_of) (blocks_brought reads_of code.rate)) is.carried on_links_of is.on_links.holds_later (known is.clear) by_faithful generation place
           (omega (arith, below)) (omega (arith, within, length-map code.net.sinks (λ sink. output_path send.prefix (node_name code.net sink)))))
-          ∙ counted-block code.rate (piece_of (bytes_read reads_of) code.rate generation) short))
-          ∙ bytes_appended-appends_to outputs (pieces_before (bytes_read reads_of) code.rate count) place (distinct is.clear) there
+          ∙ counted-block code.rate (piece_of (bytes_read reads_of) code.rate generation) short)
+
+      bytes_delivered : faithful ≡ true → (path : List ℕ) → Contains (outputs_of send code) path → bytes_appended path due_of ≡ concat (pieces_before (bytes_read reads_of) code.rate count_of)
+      bytes_delivered by_faithful path there = bytes_got path there.0 (place_of (outputs_of send code) path there) ∙ got_front by_faithful there.0 there.1
 
       -- so each output holds a prefix of what was read
       part_left : ((place : List ℕ) (b : Option (List ℕ)) → HappenAt place writes_of (Some []) b → HoldsPrefix (bytes_appended place due_of) b)
@@ -192,9 +202,9 @@ module _ (send : Send) (code : Code) where
       part_left held begins before after change = record {
         read = bytes_read reads_of;
         is_front = told_at before.files after.files calls.on_store send.source (λ file. IsFrontOf (unwrap_or file []) (bytes_read reads_of)) (λ a b happen. begins a b (at_source a b happen)) change;
-        left = leaves_carried (λ file. faithful ≡ true → HoldsPrefix (bytes_read reads_of) file)
+        left = leaves_carried (λ path file. faithful ≡ true → HoldsPrefix (bytes_read reads_of) file)
             (λ place b there happen by_faithful.
-            prefix_of_front (bytes_read reads_of) code.rate (min is.carried (blocks_brought reads_of code.rate)) b
+            prefix_of_front (bytes_read reads_of) code.rate count_of b
             (subst (λ bytes. HoldsPrefix bytes b) (bytes_delivered by_faithful place there) (held place b happen)))
             before.files after.files change;
       }
@@ -219,21 +229,39 @@ module _ (send : Send) (code : Code) where
             short = whole.short;
           }
 
-      delivered : (before after : Option Files) → Becomes before after (Follow calls.on_store) → Becomes before after (ChangesOnly (outputs_of send code) (λ path old new. faithful ≡ true → Holds source new))
-      delivered before after change =
-          let reads = reads_of ByReads Are AtRest calls is.delivered all_keeps in
-          let due = due_of ByReads Are AtRest calls is.delivered all_keeps in
-          let brought = all-brought send.source source_limit source reads code.rate whole in
-          let count : min is.delivered.carried (blocks_brought reads code.rate) ≡ block_count source code.rate = omega (arith, brought, is.all) in
-          leaves_carried ByReads Are AtRest calls is.delivered all_keeps (λ file. faithful ≡ true → Holds source file)
-          (λ place b there happen by_faithful.
-          appends_held (outputs_of send code) place due [] (Some []) b (due_are ByReads Are AtRest calls is.delivered all_keeps) refl
-          (subst (λ es. HappenAt place es (Some []) b) is.delivered.on_store.holds_later.writes happen)
-          ∙ ap Some (bytes_delivered ByReads Are AtRest calls is.delivered all_keeps by_faithful place there
-          ∙ ap (λ n. concat (pieces_before (bytes_read reads) code.rate n)) count
-          ∙ ap (λ bytes. concat (pieces_before bytes code.rate (block_count source code.rate))) (whole_gave send.source source_limit source reads whole)
-          ∙ concat-pieces_of source code.rate code.code.draft.some_rate))
+      -- all blocks were brought, and carried
+      all_count : count_of ByReads Are AtRest calls is.delivered all_keeps ≡ block_count source code.rate
+      all_count = omega (arith, all-brought send.source source_limit source (reads_of ByReads Are AtRest calls is.delivered all_keeps) code.rate whole, is.all)
+
+      -- each sink's file is what the sink decodes of what came
+      received : (before after : Option Files) → Becomes before after (Follow calls.on_store)
+          → Becomes before after (ChangesOnly (outputs_of send code) (λ path old new. HoldsReceived send code source (packets_given calls.on_links) path new))
+      received before after change =
+          leaves_carried ByReads Are AtRest calls is.delivered all_keeps (HoldsReceived send code source (packets_given calls.on_links))
+          (λ path b there happen place at.
+          appends_held (outputs_of send code) path (due_of ByReads Are AtRest calls is.delivered all_keeps) [] (Some []) b (due_are ByReads Are AtRest calls is.delivered all_keeps) refl
+          (subst (λ es. HappenAt path es (Some []) b) is.delivered.on_store.holds_later.writes happen)
+          ∙ ap Some (bytes_got ByReads Are AtRest calls is.delivered all_keeps path place at
+          ∙ ap (λ n. received_by code (pattern_in send code) (packets_given calls.on_links) n place) all_count))
           before after change
+
+      -- by faithful links, that is the source
+      received_source : faithful ≡ true → (place : ℕ) → place < length (outputs_of send code)
+          → received_by code (pattern_in send code) (packets_given calls.on_links) (block_count source code.rate) place ≡ source
+      received_source by_faithful place within =
+          let read = bytes_read (reads_of ByReads Are AtRest calls is.delivered all_keeps) in
+          ap (λ n. received_by code (pattern_in send code) (packets_given calls.on_links) n place) (sym all_count)
+          ∙ got_front ByReads Are AtRest calls is.delivered all_keeps by_faithful place within
+          ∙ ap (λ n. concat (pieces_before read code.rate n)) all_count
+          ∙ ap (λ bytes. concat (pieces_before bytes code.rate (block_count source code.rate))) (whole_gave send.source source_limit source (reads_of ByReads Are AtRest calls is.delivered all_keeps) whole)
+          ∙ concat-pieces_of source code.rate code.code.draft.some_rate
+
+      delivered : (before after : Option Files) → Becomes before after (Follow calls.on_store) → Becomes before after (ChangesOnly (outputs_of send code) (λ path old new. faithful ≡ true → Holds source new))
+      delivered before after change = becomes_weaker (received before after change) (λ old new changes. record {
+        others = changes.others;
+        these = λ path there by_faithful.
+            changes.these path there there.0 (place_of (outputs_of send code) path there) ∙ ap Some (received_source by_faithful there.0 there.1);
+      })
 
       -- some blocks were carried, and then no further call was made on the links
       carries : IsCarried faithful code (pattern_in send code) (record { first = 0; blocks = blocks_from (bytes_read (reads_of ByReads Are AtRest calls is.delivered all_keeps)) code.rate 0 is.delivered.carried })
@@ -364,6 +392,9 @@ module _ (send : Send) (code : Code) where
         has_source = told_at before.files after.files made.on_store send.source (HoldsShort source_limit source) (source_held source made is) accounted.files;
         seed = seed-left source made is before.faithful before.in_flight after.in_flight accounted.moved;
         quiet = quiet-left source made is before.faithful before.in_flight after.in_flight accounted.moved;
+        flights = flights_given made.on_links;
+        gave = accounted.gives;
+        received = received source made is before.files after.files accounted.files;
         left = delivered source made is before.files after.files accounted.files;
       }
 

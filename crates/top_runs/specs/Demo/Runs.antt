@@ -11,11 +11,13 @@ use Rattle.top_base.specs.Lines.{demo_lines, link_fault_line, out_of_memory_line
 use Rattle.top_base.specs.Words.{Demo}
 use Rattle.top_base.specs.declared.status.Status.{Status}
 use Rattle.top_base.specs.declared.status.Status.TheVariants.{Done, LinkFault, OutOfMemory}
+use Rattle.top_runs.specs.Demo.Due.{IsShown}
 use Rattle.top_runs.specs.Demo.Given.{IsDemoCode, blocks_in, demo_seed, source_of}
 use Rattle.source_delivery.specs.Carried.{Breaks, CarriesFirst, IsOver, packets_given}
 use Rattle.source_delivery.specs.Turns.{received_at}
 
 -- what all sinks of a code get of the first generations, by what came
+
 abbrev pub received_before : Code → List Packet → ℕ → List ℕ
 received_before code came generations =
     flat_map (λ generation. flat_map (received_at code 0 came generation) (range_with_len 0 (length code.net.sinks))) (range_with_len 0 generations)
@@ -41,6 +43,12 @@ pub record Shows (faithful : Bool) (demo : Demo) (code : Code) (line : List ℕ)
       ≡ demo_lines demo code (blocks_in demo code) (length (pairs_put calls.on_links))
       (sum_received code (packets_given calls.on_links) (blocks_in demo code))
 
+-- Of one code of the network: all of the source was carried through it and the lines say so, and these lines are due of it.
+pub record Demonstrates (faithful : Bool) (demo : Demo) (line : List ℕ) (calls : Calls) : Type 0 where
+  pub code : Code
+  pub shows : Shows faithful demo code line calls
+  pub shown : IsShown faithful demo code line
+
 -- no call was made, or the links refused to be opened
 pub record LacksMemory (demo : Demo) (calls : Calls) : Type 0 where
   pub on_store : calls.on_store ≡ []
@@ -49,7 +57,7 @@ pub record LacksMemory (demo : Demo) (calls : Calls) : Type 0 where
 
 -- the calls, by the status and the line
 abbrev pub RunsDemo : Bool → Demo → Status → List ℕ → Calls → Type 0
-RunsDemo faithful demo Done line calls = (code : Code) × Shows faithful demo code line calls
+RunsDemo faithful demo Done line calls = Demonstrates faithful demo line calls
 RunsDemo faithful demo LinkFault line calls =
     (code : Code) × CarriesSource faithful demo code (Breaks faithful code 0 (source_of demo) (blocks_in demo code)) calls
     × (line ≡ link_fault_line)

@@ -1,11 +1,17 @@
 -- What `send` leaves, by its outcome: what the files hold, where that is told, and which counts rose.
-use Rattle.std.specs.Prelude.{◌≡◌, ◌⊎◌, ℕ, Bool, true, List, [], Contains, Ok, Option, unwrap_or}
+use Rattle.std.specs.Prelude.{◌≡◌, ◌⊎◌, ℕ, Bool, true, List, [], Contains, Ok, Option, Some, flat_map, slice_get, unwrap_or}
+use Rattle.std.specs.List.{range_with_len}
+use Rattle.generation_frame.specs.Blocks.{block_count}
+use Rattle.generation_frame.specs.declared.frame.Packet.{Packet}
 use Rattle.lif_outside.specs.Calls.{Outside}
 use Rattle.lif_outside.specs.Counts.{Rose}
 use Rattle.lif_outside.specs.Files.{ChangesOnly, Holds, HoldsPrefix, IsSameOrEmpty}
+use Rattle.lif_outside.specs.LinksAccounts.{Adds}
 use Rattle.lif_outside.specs.Sequences.{IsFrontOf}
 use Rattle.lif_outside.specs.Told.{Becomes, Told}
+use Rattle.lif_outside.specs.declared.links.Flight.{Flight}
 use Rattle.node_program.specs.declared.code.Code.{Code}
+use Rattle.source_delivery.specs.Showing.{packets_in}
 use Rattle.top_base.specs.Accepting.{HoldsCode}
 use Rattle.top_base.specs.Acting.{LeavesUnread}
 use Rattle.top_base.specs.Inputs.{HoldsLong, HoldsShort}
@@ -14,9 +20,11 @@ use Rattle.top_base.specs.Words.{Send, source_limit}
 use Rattle.top_base.specs.declared.outcome.Outcome.{Outcome}
 use Rattle.top_base.specs.declared.status.Status.{Status}
 use Rattle.top_base.specs.declared.status.Status.TheVariants.{Done, LinkFault, ReadFault, TooLong, WriteFault}
-use Rattle.top_runs.specs.Send.Given.{IsClear, line_of_sent, outputs_of}
+use Rattle.top_runs.specs.Send.Given.{IsClear, line_of_sent, outputs_of, pattern_in}
+use Rattle.source_delivery.specs.Turns.{received_at}
 
 -- No file but those of the sinks is changed, and of what stood at the path of each and stands there this holds.
+
 abbrev pub LeavesOutputs : Send → Code → (Option (List ℕ) → Option (List ℕ) → Type 0) → Outside → Outside → Type 0
 LeavesOutputs send code P before after = Becomes before.files after.files (ChangesOnly (outputs_of send code) (λ path. P))
 
@@ -29,12 +37,30 @@ pub record HasCode (send : Send) (code : Code) (before : Outside) : Type 0 where
 abbrev pub HasSource : Send → List ℕ → Outside → Type 0
 HasSource send source before = Told before.files (λ files. HoldsShort source_limit source (files send.source))
 
--- Every sink's file is the source, where the links are faithful. They were opened with SEED, and nothing flies on them.
+-- what a sink's file gets of the first generations, by its place: block by block, what the sink decodes of the packets that came
+abbrev pub received_by : Code → ℕ → List Packet → ℕ → ℕ → List ℕ
+received_by code pattern came generations place =
+    flat_map (λ generation. received_at code pattern came generation place) (range_with_len 0 generations)
+
+-- what stands at a path, where it is that of a sink's file, is what this sink decodes of the packets that came, of all blocks of the source
+abbrev pub HoldsReceived : Send → Code → List ℕ → List Packet → List ℕ → Option (List ℕ) → Type 0
+HoldsReceived send code source came path file =
+    (place : ℕ) → slice_get (outputs_of send code) place ≡ Some path
+    → Holds (received_by code (pattern_in send code) came (block_count source code.rate) place) file
+
+-- Every sink's file is what the sink decodes of what the links gave, whatever that is. Where the links are faithful it is the source.
+-- They were opened with SEED, and nothing flies on them.
 pub record LeavesSource (faithful : Bool) (send : Send) (code : Code) (source : List ℕ) (before after : Outside) : Type 0 where
   pub has_code : HasCode send code before
   pub has_source : HasSource send source before
   pub seed : after.in_flight.seed ≡ send.seed
   pub quiet : after.in_flight.flying ≡ []
+  -- these pairs the links gave, and of them each sink's file holds what its sink decodes
+  pub flights : List Flight
+  pub gave : Becomes before.given after.given (Adds flights)
+  pub received : Becomes before.files after.files
+      (ChangesOnly (outputs_of send code) (λ path old new. HoldsReceived send code source (packets_in flights) path new))
+  -- by faithful links each is the source
   pub left : LeavesOutputs send code (λ old new. faithful ≡ true → Holds source new) before after
 
 -- a sink's file couldn't be created; each is as before or empty

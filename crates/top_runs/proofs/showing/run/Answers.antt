@@ -10,6 +10,7 @@ use Rattle.node_program.specs.declared.code.Code.{Code}
 use Rattle.top_base.specs.Given.{demo_given_in}
 use Rattle.top_base.specs.Lines.{demo_lines}
 use Rattle.top_runs.proofs.DemoRuns.{broken-off, never-unwritten, shown}
+use Rattle.top_runs.proofs.DemoShown.{demonstrates}
 use Rattle.top_runs.proofs.FrameLaws.{few-live}
 use Rattle.source_delivery.proofs.Triples.{subst-three}
 use Rattle.top_runs.specs.Demo.Given.{blocks_in, demo_seed, source_of}
@@ -63,16 +64,11 @@ returns-in-Ok g c =
     same-source begun.at_work begun.pattern source (λ code pattern source. DeliversSome faithful code pattern paths source (block_count source code.rate) both.calls) both.holds in
     let generations : counts.generations ≡ blocks_in demo code =
     same-source begun.at_work begun.pattern source (λ code pattern source. counts.generations ≡ block_count source code.rate) c.in-Ok.ensures.counts.generations in
-    record {
-      made = both.calls.on_links;
-      lead = both.on_links;
-      holds = (
-        code,
-        shown faithful demo code c.requires.made paths each both.calls _ c.carry_source.new.store both.on_store some counts.generations c.args.begun.frames _ refl c.carry_source.new.store.small
-            generations begun.frames
-            (c.demo.ensures ∙ ap (λ (code : Code). demo_lines demo code counts.generations (counts.generations * c.args.begun.frames) c.carry_source.new.store.sum) c.code.ensures.value),
-      );
-    }
+    let shows =
+    shown faithful demo code c.requires.made paths each both.calls _ c.carry_source.new.store both.on_store some counts.generations c.args.begun.frames _ refl c.carry_source.new.store.small
+    generations begun.frames
+    (c.demo.ensures ∙ ap (λ (code : Code). demo_lines demo code counts.generations (counts.generations * c.args.begun.frames) c.carry_source.new.store.sum) c.code.ensures.value) in
+    record { made = both.calls.on_links; lead = both.on_links; holds = demonstrates faithful demo code _ _ shows }
 
 pub returns-in-Err-Links : goal.returns-in-Err-Links
 returns-in-Err-Links g c =
