@@ -1,5 +1,5 @@
 -- What `send` leaves, by the calls after an accepted code was read.
-use Rattle.std.specs.Prelude.{◌≡◌, ◌⊎◌, ◌<◌, ◌||◌, ◌*◌, ◌/◌, ◌^◌, ℕ, Bool, true, false, cond, if◌then◌else◌, min, nat_lt, List, [], ◌∷◌, ◌++◌, IsSome, Option, None, Some, Ok, length, position, take, unwrap_or, Contains, slice_get}
+use Rattle.std.specs.Prelude.{◌≡◌, ◌⊎◌, ◌<◌, ◌||◌, ◌*◌, ◌^◌, ℕ, Bool, true, false, cond, min, nat_lt, List, [], ◌∷◌, ◌++◌, IsSome, Option, None, Some, Ok, length, position, take, unwrap_or, Contains, slice_get}
 use Rattle.std.specs.List.{AllByRecursion, concat, list_any, position_or_len}
 use Rattle.std.specs.Str.{bytes_eq}
 use Rattle.std.proofs.Common.{refl, sym, ap, subst, ◌∙◌, inl, inr, ⊎_elim, arith}
@@ -17,7 +17,7 @@ use Rattle.generation_frame.specs.declared.frame.Packet.{Packet}
 use Rattle.lif_outside.proofs.DeedLaws.{Accounted}
 use Rattle.lif_outside.proofs.FileCallLaws.{appends_held, appends_keep, fault_there, long_held, reads_begin, whole_held}
 use Rattle.lif_outside.proofs.OpenLaws.{quiet-after, seed-after}
-use Rattle.lif_outside.proofs.StreamLaws.{fault_begins, reads_among, reads_happen, stream_keeps, whole_begins, whole_ended, whole_gave, writes_among, writes_happen}
+use Rattle.lif_outside.proofs.StreamLaws.{fault_begins, reads_among, reads_happen, stream_keeps, whole_begins, whole_gave, writes_among, writes_happen}
 use Rattle.lif_outside.proofs.TurnLaws.{appends-fault, appends-front, appends-stopped, creates_of-empty, creates_of-fault, creates_of-keep, creates_of-stopped, front_keeps, stops_keep}
 use Rattle.lif_outside.specs.Calls.{Calls, Deeds, Outside}
 use Rattle.lif_outside.specs.EventLaws.{KeepsPath, happen_keeping}

@@ -169,11 +169,11 @@ module _ (faithful : Bool) (send : Send) where
     same_due file Done line SamePath line' (clear, sent) (path, pattern, shared, is') = let apart = clear.apart in absurd (cc)
     same_due file Done line TooLong line' (clear, sent) (clear', long, is') = absurd (not_long source_limit file sent.0 sent.1 long)
     same_due file Done line Done line' (clear, sent) (clear', sent') = refl
-    same_due file Done line status' line' due due' = absurd due'
-    same_due file UnknownPattern line status' line' due due' = absurd due'
-    same_due file SamePath line status' line' due due' = absurd due'
-    same_due file TooLong line status' line' due due' = absurd due'
-    same_due file status line status' line' due due' = absurd due
+    same_due file Done line status' line' is is' = absurd is'
+    same_due file UnknownPattern line status' line' is is' = absurd is'
+    same_due file SamePath line status' line' is is' = absurd is'
+    same_due file TooLong line status' line' is is' = absurd is'
+    same_due file status line status' line' is is' = absurd is
 
   -- ---- the command
 
