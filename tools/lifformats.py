@@ -335,6 +335,15 @@ def read_code(content: bytes) -> Code:
     return code
 
 
+def read_sinks(content: bytes) -> list[str]:
+    """The names of the sinks of a code file. What stands before its patterns is enough, which is less than a megabyte."""
+    items = _Items(content)
+    _read_front(items)
+    nodes = _read_nodes(items)
+    _read_links(items, len(nodes))
+    return [nodes[sink] for sink in _read_sinks(items, len(nodes), _read_source(items, len(nodes)))]
+
+
 def _read_front(items: _Items) -> tuple[int, int]:
     items.require(items.take(4) == b"LIFC", "BadMagic")
     items.require(items.number(1) == 1, "BadVersion")

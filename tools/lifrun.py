@@ -1,0 +1,420 @@
+"""Runs the program for the script `lif`, and says on standard error what its line doesn't.
+
+    python3 tools/lifrun.py PROGRAM WORD ..
+
+The program gets the words, standard input and output and the signals, and this ends as it does. Said is how far `send` is,
+where standard error is a terminal; what stands behind a status other than 0, found by looking at the words and the files; and
+which outputs hold only a beginning. What is read of a pipe is gone, so none is read here.
+"""
+from __future__ import annotations
+
+import ctypes
+import os
+import signal
+import stat
+import sys
+import threading
+import time
+
+# Modules that take long to load are left to where they are needed, and those of types to who checks these.
+TYPE_CHECKING = False
+if TYPE_CHECKING:
+    from typing import NoReturn, Sequence
+
+FORMS = {
+    "order": ("NET",),
+    "cuts": ("NET",),
+    "compile": ("NET", "CODE", "REPORT"),
+    "check": ("CODE",),
+    "send": ("CODE", "PATTERN", "SEED", "SRC", "PREFIX"),
+    "demo": ("N", "K", "BYTES"),
+}
+INPUTS = ("NET", "CODE", "SRC")
+NUMBERS = ("SEED", "N", "K", "BYTES")
+
+# The statuses, as README.md has them.
+USAGE, NET_REFUSED, ZERO_RATE, TOO_MANY_DEMANDS, RATE_OVER, CODE_REFUSED, CHECK_FAILED, UNKNOWN_PATTERN = range(2, 10)
+READ_FAULT, WRITE_FAULT, TOO_LONG, OUT_OF_MEMORY, SAME_PATH, LINK_FAULT = range(10, 16)
+
+# Signals that are passed on to the program.
+PASSED = (signal.SIGHUP, signal.SIGINT, signal.SIGQUIT, signal.SIGTERM, signal.SIGUSR1, signal.SIGUSR2)
+PR_SET_PDEATHSIG = 1
+
+# In seconds: when progress is first said, how often then, and over how long the speed is taken.
+FIRST_SAID = 2.0
+SAID_EACH = 0.5
+SPEED_OVER = 5.0
+# The time of a file may be that of the clock's tick before.
+TICK_NANOSECONDS = 50_000_000
+
+# A longer code file isn't read again to see what is wrong with it.
+MOST_READ_AGAIN = 8_000_000
+# What stands before the patterns of a code file is shorter.
+FRONT_BYTES = 1_000_000
+# How many names a line lists.
+MOST_LISTED = 8
+
+
+def write(text: str) -> None:
+    """Writes to standard error, where that takes it."""
+    try:
+        os.write(2, text.encode(errors="backslashreplace"))
+    except OSError:
+        pass
+
+
+def say(line: str) -> None:
+    """Says a line, without what a terminal would act on."""
+    write("lif: " + "".join(letter if letter.isprintable() else ascii(letter)[1:-1] for letter in line) + "\n")
+
+
+def listed(names: Sequence[str]) -> str:
+    if len(names) > MOST_LISTED:
+        return f"{', '.join(names[:MOST_LISTED])} and {len(names) - MOST_LISTED:,} more"
+    return " and ".join([", ".join(names[:-1]), names[-1]] if len(names) > 1 else names)
+
+
+# Files
+
+
+def size_of(path: str) -> int | None:
+    """The length of a regular file."""
+    try:
+        found = os.stat(path)
+    except OSError:
+        return None
+    return found.st_size if stat.S_ISREG(found.st_mode) else None
+
+
+def content_of(path: str, most: int) -> bytes:
+    """The first bytes of a regular file, so many at most; none of anything else."""
+    if size_of(path) is None:
+        return b""
+    try:
+        with open(path, "rb") as file:
+            return file.read(most)
+    except OSError:
+        return b""
+
+
+def read_fault(path: str) -> str | None:
+    """Why a file can't be read, if so."""
+    try:
+        if not stat.S_ISFIFO(os.stat(path).st_mode):
+            with open(path, "rb") as file:
+                file.read(1)
+    except OSError as error:
+        return error.strerror
+    return None
+
+
+def write_fault(path: str) -> str | None:
+    """Why a file can't be made or written to, if so. Nothing is made, emptied or written."""
+    folder = os.path.dirname(path) or "."
+    try:
+        if os.path.lexists(path) and not stat.S_ISFIFO(os.stat(path).st_mode):
+            os.close(os.open(path, os.O_WRONLY | os.O_NONBLOCK))
+        else:
+            os.stat(os.path.join(folder, "."))
+            os.statvfs(folder)
+            if not os.access(folder, os.W_OK | os.X_OK):
+                return "Permission denied"
+    except OSError as error:
+        return error.strerror
+    return "No space left on device" if os.statvfs(folder).f_bavail == 0 else None
+
+
+class Call:
+    """What the program was called with, and when, in nanoseconds."""
+
+    def __init__(self, words: Sequence[str]):
+        self.words = words
+        self.start = time.time_ns()
+
+    @property
+    def command(self) -> str:
+        return self.words[0] if self.words else ""
+
+    @property
+    def given(self) -> dict[str, str]:
+        """The words by their names in the form; none where they are no form."""
+        form = FORMS.get(self.command, ())
+        return dict(zip(form, self.words[1:])) if len(form) == len(self.words) - 1 else {}
+
+    def inputs(self) -> list[str]:
+        named = INPUTS[:1] if self.command == "compile" else INPUTS
+        return [self.given[name] for name in named if name in self.given]
+
+    def outputs(self) -> list[str]:
+        """The files that are made, in order. Of `send` there are none where its code can't be read here."""
+        from lifformats import Refused, read_sinks
+
+        given = self.given
+        if self.command == "compile" and given:
+            return [given["CODE"], given["REPORT"]]
+        if self.command != "send" or not given:
+            return []
+        try:
+            sinks = read_sinks(content_of(given["CODE"], FRONT_BYTES))
+        except Refused:
+            return []
+        return [f"{given['PREFIX']}.{sink}" for sink in sinks]
+
+    def is_written(self, path: str) -> bool:
+        """Whether a regular file was written to since the program began."""
+        try:
+            found = os.stat(path)
+        except OSError:
+            return False
+        return stat.S_ISREG(found.st_mode) and found.st_mtime_ns >= self.start - TICK_NANOSECONDS
+
+
+# What stands behind a status
+
+
+def cause(call: Call, status: int) -> str | None:
+    """What stands behind a status, in words."""
+    given = call.given
+    net, code = given.get("NET", ""), given.get("CODE", "")
+    if status == USAGE:
+        return usage_cause(call)
+    if status == NET_REFUSED:
+        return net_cause(net)
+    if status == ZERO_RATE:
+        return f"{net}: only failed links leave the side that the line names, so nothing comes to that sink"
+    if status == TOO_MANY_DEMANDS:
+        return f"{net}: sinks times patterns, with none, may be 256 by `field 8` and 65,536 by `field 16`"
+    if status == RATE_OVER:
+        return f"{net}: each sink can get more than 32 symbols a use, and no code has a higher rate"
+    if status == CODE_REFUSED:
+        return code_cause(code)
+    if status == CHECK_FAILED:
+        return f"{code}: the sink that the line names doesn't get the source back under that pattern"
+    if status == UNKNOWN_PATTERN:
+        return pattern_cause(code, given.get("PATTERN", ""))
+    if status == READ_FAULT:
+        faults = [f"{path}: {fault}" for path in call.inputs() if (fault := read_fault(path))]
+        return faults[0] if faults else f"{listed(call.inputs())}: reading failed on the way"
+    if status == WRITE_FAULT:
+        return output_cause(call)
+    if status == TOO_LONG:
+        return length_cause(given)
+    if status == OUT_OF_MEMORY:
+        return "the system gave no more memory, or this process may have no more (`ulimit -v`)"
+    if status == SAME_PATH:
+        return "the file at that path would be read, or written for something else, and written over"
+    if status == LINK_FAULT:
+        return "a link took no frame or gave none"
+    return None
+
+
+def usage_cause(call: Call) -> str | None:
+    from_help = "`lif --help` lists the commands"
+    if not call.command:
+        return f"no command is given: {from_help}"
+    if call.command not in FORMS:
+        return f"there is no command {call.command}: {from_help}"
+    form = FORMS[call.command]
+    if not call.given:
+        return f"{call.command} takes {' '.join(form)}; {len(call.words) - 1} of {len(form)} words were given"
+    for name in form:
+        word = call.given[name]
+        if name in NUMBERS and not (word.isascii() and word.isdigit() and int(word) < 2**64):
+            return f"{name} is {word}, and has to be a number below 2^64"
+    if call.command == "demo":
+        return "N is at most 64, K from 1 to 32 and at most N, and BYTES at most 67,108,864; links and nodes have their limits"
+    return None
+
+
+def net_cause(net: str) -> str | None:
+    from lifformats import MOST_TEXT_BYTES, Refused, cycle_of, read_network
+
+    if size_of(net) is None:
+        return None
+    try:
+        network = read_network(content_of(net, MOST_TEXT_BYTES))
+    except Refused as refused:
+        return f"{net}: {refused}"
+    cycle = cycle_of(network)
+    if cycle is None:
+        return None
+    return f"{net}: these links form a cycle: {listed([network.links[link].name for link in cycle])}"
+
+
+def code_cause(code: str) -> str | None:
+    from lifformats import Refused, read_code
+
+    content = content_of(code, MOST_READ_AGAIN + 1)
+    if size_of(code) is None or len(content) > MOST_READ_AGAIN:
+        return None
+    try:
+        read_code(content)
+    except Refused as refused:
+        return f"{code}: no code file: {refused}"
+    return None
+
+
+def pattern_cause(code: str, pattern: str) -> str:
+    from lifformats import Refused, read_code
+
+    content = content_of(code, MOST_READ_AGAIN + 1)
+    try:
+        names = [it.name for it in read_code(content).network.patterns] if len(content) <= MOST_READ_AGAIN else []
+    except Refused:
+        names = []
+    return f"{code}: no pattern is named {pattern}" + (f"; its patterns: {', '.join(names[:MOST_LISTED])}" if names else "")
+
+
+def output_cause(call: Call) -> str:
+    outputs = call.outputs()
+    for place, path in enumerate(outputs):
+        for other in [*call.inputs(), *outputs[:place]]:
+            try:
+                if os.path.samefile(path, other):
+                    return f"{path}: it is {other} by another name"
+            except OSError:
+                pass
+        fault = write_fault(path)
+        if fault:
+            return f"{path}: {fault}"
+    try:
+        os.fstat(1)
+    except OSError:
+        return "standard output is closed, so the line couldn't be said"
+    whole = "an output was full, or " if outputs else ""
+    return f"{whole}standard output took no more"
+
+
+def length_cause(given: dict[str, str]) -> str | None:
+    from lifformats import MOST_CODE_BYTES, MOST_SOURCE_BYTES, MOST_TEXT_BYTES
+
+    for name, most in zip(INPUTS, (MOST_TEXT_BYTES, MOST_CODE_BYTES, MOST_SOURCE_BYTES)):
+        size = size_of(given.get(name, ""))
+        if size is not None and size > most:
+            return f"{given[name]}: {size:,} bytes, and at most {most:,} are read"
+    return None
+
+
+def beginnings(call: Call) -> str | None:
+    """Which outputs hold only a beginning, once the program has ended early."""
+    written = [path for path in call.outputs() if call.is_written(path)]
+    if call.command == "send":
+        length = size_of(call.given["SRC"]) if call.given else None
+        short = [path for path in written if length is None or (size_of(path) or 0) < length]
+        what = "only a beginning" if length is not None else "perhaps only a beginning"
+        return f"{what} of {call.given['SRC']} stands in {listed(short)}" if short else None
+    # The code is whole where the report was begun.
+    return f"perhaps only a beginning stands in {written[-1]}" if written else None
+
+
+# Progress
+
+
+class Progress(threading.Thread):
+    """Says on the terminal how far `send` is, until `ended` is set: in the line below the cursor, so that what the program
+    says comes before it, in its own line.
+    """
+
+    def __init__(self, call: Call) -> None:
+        super().__init__(daemon=True)
+        self.call = call
+        self.ended = threading.Event()
+
+    def run(self) -> None:
+        if self.ended.wait(FIRST_SAID):
+            return
+        outputs = self.call.outputs()
+        if not outputs:
+            return
+        path, length = outputs[0], size_of(self.call.given["SRC"])
+        seen: list[tuple[float, int]] = []
+        while True:
+            size = (size_of(path) or 0) if self.call.is_written(path) else 0
+            seen.append((time.monotonic(), size))
+            while seen[-1][0] - seen[0][0] > SPEED_OVER:
+                seen.pop(0)
+            line = progress_line(path, size, length, seen)
+            columns = os.get_terminal_size(2).columns or 80
+            write(f"\n{line[: columns - 1]}\033[K\033[A\r")
+            if self.ended.wait(SAID_EACH):
+                break
+        write("\r\033[J")
+
+    def end(self) -> None:
+        self.ended.set()
+        self.join()
+
+
+def progress_line(path: str, size: int, length: int | None, seen: Sequence[tuple[float, int]]) -> str:
+    (before, first), (now, last) = seen[0], seen[-1]
+    speed = (last - first) / (now - before) if now > before else 0
+    parts = [f"lif: {path}: {size:,}" + (f" of {length:,} bytes" if length is not None else " bytes")]
+    if speed > 0:
+        parts.append(f"{speed / 1e6:,.3g} MB/s" if speed >= 1e6 else f"{speed / 1e3:,.3g} kB/s")
+        if length is not None:
+            left = max(length - size, 0) / speed
+            parts.append(f"{left:.0f} s left" if left < 100 else f"{left / 60:.0f} min left")
+    return ", ".join(parts)
+
+
+# The program
+
+
+def start(program: str, words: Sequence[str]) -> int:
+    """Starts the program and gives its number. It gets the signals that come here, and is killed where this process is."""
+    passed = [number for number in PASSED if signal.getsignal(number) != signal.SIG_IGN]
+    tie = ctypes.CDLL(None).prctl
+    masked = signal.pthread_sigmask(signal.SIG_BLOCK, passed)
+    child = os.fork()
+    if child == 0:
+        try:
+            tie(PR_SET_PDEATHSIG, signal.SIGKILL)
+            # Python ignores it, and the program is not to.
+            signal.signal(signal.SIGPIPE, signal.SIG_DFL)
+            signal.pthread_sigmask(signal.SIG_SETMASK, masked)
+            os.execv(program, [program, *words])
+        except OSError as error:
+            say(f"{program}: {error.strerror}")
+        finally:
+            os._exit(126)
+    for number in passed:
+        signal.signal(number, lambda number, _: os.kill(child, number))
+    signal.pthread_sigmask(signal.SIG_SETMASK, masked)
+    return child
+
+
+def end(ended: int) -> NoReturn:
+    """Ends as the program did: with its status, or by the same signal."""
+    if ended < 0:
+        import resource
+
+        resource.setrlimit(resource.RLIMIT_CORE, (0, 0))
+        if -ended in PASSED:
+            signal.signal(-ended, signal.SIG_DFL)
+        os.kill(os.getpid(), -ended)
+    os._exit(ended)
+
+
+def main(program: str, *words: str) -> NoReturn:
+    call = Call(words)
+    child = start(program, words)
+    progress = Progress(call) if call.command == "send" and call.given and shows_progress() else None
+    if progress:
+        progress.start()
+    ended = os.waitstatus_to_exitcode(os.waitpid(child, 0)[1])
+    if progress:
+        progress.end()
+    if ended:
+        for line in (cause(call, ended) if ended > 0 else None, beginnings(call)):
+            if line:
+                say(line)
+    end(ended)
+
+
+def shows_progress() -> bool:
+    """Whether standard error is a terminal that can move its cursor."""
+    return os.isatty(2) and os.environ.get("TERM", "dumb") != "dumb"
+
+
+if __name__ == "__main__":
+    main(*sys.argv[1:])
