@@ -14,11 +14,11 @@ Program = Callable[..., "subprocess.CompletedProcess[str]"]
 @pytest.fixture(scope="session")
 def program() -> Program:
     """Runs the program `lif` with words; a test that asks for it is skipped where there is none."""
-    words = find_program()
-    if words is None:
+    program = find_program()
+    if program is None:
         pytest.skip("there is no program: set LIF_PROGRAM to it, or let ./lif build it")
 
     def run(*given: object, **options: object) -> subprocess.CompletedProcess[str]:
-        return subprocess.run([*words, *map(str, given)], capture_output=True, text=True, check=False, **options)
+        return subprocess.run([program, *map(str, given)], capture_output=True, text=True, check=False, **options)
 
     return run

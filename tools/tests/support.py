@@ -1,6 +1,7 @@
 """What the tests share: the tools as commands and as modules, the program, and code files that are written here."""
 from __future__ import annotations
 
+import functools
 import importlib.machinery
 import importlib.util
 import itertools
@@ -51,20 +52,27 @@ def tool_module(name: str) -> ModuleType:
     return made
 
 
-def find_built() -> str | None:
-    """The program itself: what LIF_PROGRAM names, or what the script `lif` has built of the source as it is."""
+@functools.cache
+def version_lines() -> list[str]:
+    """What the script `lif` says of the program that it would run."""
+    done = subprocess.run([str(TOP / "lif"), "--version"], capture_output=True, text=True, check=True)
+    return done.stdout.splitlines()
+
+
+def find_program() -> str | None:
+    """The program: what LIF_PROGRAM names, or what the script `lif` runs, where no source is newer than that."""
     named = os.environ.get("LIF_PROGRAM")
     if named:
         return named
-    built = max((TOP / "crates/lif_cli/out").glob("lif-x86-64-*"), key=lambda path: path.stat().st_mtime, default=None)
-    sources = [path.stat().st_mtime for path in TOP.glob("crates/*/src/*")]
-    return str(built) if built and built.stat().st_mtime > max(sources) else None
+    program = Path(version_lines()[-1].removeprefix("program "))
+    sources = max(path.stat().st_mtime for path in TOP.glob("crates/*/src/*"))
+    return str(program) if program.is_absolute() and program.stat().st_mtime > sources else None
 
 
-def find_program() -> list[str] | None:
-    """The program: what LIF_PROGRAM names, or the script `lif` where it has built one of the source as it is."""
-    built = find_built()
-    return [os.environ.get("LIF_PROGRAM") or str(TOP / "lif")] if built else None
+def find_proved() -> str | None:
+    """The same, where it is proved, and so as fast and as small as it is meant to be."""
+    is_proved = "LIF_PROGRAM" in os.environ or "proved" in version_lines()
+    return find_program() if is_proved else None
 
 
 def network_of(

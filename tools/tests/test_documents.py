@@ -49,7 +49,8 @@ def top(tmp_path: Path) -> Path:
     shutil.copytree(EXAMPLES, tmp_path / "examples")
     for folder in ("tools", "docs"):
         os.symlink(TOP / folder, tmp_path / folder)
-    (tmp_path / "lif").write_text('#!/bin/sh\nexec {} "$@"\n'.format(" ".join(find_program() or ["false"])))
+    # As the script `lif` runs it, but for what that says of a program that isn't proved.
+    (tmp_path / "lif").write_text(f'#!/bin/sh\nexec python3 {TOOLS}/lifrun.py {find_program()} "$@"\n')
     (tmp_path / "lif").chmod(0o755)
     return tmp_path
 

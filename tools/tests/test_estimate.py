@@ -8,7 +8,7 @@ from pathlib import Path
 
 import pytest
 
-from support import EXAMPLES, bytes_of, find_built, layers_text, run_tool, without_packages
+from support import EXAMPLES, bytes_of, find_proved, layers_text, run_tool, without_packages
 from lifformats import Code, Decoder, Link, Network, Operand, Pattern, octet_product, read_network
 
 CODE = EXAMPLES / "butterfly/butterfly.lif"
@@ -106,13 +106,15 @@ def test_the_memory_of_send(program, tmp_path: Path, size: int) -> None:
     measure = shutil.which("time")
     if measure is None:
         pytest.skip("there is no program time; on Debian: apt-get install time")
+    if find_proved() is None:
+        pytest.skip("there is no proved program: rt ci or ./lif-prove makes it")
     (tmp_path / "none").write_bytes(b"")
     (tmp_path / "source").write_bytes(bytes(size))
 
     def most(code: Path, source: str) -> int:
-        # The script `lif` would count too. The system counts pages in batches for each processor, so the least of some
+        # The system counts pages in batches for each processor, so the least of some
         # runs is the nearest.
-        words = [find_built(), "send", code, "none", "1", tmp_path / source, tmp_path / "out"]
+        words = [find_proved(), "send", code, "none", "1", tmp_path / source, tmp_path / "out"]
         command = [measure, "-f", "%M", *map(str, words)]
         runs = [subprocess.run(command, capture_output=True, text=True, check=True) for _ in range(5)]
         return min(int(run.stderr) for run in runs) * 1024

@@ -1,7 +1,6 @@
-"""The completion of bash, the man page, and what the script `lif` says where it can't build."""
+"""The completion of bash and the man page."""
 from __future__ import annotations
 
-import os
 import re
 import shutil
 import subprocess
@@ -113,31 +112,3 @@ def test_the_man_page_has_every_word_and_every_status() -> None:
     statuses = STATUSES.findall((TOP / "README.md").read_text())
     assert len(statuses) == 15
     assert [number for _, number in statuses] == re.findall(r"^\.It (\d+)$", page(), re.MULTILINE)
-
-
-def test_the_script_says_where_it_looked(tmp_path: Path) -> None:
-    shutil.copy(TOP / "lif", tmp_path / "lif")
-    (tmp_path / "crates.txt").write_text("")
-    (tmp_path / "crates/lif_cli/out").mkdir(parents=True)
-    tools = tmp_path / "bin"
-    tools.mkdir()
-    for name in ("dirname", "grep", "find", "rm"):
-        os.symlink(shutil.which(name), tools / name)
-
-    def run() -> subprocess.CompletedProcess[str]:
-        return subprocess.run(
-            ["/bin/sh", str(tmp_path / "lif"), "order"],
-            env={"PATH": str(tools)},
-            capture_output=True,
-            text=True,
-            check=False,
-        )
-
-    done = run()
-    assert (done.returncode, done.stdout) == (1, "")
-    assert f"looked for it in the folders of PATH: {tools}\n" in done.stderr
-    assert f"PATH=KIT/bin:$PATH {tmp_path}/lif ..\n" in done.stderr
-    program = Path(re.search(r"without rt as (.*)$", done.stderr, re.MULTILINE)[1])
-    program.write_text('#!/bin/sh\necho "runs $*"\n')
-    program.chmod(0o755)
-    assert (run().returncode, run().stdout) == (0, "runs order\n")
