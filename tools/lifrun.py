@@ -318,6 +318,7 @@ class Progress(threading.Thread):
     def __init__(self, call: Call) -> None:
         super().__init__(daemon=True)
         self.call = call
+        self.begun = time.monotonic()
         self.ended = threading.Event()
 
     def run(self) -> None:
@@ -327,7 +328,7 @@ class Progress(threading.Thread):
         if not outputs:
             return
         path, length = outputs[0], size_of(self.call.given["SRC"])
-        seen: list[tuple[float, int]] = []
+        seen = [(self.begun, 0)]
         while True:
             size = (size_of(path) or 0) if self.call.is_written(path) else 0
             seen.append((time.monotonic(), size))
@@ -335,10 +336,12 @@ class Progress(threading.Thread):
                 seen.pop(0)
             line = progress_line(path, size, length, seen)
             columns = os.get_terminal_size(2).columns or 80
-            write(f"\n{line[: columns - 1]}\033[K\033[A\r")
+            if is_in_front():
+                write(f"\n{line[: columns - 1]}\033[K\033[A\r")
             if self.ended.wait(SAID_EACH):
                 break
-        write("\r\033[J")
+        if is_in_front():
+            write("\r\033[J")
 
     def end(self) -> None:
         self.ended.set()
@@ -401,7 +404,9 @@ def main(program: str, *words: str) -> NoReturn:
     progress = Progress(call) if call.command == "send" and call.given and shows_progress() else None
     if progress:
         progress.start()
-    ended = os.waitstatus_to_exitcode(os.waitpid(child, 0)[1])
+    # It is left as it is, so that signals that come meanwhile still have somewhere to go.
+    found = os.waitid(os.P_PID, child, os.WEXITED | os.WNOWAIT)
+    ended = found.si_status if found.si_code == os.CLD_EXITED else -found.si_status
     if progress:
         progress.end()
     if ended:
@@ -409,6 +414,14 @@ def main(program: str, *words: str) -> NoReturn:
             if line:
                 say(line)
     end(ended)
+
+
+def is_in_front() -> bool:
+    """Whether this is what runs at the terminal, and nothing else does."""
+    try:
+        return os.tcgetpgrp(2) == os.getpgrp()
+    except OSError:
+        return False
 
 
 def shows_progress() -> bool:
