@@ -392,10 +392,10 @@ def end(ended: int) -> NoReturn:
         import resource
 
         resource.setrlimit(resource.RLIMIT_CORE, (0, 0))
-        if -ended in PASSED:
+        if -ended != signal.SIGKILL:
             signal.signal(-ended, signal.SIG_DFL)
         os.kill(os.getpid(), -ended)
-    os._exit(ended)
+    os._exit(ended if ended >= 0 else 128 - ended)
 
 
 def main(program: str, *words: str) -> NoReturn:
