@@ -44,14 +44,21 @@ impl Gate for Entries {
 pub struct Meeting {
     entries: Entries,
     alone: AtomicU64,
+    most: u32,
 }
 
 impl Meeting {
     /// One that no job has entered.
     pub fn new() -> Meeting {
+        Meeting::of_turns(MOST_TURNS)
+    }
+
+    /// The same, at which a job turns so often at most.
+    pub fn of_turns(most: u32) -> Meeting {
         Meeting {
             entries: Entries::new(),
             alone: AtomicU64::new(0),
+            most,
         }
     }
 
@@ -64,7 +71,7 @@ impl Meeting {
 impl Gate for Meeting {
     fn enter(&self, job: u32) {
         self.entries.enter(job);
-        for _turn in 0..MOST_TURNS {
+        for _turn in 0..self.most {
             if self.entries.counted() != one_of(job) {
                 return;
             }
@@ -80,14 +87,21 @@ impl Gate for Meeting {
 pub struct Pairing {
     counted: AtomicU64,
     alone: AtomicU64,
+    most: u32,
 }
 
 impl Pairing {
     /// One that no job has entered.
     pub fn new() -> Pairing {
+        Pairing::of_turns(MOST_TURNS)
+    }
+
+    /// The same, at which a job turns so often at most.
+    pub fn of_turns(most: u32) -> Pairing {
         Pairing {
             counted: AtomicU64::new(0),
             alone: AtomicU64::new(0),
+            most,
         }
     }
 
@@ -108,7 +122,7 @@ impl Gate for Pairing {
     fn enter(&self, job: u32) {
         let before = self.counted.fetch_add(one_of(job), Ordering::SeqCst);
         let nth = times(before, job) + 1;
-        for _turn in 0..MOST_TURNS {
+        for _turn in 0..self.most {
             let counted = self.counted.load(Ordering::SeqCst);
             if (0..19).any(|other| other != job && times(counted, other) >= nth) {
                 return;

@@ -17,4 +17,5 @@ mod runs;
 mod sums;
 mod told;
 mod traffic;
+mod turning;
 mod windows;

@@ -11,6 +11,7 @@ mod counting;
 mod demands;
 mod fields;
 mod flows;
+mod gates;
 mod limits;
 mod links;
 mod live_links;

@@ -4,6 +4,7 @@ ghost use Rattle.coded_traffic.specs.Traffic.{room_for};
 ghost use Rattle.generation_frame.specs.Blocks.{most_blocks, row_bytes};
 ghost use Rattle.gf_tables.specs.Kind.{IsOfKind};
 ghost use Rattle.relay_runner.specs.Decoding.{HasDecoded};
+ghost use Rattle.relay_runner.specs.Running.{StandAt};
 
 use code_checker::Checked;
 use generation_frame::ROW;
@@ -91,8 +92,8 @@ pub(super) fn blocks_in(bytes: &[u8], size: usize) -> Option<u32>
     Some(count as u32)
 }
 
-// Whether a window of blocks comes to every sink.
-fn carries_window<F: Field + Send + Sync, K: Links, G: Gate + Sync, R: Threads + Sync>(
+/// Whether a window of blocks comes to every sink.
+pub(super) fn carries_window<F: Field + Send + Sync, K: Links, G: Gate + Sync, R: Threads + Sync>(
     rt: &R,
     runner: &mut Runner<'_, F>,
     sinks: u32,
@@ -109,6 +110,8 @@ fn carries_window<F: Field + Send + Sync, K: Links, G: Gate + Sync, R: Threads +
     requires into { length into.old ≡ runner.old.code.rate * row_bytes }
     ensures code { runner.new.code ≡ runner.old.code }
     ensures works { result ≡ true → runner.new.has_failed ≡ false }
+    ensures stand { result ≡ true → StandAt runner.new.code runner.new.pattern runner.new.relays
+        runner.new.sinks [] }
     ensures nothing_flies { result ≡ true → K.flying links.new ≡ [] }
     ensures room { result ≡ true → room_for runner.old.code ≤ K.room links.new }
     ensures next { runner.new.next ≤ runner.old.next + 4 }
