@@ -20,9 +20,7 @@ pub struct Names<'a> {
 
 // A number of bytes.
 fn count(cursor: &mut Cursor<'_>) -> usize {
-    let number = cursor.number();
-    cursor.want(number <= MOST, TOO_MANY);
-    number.min(MOST) as usize
+    cursor.number_up_to(MOST, TOO_MANY) as usize
 }
 
 // Adds bytes in hex, up to the mark that ends them.
@@ -72,16 +70,21 @@ fn add_each(alloc: Global, bytes: &mut Vec<u8>, first: u64, last: u64, text: &[u
     is_kept
 }
 
-// Adds a text for each number of a range, which comes next with it.
-fn read_each(alloc: Global, cursor: &mut Cursor<'_>, bytes: &mut Vec<u8>) {
+// The first and the last number of `each`, and goes past the quote that begins its text.
+fn each_range(cursor: &mut Cursor<'_>) -> (u64, u64) {
     let first = cursor.number();
     let is_range = cursor.eat(b"..");
-    let last = cursor.number();
+    let last = cursor.number_up_to(MOST, TOO_MANY);
     let is_text = cursor.eat(b" \"");
     cursor.want(is_range && is_text, "no range with a text behind `each`");
+    (first, last)
+}
+
+// Adds a text for each number of a range, which comes next with it.
+fn read_each(alloc: Global, cursor: &mut Cursor<'_>, bytes: &mut Vec<u8>) {
+    let (first, last) = each_range(cursor);
     let mut text = Vec::new(alloc);
     cursor.quoted(&mut text);
-    cursor.want(last < MOST, TOO_MANY);
     if cursor.wrong().is_none() {
         cursor.keep(add_each(alloc, bytes, first, last, &text));
     }
@@ -102,30 +105,9 @@ fn add_named<R: Files + AllocGlobal>(
     name: &[u8],
     bytes: &mut Vec<u8>,
 ) -> bool {
-    if let Some(known) = found(names.lets, name).or(found(names.files, name)) {
-        return bytes.extend_from_slice(known).is_ok();
-    }
-    match str::from_utf8(name) {
-        Ok(path) => add_file(rt, path, bytes),
-        Err(_) => false,
-    }
-}
-
-// Adds what a word stands for: some bytes of the source of `demo`, a text for each number, or the bytes of a name.
-fn add_word<R: Files + AllocGlobal>(
-    rt: &R,
-    names: Names<'_>,
-    cursor: &mut Cursor<'_>,
-    bytes: &mut Vec<u8>,
-) {
-    if cursor.eat(b"demo ") {
-        let count = count(cursor);
-        cursor.keep(add_source(bytes, count));
-    } else if cursor.eat(b"each ") {
-        read_each(rt.alloc(), cursor, bytes);
-    } else {
-        let name = cursor.until(b" [");
-        cursor.want(add_named(rt, names, name, bytes), "no bytes of this name");
+    match found(names.lets, name).or(found(names.files, name)) {
+        Some(known) => bytes.extend_from_slice(known).is_ok(),
+        None => add_file(rt, str::from_utf8(name).unwrap_or_default(), bytes),
     }
 }
 
@@ -136,6 +118,20 @@ fn add_literal(cursor: &mut Cursor<'_>, bytes: &mut Vec<u8>) -> bool {
         true
     } else if cursor.eat(b"<") {
         add_hex(cursor, bytes);
+        true
+    } else {
+        false
+    }
+}
+
+// Adds some bytes of the source of `demo` or a text for each number, and answers whether there were such.
+fn add_made(alloc: Global, cursor: &mut Cursor<'_>, bytes: &mut Vec<u8>) -> bool {
+    if cursor.eat(b"demo ") {
+        let count = count(cursor);
+        cursor.keep(add_source(bytes, count));
+        true
+    } else if cursor.eat(b"each ") {
+        read_each(alloc, cursor, bytes);
         true
     } else {
         false
@@ -223,6 +219,19 @@ fn change_part(alloc: Global, cursor: &mut Cursor<'_>, part: &mut Vec<u8>) {
     }
 }
 
+// Reads what a part has before all that stands behind it.
+fn read_part<R: Files + AllocGlobal>(
+    rt: &R,
+    names: Names<'_>,
+    cursor: &mut Cursor<'_>,
+    part: &mut Vec<u8>,
+) {
+    if !add_literal(cursor, part) && !add_made(rt.alloc(), cursor, part) {
+        let name = cursor.until(b" [");
+        cursor.want(add_named(rt, names, name, part), "no bytes of this name");
+    }
+}
+
 // Adds a part.
 fn add_part<R: Files + AllocGlobal>(
     rt: &R,
@@ -231,9 +240,7 @@ fn add_part<R: Files + AllocGlobal>(
     bytes: &mut Vec<u8>,
 ) {
     let mut part = Vec::new(rt.alloc());
-    if !add_literal(cursor, &mut part) {
-        add_word(rt, names, cursor, &mut part);
-    }
+    read_part(rt, names, cursor, &mut part);
     change_part(rt.alloc(), cursor, &mut part);
     cursor.keep(bytes.extend_from_slice(&part).is_ok());
 }

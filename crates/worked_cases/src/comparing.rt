@@ -2,17 +2,20 @@
 use crate::differences::Differences;
 use crate::named::{Named, found};
 use crate::scene::{Scene, Trouble};
-use crate::wanted::{Content, ToldCalls, Wanted, WantedFile, WantedFrame};
+use crate::wanted::{Content, Number, Wanted, WantedFile, WantedFrame, WantedNumber};
 use lif_outside::{Call, Flight, MemStore};
-use logged_store::{Event, Logged};
+use logged_store::Event;
 use test_support::watched::Calls;
 
-/// What came of a run.
+/// What came of a run: its status, what was said, the store with the calls on it, and those on the links.
 #[derive(Clone, Copy)]
 pub struct Came<'a> {
     pub status: u8,
     pub said: &'a [u8],
-    pub store: &'a Logged<MemStore>,
+    pub store: &'a MemStore,
+    pub log: &'a [Event],
+    /// Whether there was memory for all of the log.
+    pub is_logged: bool,
     pub calls: &'a Calls,
     pub may_carry: bool,
 }
@@ -22,24 +25,33 @@ fn text_of(path: &[u8]) -> &str {
     str::from_utf8(path).unwrap_or_default()
 }
 
-// Which call an event is, and whether it failed.
-fn call_of(event: &Event) -> (Call, bool) {
+// What stands at a path.
+fn file_at<'a>(store: &'a MemStore, path: &[u8]) -> Option<&'a [u8]> {
+    store.file(text_of(path))
+}
+
+// Which call an event is.
+fn call_of(event: &Event) -> Call {
     match event {
-        Event::Read { .. } => (Call::Read, false),
-        Event::ReadFailed { .. } => (Call::Read, true),
-        Event::Created { .. } => (Call::Create, false),
-        Event::CreateFailed { .. } => (Call::Create, true),
-        Event::Appended { .. } => (Call::Append, false),
-        Event::AppendFailed { .. } => (Call::Append, true),
+        Event::Read { .. } | Event::ReadFailed { .. } => Call::Read,
+        Event::Created { .. } | Event::CreateFailed { .. } => Call::Create,
+        Event::Appended { .. } | Event::AppendFailed { .. } => Call::Append,
     }
+}
+
+// Whether an event is a call that failed.
+fn has_failed(event: &Event) -> bool {
+    matches!(
+        event,
+        Event::ReadFailed { .. } | Event::CreateFailed { .. } | Event::AppendFailed { .. }
+    )
 }
 
 // How many calls of a kind were made on the store.
 fn made(log: &[Event], call: Call) -> u64 {
     let mut count = 0u64;
     for event in log {
-        let (other, _failed) = call_of(event);
-        if other == call {
+        if call_of(event) == call {
             count = count.saturating_add(1);
         }
     }
@@ -48,22 +60,14 @@ fn made(log: &[Event], call: Call) -> u64 {
 
 // Whether a call on the store came behind one that failed.
 fn has_late_call(log: &[Event]) -> bool {
-    let mut has_failed = false;
+    let mut is_late = false;
     for event in log {
-        if has_failed {
+        if is_late {
             return true;
         }
-        has_failed = call_of(event).1;
+        is_late = has_failed(event);
     }
     false
-}
-
-// The path of a file that a call made.
-fn made_path(event: &Event) -> Option<&str> {
-    match event {
-        Event::Created { path } => Some(path.as_str()),
-        _ => None,
-    }
 }
 
 // Whether a path is one of those that are told.
@@ -76,66 +80,75 @@ fn is_told(files: &[WantedFile], path: &[u8]) -> bool {
     false
 }
 
+// Whether what stands at a path is what is told of it.
+fn fits(file: &WantedFile, came: &[u8]) -> bool {
+    match file.content {
+        Content::These => file.bytes.as_slice() == came,
+        Content::Any => true,
+        Content::NoFile => false,
+    }
+}
+
 // A file that is told.
-fn compare_file<R: Print + AllocGlobal>(
-    file: &WantedFile,
-    came: Option<&[u8]>,
-    differences: &mut Differences<'_, R>,
-) {
-    match (&file.content, came) {
-        (Content::These(wanted), Some(came)) => {
-            if wanted.as_slice() != came {
-                differences.tell_bytes(file.line, text_of(&file.path), wanted, came);
-            }
+fn compare_file(file: &WantedFile, came: Option<&[u8]>, differences: &mut Differences<'_>) {
+    match came {
+        Some(came) if fits(file, came) => {}
+        Some(came) => {
+            differences.tell_bytes(file.line, text_of(&file.path), &file.bytes, came);
         }
-        (Content::Any, Some(_)) => {}
-        (Content::NoFile, None) => {}
-        (Content::NoFile, Some(came)) => {
-            differences.tell_bytes(file.line, text_of(&file.path), b"", came);
+        None => {
+            let is_so = matches!(file.content, Content::NoFile);
+            differences.want(is_so, file.line, "no file is there");
         }
-        (_, None) => differences.tell(file.line, "no file is there"),
+    }
+}
+
+// The files that are told.
+fn compare_told(files: &[WantedFile], store: &MemStore, differences: &mut Differences<'_>) {
+    for file in files {
+        compare_file(file, file_at(store, &file.path), differences);
     }
 }
 
 // A file that isn't told: it is to stand as before.
-fn compare_other<R: Print + AllocGlobal>(
-    run: usize,
-    file: &Named,
-    came: Option<&[u8]>,
-    differences: &mut Differences<'_, R>,
-) {
+fn compare_other(run: usize, file: &Named, came: Option<&[u8]>, differences: &mut Differences<'_>) {
     match came {
-        Some(came) => {
-            if file.bytes.as_slice() != came {
-                differences.tell_bytes(run, text_of(&file.name), &file.bytes, came);
-            }
-        }
+        Some(came) => differences.want_bytes(run, text_of(&file.name), &file.bytes, came),
         None => differences.tell(run, "a file is gone"),
     }
 }
 
-// All files: those that are told, those that stood there, and those that were made.
-fn compare_files<R: Print + AllocGlobal>(
+// The files that stood there and aren't told.
+fn compare_others(
     wanted: &Wanted,
     before: &[Named],
-    store: &Logged<MemStore>,
-    differences: &mut Differences<'_, R>,
+    store: &MemStore,
+    differences: &mut Differences<'_>,
 ) {
-    for file in &wanted.files {
-        compare_file(file, store.inner().file(text_of(&file.path)), differences);
-    }
     for file in before {
         if !is_told(&wanted.files, &file.name) {
-            let came = store.inner().file(text_of(&file.name));
-            compare_other(wanted.run, file, came, differences);
+            compare_other(wanted.run, file, file_at(store, &file.name), differences);
         }
     }
-    for event in store.log() {
-        if let Some(path) = made_path(event)
-            && found(before, path.as_bytes()).is_none()
-            && !is_told(&wanted.files, path.as_bytes())
-        {
-            differences.tell_bytes(wanted.run, "a further file was made", b"", path.as_bytes());
+}
+
+// A file that a call made. It is to be one of those that are told or stood there.
+fn compare_made(wanted: &Wanted, before: &[Named], path: &[u8], differences: &mut Differences<'_>) {
+    if found(before, path).is_none() && !is_told(&wanted.files, path) {
+        differences.tell_bytes(wanted.run, "a further file was made", b"", path);
+    }
+}
+
+// The files that calls made.
+fn compare_all_made(
+    wanted: &Wanted,
+    before: &[Named],
+    log: &[Event],
+    differences: &mut Differences<'_>,
+) {
+    for event in log {
+        if let Event::Created { path } = event {
+            compare_made(wanted, before, path.as_bytes(), differences);
         }
     }
 }
@@ -144,12 +157,8 @@ fn compare_files<R: Print + AllocGlobal>(
 fn count_with(puts: &[Flight], place: usize, bytes: &[u8]) -> u64 {
     let mut count = 0u64;
     for flight in puts {
-        if flight
-            .frame
-            .get(place..)
-            .unwrap_or_default()
-            .starts_with(bytes)
-        {
+        let behind = flight.frame.get(place..).unwrap_or_default();
+        if behind.starts_with(bytes) {
             count = count.saturating_add(1);
         }
     }
@@ -167,93 +176,61 @@ fn count_on(puts: &[Flight], link: u64) -> u64 {
     count
 }
 
-// A number that is told.
-fn compare_numbers<R: Print + AllocGlobal>(
-    line: usize,
-    what: &str,
-    wanted: u64,
-    came: u64,
-    differences: &mut Differences<'_, R>,
-) {
-    if wanted != came {
-        differences.tell_numbers(line, what, wanted, came);
-    }
+// A pair whose frame has the front that is told of: it is on the link that the front names, and has this payload.
+fn compare_put(frame: &WantedFrame, link: u32, payload: &[u8], differences: &mut Differences<'_>) {
+    let (wanted, came) = (u64::from(frame.link), u64::from(link));
+    differences.want_number(frame.line, "link", wanted, came);
+    differences.want_bytes(frame.line, "payload", &frame.payload, payload);
 }
 
-// A frame that is told: one is put with this front, on the link that it names, and it has this payload.
-fn compare_frame<R: Print + AllocGlobal>(
-    frame: &WantedFrame,
-    puts: &[Flight],
-    differences: &mut Differences<'_, R>,
-) {
-    let (line, front) = (frame.line, &frame.front);
-    let count = count_with(puts, 0, front);
-    compare_numbers(line, "frames with these numbers", 1, count, differences);
-    let link = u32::from_be_bytes([front[4], front[5], front[6], front[7]]);
+// A frame that is told: one is put with this front.
+fn compare_frame(frame: &WantedFrame, puts: &[Flight], differences: &mut Differences<'_>) {
+    let count = count_with(puts, 0, &frame.front);
+    differences.want_number(frame.line, "frames with these numbers", 1, count);
     for flight in puts {
-        if flight.frame.starts_with(front) {
-            let came = u64::from(flight.link);
-            compare_numbers(line, "link", u64::from(link), came, differences);
-            if frame.payload.as_slice() != &flight.frame[12..] {
-                differences.tell_bytes(line, "payload", &frame.payload, &flight.frame[12..]);
-            }
+        if let Some(payload) = flight.frame.strip_prefix(&frame.front) {
+            compare_put(frame, flight.link, payload, differences);
         }
     }
 }
 
-// The number and the room with which links were opened.
-fn compare_opened<R: Print + AllocGlobal>(
-    line: usize,
-    seed: u64,
-    room: u64,
-    calls: &Calls,
-    differences: &mut Differences<'_, R>,
-) {
-    compare_numbers(line, "opened", 1, u64::from(calls.opens), differences);
-    let (number, most) = calls.opened.unwrap_or((0, 0));
-    compare_numbers(line, "seed", seed, number, differences);
-    compare_numbers(line, "room", room, u64::from(most), differences);
+// The frames that are told.
+fn compare_frames(frames: &[WantedFrame], puts: &[Flight], differences: &mut Differences<'_>) {
+    for frame in frames {
+        compare_frame(frame, puts, differences);
+    }
 }
 
-// What is told of calls.
-fn compare_calls<R: Print + AllocGlobal>(
-    line: usize,
-    wanted: &ToldCalls,
-    came: &Came<'_>,
-    differences: &mut Differences<'_, R>,
-) {
+// The number that came.
+fn number_of(number: Number, came: &Came<'_>) -> u64 {
     let calls = came.calls;
-    let puts = calls.puts.as_slice();
-    match wanted {
-        ToldCalls::OnStore { call, count } => {
-            let made = made(came.store.log(), *call);
-            compare_numbers(line, "calls", *count, made, differences);
-        }
-        ToldCalls::Unopened => {
-            if !calls.are_none() {
-                differences.tell(line, "a call was made on the links");
-            }
-        }
-        ToldCalls::Opened { seed, room } => compare_opened(line, *seed, *room, calls, differences),
-        ToldCalls::Frames(count) => {
-            compare_numbers(line, "frames", *count, puts.len() as u64, differences);
-        }
-        ToldCalls::FramesOn { count, link } => {
-            compare_numbers(
-                line,
-                "frames on it",
-                *count,
-                count_on(puts, *link),
-                differences,
-            );
-        }
-        ToldCalls::FramesOf { count, generation } => {
-            let came = count_with(puts, 8, &generation.to_be_bytes());
-            compare_numbers(line, "frames of it", *count, came, differences);
-        }
-        ToldCalls::Takes(count) => {
-            compare_numbers(line, "takes", *count, u64::from(calls.takes), differences);
-        }
+    match number {
+        Number::OnStore(call) => made(came.log, call),
+        Number::OnLinks => u64::from(!calls.are_none()),
+        Number::Opens => u64::from(calls.opens),
+        Number::Seed => calls.opened.unwrap_or((0, 0)).0,
+        Number::Room => u64::from(calls.opened.unwrap_or((0, 0)).1),
+        Number::Frames => calls.puts.len() as u64,
+        Number::FramesOn(link) => count_on(&calls.puts, link),
+        Number::FramesOf(generation) => count_with(&calls.puts, 8, &generation),
+        Number::Takes => u64::from(calls.takes),
+    }
+}
+
+// A number that is told.
+fn compare_number(wanted: &WantedNumber, came: &Came<'_>, differences: &mut Differences<'_>) {
+    let number = number_of(wanted.of, came);
+    if matches!(wanted.of, Number::OnLinks) {
+        differences.want(number == wanted.number, wanted.line, wanted.what);
+    } else {
+        differences.want_number(wanted.line, wanted.what, wanted.number, number);
+    }
+}
+
+// The numbers that are told.
+fn compare_numbers(numbers: &[WantedNumber], came: &Came<'_>, differences: &mut Differences<'_>) {
+    for number in numbers {
+        compare_number(number, came, differences);
     }
 }
 
@@ -290,7 +267,7 @@ fn spoils_made(trouble: &Trouble, takes: u64) -> bool {
 // Whether each call that is to fail, keep its pair or change it was made.
 fn all_made(trouble: &Trouble, came: &Came<'_>) -> bool {
     let (puts, takes) = (came.calls.puts.len() as u64, u64::from(came.calls.takes));
-    store_calls_made(trouble, came.store.log())
+    store_calls_made(trouble, came.log)
         && are_made(&trouble.put_fails, puts)
         && are_made(&trouble.take_fails, takes)
         && are_made(&trouble.keeps, takes)
@@ -298,54 +275,40 @@ fn all_made(trouble: &Trouble, came: &Came<'_>) -> bool {
 }
 
 // What holds of the calls of every run.
-fn compare_order<R: Print + AllocGlobal>(
+fn compare_order(
     run: usize,
     trouble: &Trouble,
     came: &Came<'_>,
-    differences: &mut Differences<'_, R>,
+    differences: &mut Differences<'_>,
 ) {
-    if !came.store.is_whole() {
-        differences.tell(run, "out of memory for the calls");
-    }
-    if has_late_call(came.store.log()) || came.calls.late > 0 {
-        differences.tell(run, "a call came behind one that failed");
-    }
-    if !came.may_carry && !came.calls.are_none() {
-        differences.tell(run, "a call was made on the links");
-    }
-    if !all_made(trouble, came) {
-        differences.tell(run, "a call that is told of wasn't made");
+    let is_late = has_late_call(came.log) || came.calls.late > 0;
+    let is_fit = came.may_carry || came.calls.are_none();
+    differences.want(came.is_logged, run, "out of memory for the calls");
+    differences.want(!is_late, run, "a call came behind one that failed");
+    differences.want(is_fit, run, "a call was made on the links");
+    let are_made = all_made(trouble, came);
+    differences.want(are_made, run, "a call that is told of wasn't made");
+}
+
+// The status that is told.
+fn compare_status(wanted: &Wanted, status: u8, differences: &mut Differences<'_>) {
+    match wanted.status {
+        Some((line, number)) => {
+            differences.want_number(line, "status", number, u64::from(status));
+        }
+        None => differences.tell(wanted.run, "no status is told"),
     }
 }
 
-/// Says all in which what came of a run differs from what was wanted.
-pub fn compare<R: Print + AllocGlobal>(
-    wanted: &Wanted,
-    scene: &Scene,
-    came: &Came<'_>,
-    differences: &mut Differences<'_, R>,
-) {
-    if wanted.statuses.is_empty() {
-        differences.tell(wanted.run, "no status is told");
-    }
-    for (line, status) in &wanted.statuses {
-        compare_numbers(
-            *line,
-            "status",
-            *status,
-            u64::from(came.status),
-            differences,
-        );
-    }
-    if wanted.said.as_slice() != came.said {
-        differences.tell_bytes(wanted.run, "said", &wanted.said, came.said);
-    }
-    compare_files(wanted, &scene.files, came.store, differences);
-    for (line, calls) in &wanted.calls {
-        compare_calls(*line, calls, came, differences);
-    }
-    for frame in &wanted.frames {
-        compare_frame(frame, &came.calls.puts, differences);
-    }
+/// Tells all in which what came of a run differs from what was wanted.
+pub fn compare(scene: &Scene, came: &Came<'_>, differences: &mut Differences<'_>) {
+    let (wanted, before) = (&scene.wanted, scene.files.as_slice());
+    compare_status(wanted, came.status, differences);
+    differences.want_bytes(wanted.run, "said", &wanted.said, came.said);
+    compare_told(&wanted.files, came.store, differences);
+    compare_others(wanted, before, came.store, differences);
+    compare_all_made(wanted, before, came.log, differences);
+    compare_numbers(&wanted.numbers, came, differences);
+    compare_frames(&wanted.frames, &came.calls.puts, differences);
     compare_order(wanted.run, &scene.trouble, came, differences);
 }

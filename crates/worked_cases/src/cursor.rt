@@ -1,4 +1,6 @@
 //! A line that is read from its front.
+ghost use Rattle.std.specs.Prelude.{◌≤◌};
+
 use std::alloc::Global;
 
 /// What is said of want of memory.
@@ -106,8 +108,8 @@ impl<'a> Cursor<'a> {
         front
     }
 
-    /// The bytes up to the first of these, or all.
-    pub fn until(&mut self, ends: &[u8]) -> &'a [u8] {
+    // How many bytes stand before the first of these, or all.
+    fn length_to(&self, ends: &[u8]) -> usize {
         let mut count = 0usize;
         for byte in self.rest {
             if ends.contains(byte) {
@@ -115,7 +117,18 @@ impl<'a> Cursor<'a> {
             }
             count = count.saturating_add(1);
         }
-        self.pass(count)
+        count
+    }
+
+    /// The bytes up to the first of these, or all.
+    pub fn until(&mut self, ends: &[u8]) -> &'a [u8] {
+        self.pass(self.length_to(ends))
+    }
+
+    /// The word that comes next, with the space behind it, as a text.
+    pub fn keyword(&mut self) -> &'a str {
+        let length = self.length_to(b" ").saturating_add(1);
+        str::from_utf8(self.pass(length)).unwrap_or_default()
     }
 
     /// The bytes of a name of a `for`, as many as there are.
@@ -160,6 +173,18 @@ impl<'a> Cursor<'a> {
         number.unwrap_or(0)
     }
 
+    /// A number that is at most this. Where a greater one comes next, this is wrong.
+    pub fn number_up_to(&mut self, most: u64, why: &'static str) -> u64
+        ensures { result ≤ most }
+    {
+        let number = self.number();
+        if number > most {
+            self.note(why);
+            return most;
+        }
+        number
+    }
+
     /// A number with a space before it.
     pub fn next_number(&mut self) -> u64 {
         self.eat(b" ");
@@ -197,19 +222,22 @@ impl<'a> Cursor<'a> {
         }
     }
 
+    // Adds what an escape stands for, behind its backslash.
+    fn add_escape(&mut self, text: &mut Vec<u8>) {
+        let byte = self.escape();
+        self.keep(text.push(byte).is_ok());
+    }
+
     /// Adds the text up to the quote that ends it.
     pub fn quoted(&mut self, text: &mut Vec<u8>) {
         for _part in 0..=self.rest.len() {
             let part = self.until(b"\"\\");
             self.keep(text.extend_from_slice(part).is_ok());
-            if self.eat(b"\"") {
-                return;
+            match self.byte() {
+                b'"' => return,
+                b'\\' => self.add_escape(text),
+                _ => break,
             }
-            if !self.eat(b"\\") {
-                break;
-            }
-            let byte = self.escape();
-            self.keep(text.push(byte).is_ok());
         }
         self.note("a text without its end");
     }

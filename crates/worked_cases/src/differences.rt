@@ -1,4 +1,4 @@
-//! What differs is said, a line for each difference.
+//! What differs is told, a line for each difference.
 use crate::named::Named;
 use std::alloc::Global;
 
@@ -13,79 +13,13 @@ pub struct Place<'a> {
     pub values: &'a [Named],
 }
 
-// A line that is made, as far as there was memory for it.
+/// What differs in a going of a case: the lines that tell it, as far as there was memory for them, and how many they are.
 #[derive(Drop)]
-struct Text {
+pub struct Differences<'a> {
+    place: Place<'a>,
     text: String,
     is_whole: bool,
-}
-
-impl Text {
-    // An empty line.
-    fn new(alloc: Global) -> Text {
-        Text {
-            text: String::new(alloc),
-            is_whole: true,
-        }
-    }
-
-    fn push(&mut self, part: &str) {
-        self.is_whole &= self.text.push_str(part).is_ok();
-    }
-
-    fn push_number(&mut self, number: u64) {
-        self.is_whole &= write!(self.text, "{number}").is_ok();
-    }
-
-    fn push_byte(&mut self, byte: u8) {
-        self.is_whole &= match byte {
-            b'\n' => self.text.push_str("\\n").is_ok(),
-            b'\r' => self.text.push_str("\\r").is_ok(),
-            b' '..=b'~' => self.text.push(char::from(byte)).is_ok(),
-            other => write!(self.text, "\\x{other:02x}").is_ok(),
-        };
-    }
-
-    // Adds bytes as a text would have them.
-    fn push_bytes(&mut self, bytes: &[u8]) {
-        for byte in bytes {
-            self.push_byte(*byte);
-        }
-    }
-
-    // The same of the first ones, in quotes, with dots where there are more.
-    fn push_quoted(&mut self, bytes: &[u8]) {
-        let front = bytes.get(..SHOWN).unwrap_or(bytes);
-        self.push("\"");
-        self.push_bytes(front);
-        if front.len() < bytes.len() {
-            self.push("..");
-        }
-        self.push("\"");
-    }
-
-    // Adds what stands for the names of a case's `for`.
-    fn push_values(&mut self, values: &[Named]) {
-        for named in values {
-            self.push(" [");
-            self.push_bytes(&named.name);
-            self.push(" ");
-            self.push_bytes(&named.bytes);
-            self.push("]");
-        }
-    }
-
-    // Adds where something differs, with its line, and what.
-    fn push_place(&mut self, place: Place<'_>, line: usize, what: &str) {
-        self.push(place.file);
-        self.push(":");
-        self.push_number(line as u64);
-        self.push(": ");
-        self.push_bytes(place.case);
-        self.push_values(place.values);
-        self.push(": ");
-        self.push(what);
-    }
+    count: u64,
 }
 
 // The first place where bytes differ.
@@ -99,20 +33,13 @@ fn first_place(wanted: &[u8], came: &[u8]) -> usize {
     length
 }
 
-/// What differs in a going of a case is said as it is found, and counted.
-#[derive(Drop)]
-pub struct Differences<'a, R> {
-    rt: &'a R,
-    place: Place<'a>,
-    count: u64,
-}
-
-impl<'a, R: Print + AllocGlobal> Differences<'a, R> {
+impl<'a> Differences<'a> {
     /// None yet.
-    pub fn none(rt: &'a R, place: Place<'a>) -> Differences<'a, R> {
+    pub fn none(alloc: Global, place: Place<'a>) -> Differences<'a> {
         Differences {
-            rt,
             place,
+            text: String::new(alloc),
+            is_whole: true,
             count: 0,
         }
     }
@@ -122,54 +49,144 @@ impl<'a, R: Print + AllocGlobal> Differences<'a, R> {
         self.count
     }
 
-    // Says a line, and counts it.
-    fn say(&mut self, mut line: Text) {
-        line.push("\n");
-        self.count = self.count.saturating_add(1);
-        let _ = if line.is_whole {
-            self.rt.print(line.text.as_str())
+    /// The lines, or that there was no memory for them.
+    pub fn text(&self) -> &str {
+        if self.is_whole {
+            self.text.as_str()
         } else {
-            self.rt.print("out of memory\n")
-        };
+            "out of memory\n"
+        }
     }
 
-    // A line with what differs.
-    fn line_of(&self, line: usize, what: &str) -> Text {
-        let mut text = Text::new(self.rt.alloc());
-        text.push_place(self.place, line, what);
-        text
+    fn push(&mut self, part: &str) {
+        self.is_whole &= self.text.push_str(part).is_ok();
+    }
+
+    // Adds a text and a number behind it.
+    fn push_number(&mut self, before: &str, number: u64) {
+        self.is_whole &= write!(self.text, "{before}{number}").is_ok();
+    }
+
+    fn push_char(&mut self, byte: u8) {
+        self.is_whole &= self.text.push(char::from(byte)).is_ok();
+    }
+
+    fn push_hex(&mut self, byte: u8) {
+        self.is_whole &= write!(self.text, "\\x{byte:02x}").is_ok();
+    }
+
+    fn push_byte(&mut self, byte: u8) {
+        match byte {
+            b'\n' => self.push("\\n"),
+            b'\r' => self.push("\\r"),
+            b' '..=b'~' => self.push_char(byte),
+            other => self.push_hex(other),
+        }
+    }
+
+    // Adds bytes as a text would have them.
+    fn push_bytes(&mut self, bytes: &[u8]) {
+        for byte in bytes {
+            self.push_byte(*byte);
+        }
+    }
+
+    // Adds a text and the bytes from a place on behind it, as far as they are shown, with dots where there are more.
+    fn push_shown(&mut self, before: &str, bytes: &[u8], first: usize) {
+        let rest = bytes.get(first..).unwrap_or_default();
+        let front = rest.get(..SHOWN).unwrap_or(rest);
+        self.push(before);
+        self.push_bytes(front);
+        self.push(if front.len() < rest.len() {
+            "..\""
+        } else {
+            "\""
+        });
+    }
+
+    // Adds what stands for the names of a case's `for`.
+    fn push_values(&mut self) {
+        for named in self.place.values {
+            self.push(" [");
+            self.push_bytes(&named.name);
+            self.push(" ");
+            self.push_bytes(&named.bytes);
+            self.push("]");
+        }
+    }
+
+    // Begins a line: where something differs, and what.
+    fn begin(&mut self, line: usize, what: &str) {
+        self.push(self.place.file);
+        self.push_number(":", line as u64);
+        self.push(": ");
+        self.push_bytes(self.place.case);
+        self.push_values();
+        self.push(": ");
+        self.push(what);
+    }
+
+    // Ends it.
+    fn end(&mut self) {
+        self.push("\n");
+        self.count = self.count.saturating_add(1);
     }
 
     /// Something differs, of which this is all that is to be said.
     pub fn tell(&mut self, line: usize, what: &str) {
-        let text = self.line_of(line, what);
-        self.say(text);
+        self.begin(line, what);
+        self.end();
     }
 
-    /// Two numbers differ.
-    pub fn tell_numbers(&mut self, line: usize, what: &str, wanted: u64, came: u64) {
-        let mut text = self.line_of(line, what);
-        text.push(": wanted ");
-        text.push_number(wanted);
-        text.push(", came ");
-        text.push_number(came);
-        self.say(text);
+    // Two numbers differ.
+    fn tell_numbers(&mut self, line: usize, what: &str, wanted: u64, came: u64) {
+        self.begin(line, what);
+        self.push_number(": wanted ", wanted);
+        self.push_number(", came ", came);
+        self.end();
     }
 
     /// Bytes differ. They are shown from the first place on where they do.
     pub fn tell_bytes(&mut self, line: usize, what: &str, wanted: &[u8], came: &[u8]) {
         let first = first_place(wanted, came);
-        let mut text = self.line_of(line, what);
-        text.push(": ");
-        text.push_number(wanted.len() as u64);
-        text.push(" and ");
-        text.push_number(came.len() as u64);
-        text.push(" bytes, from ");
-        text.push_number(first as u64);
-        text.push(" on: wanted ");
-        text.push_quoted(wanted.get(first..).unwrap_or_default());
-        text.push(", came ");
-        text.push_quoted(came.get(first..).unwrap_or_default());
-        self.say(text);
+        self.begin(line, what);
+        self.push_number(": ", wanted.len() as u64);
+        self.push_number(" and ", came.len() as u64);
+        self.push_number(" bytes, from ", first as u64);
+        self.push_shown(" on: wanted \"", wanted, first);
+        self.push_shown(", came \"", came, first);
+        self.end();
+    }
+
+    /// What is wrong with a line is told. It answers whether nothing is.
+    pub fn pass(&mut self, line: usize, wrong: Option<&str>) -> bool {
+        match wrong {
+            Some(why) => {
+                self.tell(line, why);
+                false
+            }
+            None => true,
+        }
+    }
+
+    /// Something is to be so.
+    pub fn want(&mut self, is_so: bool, line: usize, otherwise: &str) {
+        if !is_so {
+            self.tell(line, otherwise);
+        }
+    }
+
+    /// A number is to be the one that is wanted.
+    pub fn want_number(&mut self, line: usize, what: &str, wanted: u64, came: u64) {
+        if wanted != came {
+            self.tell_numbers(line, what, wanted, came);
+        }
+    }
+
+    /// Bytes are to be those that are wanted.
+    pub fn want_bytes(&mut self, line: usize, what: &str, wanted: &[u8], came: &[u8]) {
+        if wanted != came {
+            self.tell_bytes(line, what, wanted, came);
+        }
     }
 }

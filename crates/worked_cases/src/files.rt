@@ -3,8 +3,8 @@ use crate::cursor::NO_MEMORY;
 use crate::differences::{Differences, Place};
 use crate::loops::{Bound, bind_all, first_turns, go_on_before};
 use crate::named::Named;
-use crate::scene::{Scene, Trouble};
-use crate::steps::{Lines, Stopped, go, is_empty, read_setting};
+use crate::scene::Scene;
+use crate::steps::{Lines, go, is_empty, read_setting};
 use std::alloc::Global;
 use std::fs;
 use std::rt::Files;
@@ -38,6 +38,14 @@ struct Case<'a> {
 // How often lines `for` may go, and end one behind the other.
 const MOST_TURNS: u64 = 100_000_000;
 
+// Says what differs, and counts a case.
+fn say<R: Print>(rt: &R, differences: &Differences<'_>, tally: &mut Tally) {
+    if differences.count() > 0 {
+        let _ = rt.print(differences.text());
+    }
+    tally.count(differences.count());
+}
+
 // A case goes for these values. What was made for it is taken away then.
 fn go_once<R: Files + Print + AllocGlobal + Threads + Sync>(
     rt: &R,
@@ -51,15 +59,11 @@ fn go_once<R: Files + Print + AllocGlobal + Threads + Sync>(
         case: case.name,
         values,
     };
-    let mut differences = Differences::none(rt, place);
+    let mut differences = Differences::none(rt.alloc(), place);
     let shared = scene.lets.len();
-    if let Some((line, why)) = go(rt, case.lines, values, scene, &mut differences) {
-        differences.tell(line, why);
-    }
-    scene.lets.truncate(shared);
-    scene.files.clear();
-    scene.trouble = Trouble::none(rt.alloc());
-    tally.count(differences.count());
+    go(rt, case.lines, values, scene, &mut differences);
+    scene.clear(rt.alloc(), shared);
+    say(rt, &differences, tally);
 }
 
 // Goes by all values of a case, from these turns on, and answers why it can't.
@@ -114,9 +118,9 @@ fn tell<R: Print + AllocGlobal>(
         case: name,
         values: &[],
     };
-    let mut differences = Differences::none(rt, place);
+    let mut differences = Differences::none(rt.alloc(), place);
     differences.tell(line, why);
-    tally.count(differences.count());
+    say(rt, &differences, tally);
 }
 
 // Goes by a case. One that goes for nothing isn't understood.
@@ -127,12 +131,10 @@ fn go_by_case<R: Files + Print + AllocGlobal + Threads + Sync>(
     tally: &mut Tally,
 ) {
     let before = tally.cases;
-    let line = case.lines.first;
-    if let Some(why) = go_from_first(rt, case, scene, tally) {
-        tell(rt, case.file, case.name, line, why, tally);
-    } else if tally.cases == before {
-        let why = "a case that goes for nothing";
-        tell(rt, case.file, case.name, line, why, tally);
+    let wrong = go_from_first(rt, case, scene, tally);
+    let nothing = (tally.cases == before).then_some("a case that goes for nothing");
+    if let Some(why) = wrong.or(nothing) {
+        tell(rt, case.file, case.name, case.lines.first, why, tally);
     }
 }
 
@@ -141,67 +143,77 @@ fn name_of<'a>(line: &'a [u8]) -> Option<&'a [u8]> {
     line.strip_prefix(b"case ")
 }
 
-// How many lines stand before the next that begins a case.
-fn length_of_case(lines: &[&[u8]]) -> usize {
+// The lines before the next that begins a case.
+fn up_to_case(lines: Lines<'_>) -> Lines<'_> {
     let mut count = 0usize;
-    for line in lines {
+    for line in lines.lines {
         if name_of(line).is_some() {
             break;
         }
         count = count.saturating_add(1);
     }
-    count
+    Lines {
+        first: lines.first,
+        lines: lines.lines.get(..count).unwrap_or_default(),
+    }
 }
 
-// Takes in the lines before the first case: names that hold in all of them.
-fn read_front<R: Files + AllocGlobal>(rt: &R, lines: &[&[u8]], scene: &mut Scene) -> Stopped {
-    for (offset, line) in lines.iter().enumerate() {
-        let number = offset.saturating_add(1);
-        if is_empty(line) {
-            continue;
-        }
-        if !line.starts_with(b"let ") {
-            return Some((number, "no case begins before it"));
-        }
-        if let Some(why) = read_setting(rt, line, scene) {
-            return Some((number, why));
+// Takes in a line before the first case, and answers what is wrong with it.
+fn read_shared<R: Files + AllocGlobal>(
+    rt: &R,
+    line: &[u8],
+    scene: &mut Scene,
+) -> Option<&'static str> {
+    if is_empty(line) {
+        None
+    } else if line.starts_with(b"let ") {
+        read_setting(rt, line, scene)
+    } else {
+        Some("no case begins before it")
+    }
+}
+
+// Takes in the lines before the first case: names that hold in all of them. It answers what is wrong, and in which line.
+fn read_front<R: Files + AllocGlobal>(
+    rt: &R,
+    front: Lines<'_>,
+    scene: &mut Scene,
+) -> Option<(usize, &'static str)> {
+    for (offset, line) in front.lines.iter().enumerate() {
+        if let Some(why) = read_shared(rt, line, scene) {
+            return Some((front.first.saturating_add(offset), why));
         }
     }
     None
 }
 
 // Goes by the cases of lines, behind the front.
-fn go_by_cases<'a, R: Files + Print + AllocGlobal + Threads + Sync>(
+fn go_by_cases<R: Files + Print + AllocGlobal + Threads + Sync>(
     rt: &R,
-    file: &'a str,
-    lines: &'a [&'a [u8]],
+    file: &str,
+    all: Lines<'_>,
     scene: &mut Scene,
     tally: &mut Tally,
 ) {
-    for (place, line) in lines.iter().enumerate() {
+    for (place, line) in all.lines.iter().enumerate() {
         if let Some(name) = name_of(line) {
-            let behind = lines.get(place.saturating_add(1)..).unwrap_or_default();
-            let lines = Lines {
-                first: place.saturating_add(2),
-                lines: behind.get(..length_of_case(behind)).unwrap_or_default(),
-            };
+            let lines = up_to_case(all.behind(place));
             go_by_case(rt, Case { file, name, lines }, scene, tally);
         }
     }
 }
 
-// Goes by all lines of a file.
-fn go_by_lines<'a, R: Files + Print + AllocGlobal + Threads + Sync>(
+// Goes by all lines of a file, over a scene with nothing.
+fn go_by_lines<R: Files + Print + AllocGlobal + Threads + Sync>(
     rt: &R,
-    file: &'a str,
-    lines: &'a [&'a [u8]],
+    file: &str,
+    all: Lines<'_>,
+    scene: &mut Scene,
     tally: &mut Tally,
 ) {
-    let mut scene = Scene::empty(rt.alloc());
-    let front = lines.get(..length_of_case(lines)).unwrap_or_default();
-    match read_front(rt, front, &mut scene) {
+    match read_front(rt, up_to_case(all), scene) {
         Some((line, why)) => tell(rt, file, b"", line, why, tally),
-        None => go_by_cases(rt, file, lines, &mut scene, tally),
+        None => go_by_cases(rt, file, all, scene, tally),
     }
     if tally.cases == 0 {
         tell(rt, file, b"", 1, "a file without a case", tally);
@@ -226,7 +238,14 @@ fn go_by_text<R: Files + Print + AllocGlobal + Threads + Sync>(
     tally: &mut Tally,
 ) {
     match lines_of(rt.alloc(), text) {
-        Some(lines) => go_by_lines(rt, file, &lines, tally),
+        Some(lines) => {
+            let all = Lines {
+                first: 1,
+                lines: &lines,
+            };
+            let mut scene = Scene::empty(rt.alloc());
+            go_by_lines(rt, file, all, &mut scene, tally);
+        }
         None => tell(rt, file, b"", 0, NO_MEMORY, tally),
     }
 }

@@ -32,6 +32,16 @@ fn applied(operation: u8, left: u64, right: u64) -> Option<u64> {
     }
 }
 
+// What the operation that comes next gives of a number and the term behind it.
+fn operate(cursor: &mut Cursor<'_>, number: u64, values: &[Named]) -> u64 {
+    cursor.eat(b" ");
+    let operation = cursor.byte();
+    cursor.eat(b" ");
+    let result = applied(operation, number, term(cursor, values));
+    cursor.want(result.is_some(), NO_SUM);
+    result.unwrap_or(0)
+}
+
 // The number that terms give up to the brace that ends them, from left to right.
 fn sum(cursor: &mut Cursor<'_>, values: &[Named]) -> u64 {
     let mut number = term(cursor, values);
@@ -39,12 +49,7 @@ fn sum(cursor: &mut Cursor<'_>, values: &[Named]) -> u64 {
         if cursor.eat(b"}") {
             return number;
         }
-        cursor.eat(b" ");
-        let operation = cursor.byte();
-        cursor.eat(b" ");
-        let result = applied(operation, number, term(cursor, values));
-        cursor.want(result.is_some(), NO_SUM);
-        number = result.unwrap_or(0);
+        number = operate(cursor, number, values);
     }
     cursor.note(NO_SUM);
     number
@@ -58,15 +63,20 @@ fn add_number(alloc: Global, number: u64, line: &mut Vec<u8>) -> bool {
     }
 }
 
+// Adds what stands for the name that comes next.
+fn add_value(cursor: &mut Cursor<'_>, values: &[Named], line: &mut Vec<u8>) {
+    let value = found(values, cursor.name());
+    cursor.want(value.is_some(), "no such name behind $");
+    cursor.keep(line.extend_from_slice(value.unwrap_or_default()).is_ok());
+}
+
 // Adds what stands for what comes behind a dollar.
 fn fill(alloc: Global, cursor: &mut Cursor<'_>, values: &[Named], line: &mut Vec<u8>) {
     if cursor.eat(b"{") {
         let number = sum(cursor, values);
         cursor.keep(add_number(alloc, number, line));
     } else {
-        let value = found(values, cursor.name());
-        cursor.want(value.is_some(), "no such name behind $");
-        cursor.keep(line.extend_from_slice(value.unwrap_or_default()).is_ok());
+        add_value(cursor, values, line);
     }
 }
 

@@ -132,13 +132,11 @@ fn bind_row(
     turn: u64,
     values: &mut Vec<Named>,
 ) -> Bound {
-    let mut row = rows.iter().skip(turn.min(u64::from(u32::MAX)) as usize);
-    match row.next() {
-        Some(row) if is_row(row) => {
-            let cells = row.strip_prefix(b"  ").unwrap_or_default();
-            bind_cells(alloc, names, cells, values)
-        }
-        _ => Bound::Past,
+    let place = turn.min(u64::from(u32::MAX)) as usize;
+    let row = rows.get(place).copied().unwrap_or_default();
+    match row.strip_prefix(b"  ") {
+        Some(cells) => bind_cells(alloc, names, cells, values),
+        None => Bound::Past,
     }
 }
 

@@ -1,13 +1,13 @@
 //! Runs of `lif` over a store, a sink and links in memory.
-ghost use Rattle.std.specs.Prelude.{◌≡◌, []};
+ghost use Rattle.std.specs.Prelude.{◌≡◌, [], IfSome};
+ghost use Rattle.lif_outside.specs.Listed.{held_in};
 
 use crate::comparing::{Came, compare};
 use crate::cursor::NO_MEMORY;
 use crate::differences::Differences;
 use crate::named::{Named, add_copy, found};
-use crate::scene::Scene;
-use crate::wanted::Wanted;
-use lif_outside::{Links, MemSink, MemStore, NoGate, SeedLinks};
+use crate::scene::{Scene, Trouble};
+use lif_outside::{Links, ListLinks, MemSink, MemStore, NoGate, SeedLinks};
 use lif_top::lif;
 use logged_store::{Event, Logged};
 use std::alloc::Global;
@@ -15,11 +15,11 @@ use std::thread::Threads;
 use test_support::orders::{Script, hostile};
 use test_support::watched::{Watched, watch};
 
-/// A run: its words, and what is to come of it.
-#[derive(Clone, Copy)]
-pub struct Run<'a> {
-    pub words: &'a [String],
-    pub wanted: &'a Wanted,
+// What a run goes over beside links.
+#[derive(Drop)]
+struct Outside {
+    store: Logged<MemStore>,
+    say: MemSink,
 }
 
 // Whether words may lead to calls on links.
@@ -31,38 +31,42 @@ fn may_carry(words: &[String]) -> bool {
 }
 
 // Runs over links, and compares what comes.
-fn run_over<R: Print + AllocGlobal + Threads + Sync, K: Links>(
+fn run_over<R: AllocGlobal + Threads + Sync, K: Links>(
     rt: &R,
-    run: Run<'_>,
+    words: &[String],
     scene: &Scene,
-    store: &mut Logged<MemStore>,
-    say: &mut MemSink,
+    outside: &mut Outside,
     links: &mut Watched<K>,
-    differences: &mut Differences<'_, R>,
+    differences: &mut Differences<'_>,
 )
     requires { K.flying links.old.links ≡ [] }
 {
-    let status = lif(rt, rt.alloc(), run.words, store, say, links, &NoGate).code();
+    let alloc = rt.alloc();
+    let status = lif(
+        rt,
+        alloc,
+        words,
+        &mut outside.store,
+        &mut outside.say,
+        links,
+        &NoGate,
+    );
     let came = Came {
-        status,
-        said: say.bytes(),
-        store,
+        status: status.code(),
+        said: outside.say.bytes(),
+        store: outside.store.inner(),
+        log: outside.store.log(),
+        is_logged: outside.store.is_whole(),
         calls: &links.calls,
-        may_carry: may_carry(run.words),
+        may_carry: may_carry(words),
     };
-    compare(run.wanted, scene, &came, differences);
+    compare(scene, &came, differences);
 }
 
-// Runs over links that go by a list.
-fn run_listed<R: Print + AllocGlobal + Threads + Sync>(
-    rt: &R,
-    run: Run<'_>,
-    scene: &Scene,
-    store: &mut Logged<MemStore>,
-    say: &mut MemSink,
-    differences: &mut Differences<'_, R>,
-) -> Option<&'static str> {
-    let trouble = &scene.trouble;
+// Links that go by a list.
+fn listed(alloc: Global, trouble: &Trouble) -> Option<ListLinks>
+    ensures { IfSome result (λ links. (held_in links).flying ≡ []) }
+{
     let script = Script {
         picks: &trouble.picks,
         keeps: &trouble.keeps,
@@ -70,29 +74,53 @@ fn run_listed<R: Print + AllocGlobal + Threads + Sync>(
         put_fails: &trouble.put_fails,
         take_fails: &trouble.take_fails,
     };
-    let Some(links) = hostile(rt.alloc(), &script) else {
-        return Some("links can't go so");
-    };
-    let mut links = watch(rt.alloc(), links);
-    run_over(rt, run, scene, store, say, &mut links, differences);
-    None
+    hostile(alloc, &script)
+}
+
+// Runs over links that go by a list.
+fn run_listed<R: AllocGlobal + Threads + Sync>(
+    rt: &R,
+    words: &[String],
+    scene: &Scene,
+    outside: &mut Outside,
+    differences: &mut Differences<'_>,
+) -> Option<&'static str> {
+    match listed(rt.alloc(), &scene.trouble) {
+        Some(links) => {
+            let mut links = watch(rt.alloc(), links);
+            run_over(rt, words, scene, outside, &mut links, differences);
+            None
+        }
+        None => Some("links can't go so"),
+    }
+}
+
+// Runs over links that go by the seed.
+fn run_seeded<R: AllocGlobal + Threads + Sync>(
+    rt: &R,
+    words: &[String],
+    scene: &Scene,
+    outside: &mut Outside,
+    differences: &mut Differences<'_>,
+) {
+    let mut links = watch(rt.alloc(), SeedLinks::new(rt.alloc()));
+    run_over(rt, words, scene, outside, &mut links, differences);
 }
 
 // Runs over the links that are told.
-fn run_with<R: Print + AllocGlobal + Threads + Sync>(
+fn run_with<R: AllocGlobal + Threads + Sync>(
     rt: &R,
-    run: Run<'_>,
+    words: &[String],
     scene: &Scene,
-    store: &mut Logged<MemStore>,
-    say: &mut MemSink,
-    differences: &mut Differences<'_, R>,
+    outside: &mut Outside,
+    differences: &mut Differences<'_>,
 ) -> Option<&'static str> {
     if scene.trouble.is_listed {
-        return run_listed(rt, run, scene, store, say, differences);
+        run_listed(rt, words, scene, outside, differences)
+    } else {
+        run_seeded(rt, words, scene, outside, differences);
+        None
     }
-    let mut links = watch(rt.alloc(), SeedLinks::new(rt.alloc()));
-    run_over(rt, run, scene, store, say, &mut links, differences);
-    None
 }
 
 // Puts files into a store, and answers whether their paths are texts and there was memory for them.
@@ -163,37 +191,26 @@ fn note_files(
     are_noted
 }
 
-// Runs `lif` over a store, as `carry_out` does.
-fn run_in<R: Print + AllocGlobal + Threads + Sync>(
-    rt: &R,
-    run: Run<'_>,
-    scene: &Scene,
-    store: &mut Logged<MemStore>,
-    files: &mut Vec<Named>,
-    differences: &mut Differences<'_, R>,
-) -> Option<&'static str> {
-    let Some(mut say) = sink_of(rt.alloc(), scene) else {
-        return Some(NO_MEMORY);
-    };
-    if let Some(why) = run_with(rt, run, scene, store, &mut say, differences) {
-        return Some(why);
-    }
-    let are_noted = note_files(rt.alloc(), &scene.files, store, files);
-    (!are_noted).then_some(NO_MEMORY)
+// A store and a sink for a scene.
+fn outside_of(alloc: Global, scene: &Scene) -> Option<Outside> {
+    let store = Logged::new(alloc, store_of(alloc, scene)?);
+    let say = sink_of(alloc, scene)?;
+    Some(Outside { store, say })
 }
 
-/// Runs `lif` in a scene, says what differs, and notes the files that stand there then. It answers why it can't.
-pub fn carry_out<R: Print + AllocGlobal + Threads + Sync>(
+/// Runs `lif` in a scene, tells what differs, and notes the files that stand there then. It answers why it can't.
+pub fn carry_out<R: AllocGlobal + Threads + Sync>(
     rt: &R,
-    run: Run<'_>,
+    words: &[String],
     scene: &Scene,
     files: &mut Vec<Named>,
-    differences: &mut Differences<'_, R>,
+    differences: &mut Differences<'_>,
 ) -> Option<&'static str> {
-    match store_of(rt.alloc(), scene) {
-        Some(store) => {
-            let mut store = Logged::new(rt.alloc(), store);
-            run_in(rt, run, scene, &mut store, files, differences)
+    match outside_of(rt.alloc(), scene) {
+        Some(mut outside) => {
+            let stopped = run_with(rt, words, scene, &mut outside, differences);
+            let are_noted = note_files(rt.alloc(), &scene.files, &outside.store, files);
+            stopped.or((!are_noted).then_some(NO_MEMORY))
         }
         None => Some("a path that isn't text, or no memory for the files"),
     }

@@ -2,6 +2,7 @@
 use crate::bytes::Names;
 use crate::cursor::Cursor;
 use crate::named::Named;
+use crate::wanted::Wanted;
 use lif_outside::{Call, Fail, Spoil};
 use std::alloc::Global;
 
@@ -10,6 +11,8 @@ const NEWEST: usize = 100_000;
 
 // So many numbers may stand in a line.
 const MOST: u64 = 1_000_000;
+
+const NO_SPOIL: &str = "no byte of a payload, or no mask";
 
 /// What fails in the next run, and how the links go then.
 #[derive(Drop)]
@@ -43,12 +46,13 @@ impl Trouble {
     }
 }
 
-/// What a case has before a run.
+/// What a case has before a run, and what is to come of it.
 #[derive(Drop)]
 pub struct Scene {
     pub lets: Vec<Named>,
     pub files: Vec<Named>,
     pub trouble: Trouble,
+    pub wanted: Wanted,
 }
 
 impl Scene {
@@ -58,6 +62,7 @@ impl Scene {
             lets: Vec::new(alloc),
             files: Vec::new(alloc),
             trouble: Trouble::none(alloc),
+            wanted: Wanted::nothing(alloc, 0),
         }
     }
 
@@ -67,6 +72,13 @@ impl Scene {
             lets: self.lets.as_slice(),
             files: self.files.as_slice(),
         }
+    }
+
+    /// Takes away all that was made for a case: all but the first names, so many.
+    pub fn clear(&mut self, alloc: Global, shared: usize) {
+        self.lets.truncate(shared);
+        self.files.clear();
+        self.trouble = Trouble::none(alloc);
     }
 }
 
@@ -95,29 +107,27 @@ fn add_number(cursor: &mut Cursor<'_>, numbers: &mut Vec<u64>) {
     cursor.keep(numbers.push(number).is_ok());
 }
 
-/// Takes in a line `fail`, behind that word.
-pub fn add_fail(cursor: &mut Cursor<'_>, trouble: &mut Trouble) {
-    if cursor.eat(b"read ") {
-        add_store_fail(Call::Read, cursor, trouble);
-    } else if cursor.eat(b"create ") {
-        add_store_fail(Call::Create, cursor, trouble);
-    } else if cursor.eat(b"append ") {
-        add_store_fail(Call::Append, cursor, trouble);
-    } else if cursor.eat(b"say ") {
-        add_number(cursor, &mut trouble.say_fails);
-    } else if cursor.eat(b"put ") {
-        trouble.is_listed = true;
-        add_number(cursor, &mut trouble.put_fails);
-    } else if cursor.eat(b"take ") {
-        trouble.is_listed = true;
-        add_number(cursor, &mut trouble.take_fails);
-    } else {
-        cursor.note("no such call fails");
+// Adds a number that ends the line, of a call on links.
+fn add_link_fail(cursor: &mut Cursor<'_>, numbers: &mut Vec<u64>, is_listed: &mut bool) {
+    *is_listed = true;
+    add_number(cursor, numbers);
+}
+
+// Takes in a line `fail`, behind that word.
+fn add_fail(cursor: &mut Cursor<'_>, trouble: &mut Trouble) {
+    match cursor.keyword() {
+        "read " => add_store_fail(Call::Read, cursor, trouble),
+        "create " => add_store_fail(Call::Create, cursor, trouble),
+        "append " => add_store_fail(Call::Append, cursor, trouble),
+        "say " => add_number(cursor, &mut trouble.say_fails),
+        "put " => add_link_fail(cursor, &mut trouble.put_fails, &mut trouble.is_listed),
+        "take " => add_link_fail(cursor, &mut trouble.take_fails, &mut trouble.is_listed),
+        _ => cursor.note("no such call fails"),
     }
 }
 
-/// Takes in a line `reads`, behind that word.
-pub fn set_most(cursor: &mut Cursor<'_>, trouble: &mut Trouble) {
+// Takes in a line `reads`, behind that word.
+fn set_most(cursor: &mut Cursor<'_>, trouble: &mut Trouble) {
     let most = cursor.last_number();
     cursor.want(most > 0, "a read that gives nothing");
     trouble.most = most as usize;
@@ -143,15 +153,13 @@ fn repeat(alloc: Global, cursor: &mut Cursor<'_>, picks: &mut Vec<u32>) {
     }
 }
 
-/// Takes in a line `order`, behind that word.
-pub fn set_order(alloc: Global, cursor: &mut Cursor<'_>, trouble: &mut Trouble) {
-    trouble.is_listed = true;
+// Takes in a line `order`, behind that word.
+fn set_order(alloc: Global, cursor: &mut Cursor<'_>, picks: &mut Vec<u32>) {
     for _pick in 0..=cursor.rest().len() {
-        let pick = cursor.number();
-        cursor.want(pick <= MOST, "too great a place");
-        cursor.keep(trouble.picks.push(pick.min(MOST) as u32).is_ok());
+        let pick = cursor.number_up_to(MOST, "too great a place") as u32;
+        cursor.keep(picks.push(pick).is_ok());
         if cursor.eat(b" * ") {
-            repeat(alloc, cursor, &mut trouble.picks);
+            repeat(alloc, cursor, picks);
             break;
         }
         if !cursor.eat(b" ") {
@@ -161,17 +169,9 @@ pub fn set_order(alloc: Global, cursor: &mut Cursor<'_>, trouble: &mut Trouble) 
     cursor.end();
 }
 
-/// Takes in a line `oldest`, behind that word.
-pub fn set_oldest(cursor: &mut Cursor<'_>, trouble: &mut Trouble) {
-    cursor.end();
-    trouble.is_listed = true;
-}
-
-/// Takes in a line `newest`, behind that word.
-pub fn set_newest(cursor: &mut Cursor<'_>, trouble: &mut Trouble) {
-    cursor.end();
-    trouble.is_listed = true;
-    cursor.keep(trouble.picks.resize(NEWEST, u32::MAX).is_ok());
+// Takes in a line `newest`.
+fn set_newest(cursor: &mut Cursor<'_>, picks: &mut Vec<u32>) {
+    cursor.keep(picks.resize(NEWEST, u32::MAX).is_ok());
 }
 
 // Adds the numbers of a range, and answers whether there was memory for them.
@@ -183,9 +183,8 @@ fn add_range(keeps: &mut Vec<u64>, first: u64, last: u64) -> bool {
     is_kept
 }
 
-/// Takes in a line `keep`, behind that word.
-pub fn add_keeps(cursor: &mut Cursor<'_>, trouble: &mut Trouble) {
-    trouble.is_listed = true;
+// Takes in a line `keep`, behind that word.
+fn add_keeps(cursor: &mut Cursor<'_>, keeps: &mut Vec<u64>) {
     for _number in 0..=cursor.rest().len() {
         let first = cursor.number();
         let last = if cursor.eat(b"..") {
@@ -194,7 +193,7 @@ pub fn add_keeps(cursor: &mut Cursor<'_>, trouble: &mut Trouble) {
             first
         };
         cursor.want(last <= MOST, "too many takes");
-        cursor.keep(add_range(&mut trouble.keeps, first, last));
+        cursor.keep(add_range(keeps, first, last));
         if !cursor.eat(b" ") {
             break;
         }
@@ -202,18 +201,35 @@ pub fn add_keeps(cursor: &mut Cursor<'_>, trouble: &mut Trouble) {
     cursor.end();
 }
 
-/// Takes in a line `spoil`, behind that word.
-pub fn add_spoil(cursor: &mut Cursor<'_>, trouble: &mut Trouble) {
-    trouble.is_listed = true;
+// Takes in a line `spoil`, behind that word.
+fn add_spoil(cursor: &mut Cursor<'_>, spoils: &mut Vec<Spoil>) {
     let nth = cursor.number();
-    let byte = cursor.next_number();
-    let mask = cursor.next_number();
+    cursor.eat(b" ");
+    let byte = cursor.number_up_to(127, NO_SPOIL) as u32;
+    cursor.eat(b" ");
+    let mask = cursor.number_up_to(255, NO_SPOIL) as u8;
     cursor.end();
-    cursor.want(byte < 128 && mask < 256, "no byte of a payload, or no mask");
-    let spoil = Spoil {
-        nth,
-        byte: byte.min(127) as u32,
-        mask: mask.min(255) as u8,
-    };
-    cursor.keep(trouble.spoils.push(spoil).is_ok());
+    cursor.keep(spoils.push(Spoil { nth, byte, mask }).is_ok());
+}
+
+// Takes in a line on how the links go, behind its first word.
+fn read_order(alloc: Global, word: &str, cursor: &mut Cursor<'_>, trouble: &mut Trouble) {
+    trouble.is_listed = true;
+    match word {
+        "order " => set_order(alloc, cursor, &mut trouble.picks),
+        "keep " => add_keeps(cursor, &mut trouble.keeps),
+        "spoil " => add_spoil(cursor, &mut trouble.spoils),
+        "oldest" => {}
+        "newest" => set_newest(cursor, &mut trouble.picks),
+        _ => cursor.note("no such line"),
+    }
+}
+
+/// Takes in a line on what fails in the next run and how the links go, behind its first word.
+pub fn read_trouble(alloc: Global, word: &str, cursor: &mut Cursor<'_>, trouble: &mut Trouble) {
+    match word {
+        "reads " => set_most(cursor, trouble),
+        "fail " => add_fail(cursor, trouble),
+        _ => read_order(alloc, word, cursor, trouble),
+    }
 }

@@ -1,14 +1,12 @@
 //! The lines of a case, one after the other, for one of its goings.
-use crate::bytes::bytes_behind;
+use crate::bytes::{Names, bytes_behind};
 use crate::cursor::Cursor;
 use crate::differences::Differences;
 use crate::filling::fill_line;
 use crate::loops::{is_loop, is_row, is_table};
 use crate::named::{Named, add, remove};
-use crate::running::{Run, carry_out};
-use crate::scene::{
-    Scene, Trouble, add_fail, add_keeps, add_spoil, set_most, set_newest, set_oldest, set_order,
-};
+use crate::running::carry_out;
+use crate::scene::{Scene, Trouble, read_trouble};
 use crate::wanted::{Wanted, add_wanted, is_wanted};
 use std::alloc::Global;
 use std::rt::Files;
@@ -21,8 +19,16 @@ pub struct Lines<'a> {
     pub lines: &'a [&'a [u8]],
 }
 
-/// A line that isn't understood, by its number, and why.
-pub type Stopped = Option<(usize, &'static str)>;
+impl<'a> Lines<'a> {
+    /// Those behind the one at a place.
+    pub fn behind(self, place: usize) -> Lines<'a> {
+        let count = place.saturating_add(1);
+        Lines {
+            first: self.first.saturating_add(count),
+            lines: self.lines.get(count..).unwrap_or_default(),
+        }
+    }
+}
 
 /// Whether a line says nothing.
 pub fn is_empty(line: &[u8]) -> bool {
@@ -51,27 +57,6 @@ fn take_away(alloc: Global, cursor: &mut Cursor<'_>, scene: &mut Scene) {
     remove(&mut scene.files, &path);
 }
 
-// Takes in a line on what fails in the next run, and how the links go.
-fn read_trouble(alloc: Global, cursor: &mut Cursor<'_>, trouble: &mut Trouble) {
-    if cursor.eat(b"reads ") {
-        set_most(cursor, trouble);
-    } else if cursor.eat(b"fail ") {
-        add_fail(cursor, trouble);
-    } else if cursor.eat(b"order ") {
-        set_order(alloc, cursor, trouble);
-    } else if cursor.eat(b"keep ") {
-        add_keeps(cursor, trouble);
-    } else if cursor.eat(b"spoil ") {
-        add_spoil(cursor, trouble);
-    } else if cursor.eat(b"oldest") {
-        set_oldest(cursor, trouble);
-    } else if cursor.eat(b"newest") {
-        set_newest(cursor, trouble);
-    } else {
-        cursor.note("no such line");
-    }
-}
-
 /// Takes in a line that stands before a run, and answers what is wrong with it.
 pub fn read_setting<R: Files + AllocGlobal>(
     rt: &R,
@@ -79,14 +64,11 @@ pub fn read_setting<R: Files + AllocGlobal>(
     scene: &mut Scene,
 ) -> Option<&'static str> {
     let mut cursor = Cursor::of(line);
-    if cursor.eat(b"let ") {
-        read_let(rt, &mut cursor, scene);
-    } else if cursor.eat(b"given ") {
-        read_given(rt, &mut cursor, scene);
-    } else if cursor.eat(b"gone ") {
-        take_away(rt.alloc(), &mut cursor, scene);
-    } else {
-        read_trouble(rt.alloc(), &mut cursor, &mut scene.trouble);
+    match cursor.keyword() {
+        "let " => read_let(rt, &mut cursor, scene),
+        "given " => read_given(rt, &mut cursor, scene),
+        "gone " => take_away(rt.alloc(), &mut cursor, scene),
+        word => read_trouble(rt.alloc(), word, &mut cursor, &mut scene.trouble),
     }
     cursor.wrong()
 }
@@ -111,65 +93,69 @@ fn add_words(alloc: Global, cursor: &mut Cursor<'_>, words: &mut Vec<String>) {
     cursor.end();
 }
 
-// Takes in what is to come of a run from the lines behind it.
-fn read_wanted<R: Files + AllocGlobal>(
-    rt: &R,
-    behind: Lines<'_>,
-    values: &[Named],
-    scene: &Scene,
-    wanted: &mut Wanted,
-) -> Stopped {
-    for (offset, line) in behind.lines.iter().enumerate() {
-        let number = behind.first.saturating_add(offset);
-        if is_wanted(line) {
-            if let Some(why) = read_filled(rt, line, number, values, scene, wanted) {
-                return Some((number, why));
-            }
-        } else if !is_empty(line) {
-            break;
-        }
-    }
-    None
-}
-
-// Takes in such a line.
+// Takes in a line that tells what is to come of a run, and answers what is wrong with it.
 fn read_filled<R: Files + AllocGlobal>(
     rt: &R,
     line: &[u8],
     number: usize,
     values: &[Named],
-    scene: &Scene,
-    wanted: &mut Wanted,
+    scene: &mut Scene,
 ) -> Option<&'static str> {
     let mut filled = Vec::new(rt.alloc());
     match fill_line(rt.alloc(), line, values, &mut filled) {
         Some(why) => Some(why),
-        None => add_wanted(rt, scene.names(), number, &filled, wanted),
+        None => {
+            let names = Names {
+                lets: &scene.lets,
+                files: &scene.files,
+            };
+            add_wanted(rt, names, number, &filled, &mut scene.wanted)
+        }
     }
 }
 
+// Takes in all that is to come of a run from the lines behind it, and answers whether it is understood.
+fn read_wanted<R: Files + AllocGlobal>(
+    rt: &R,
+    behind: Lines<'_>,
+    values: &[Named],
+    scene: &mut Scene,
+    differences: &mut Differences<'_>,
+) -> bool {
+    for (offset, line) in behind.lines.iter().enumerate() {
+        if is_wanted(line) {
+            let number = behind.first.saturating_add(offset);
+            let wrong = read_filled(rt, line, number, values, scene);
+            if !differences.pass(number, wrong) {
+                return false;
+            }
+        } else if !is_empty(line) {
+            break;
+        }
+    }
+    true
+}
+
 // Runs with these words, and keeps the files that stand there then.
-fn run_words<R: Files + Print + AllocGlobal + Threads + Sync>(
+fn run_words<R: AllocGlobal + Threads + Sync>(
     rt: &R,
     words: &[String],
     scene: &mut Scene,
-    wanted: &Wanted,
-    differences: &mut Differences<'_, R>,
+    differences: &mut Differences<'_>,
 ) -> Option<&'static str> {
     let mut files = Vec::new(rt.alloc());
-    let stopped = carry_out(rt, Run { words, wanted }, scene, &mut files, differences);
+    let stopped = carry_out(rt, words, scene, &mut files, differences);
     scene.files = files;
     scene.trouble = Trouble::none(rt.alloc());
     stopped
 }
 
 // Runs with the words behind `run`.
-fn run_line<R: Files + Print + AllocGlobal + Threads + Sync>(
+fn run_line<R: AllocGlobal + Threads + Sync>(
     rt: &R,
     line: &[u8],
     scene: &mut Scene,
-    wanted: &Wanted,
-    differences: &mut Differences<'_, R>,
+    differences: &mut Differences<'_>,
 ) -> Option<&'static str> {
     let mut words = Vec::new(rt.alloc());
     let mut cursor = Cursor::of(line);
@@ -178,28 +164,26 @@ fn run_line<R: Files + Print + AllocGlobal + Threads + Sync>(
     }
     match cursor.wrong() {
         Some(why) => Some(why),
-        None => run_words(rt, &words, scene, wanted, differences),
+        None => run_words(rt, &words, scene, differences),
     }
 }
 
 // Does a run, with what is told behind it.
-fn do_run<R: Files + Print + AllocGlobal + Threads + Sync>(
+fn do_run<R: Files + AllocGlobal + Threads + Sync>(
     rt: &R,
     line: &[u8],
     behind: Lines<'_>,
     values: &[Named],
     scene: &mut Scene,
-    differences: &mut Differences<'_, R>,
-) -> Stopped {
+    differences: &mut Differences<'_>,
+) -> bool {
     let number = behind.first.saturating_sub(1);
-    let mut wanted = Wanted::nothing(rt.alloc(), number);
-    if let Some(stopped) = read_wanted(rt, behind, values, scene, &mut wanted) {
-        return Some(stopped);
+    scene.wanted = Wanted::nothing(rt.alloc(), number);
+    if !read_wanted(rt, behind, values, scene, differences) {
+        return false;
     }
-    match run_line(rt, line, scene, &wanted, differences) {
-        Some(why) => Some((number, why)),
-        None => None,
-    }
+    let wrong = run_line(rt, line, scene, differences);
+    differences.pass(number, wrong)
 }
 
 // Whether a line begins a run.
@@ -208,41 +192,39 @@ fn is_run(line: &[u8]) -> bool {
 }
 
 // Goes by a line of a case that is filled.
-fn go_by_filled<R: Files + Print + AllocGlobal + Threads + Sync>(
+fn go_by_filled<R: Files + AllocGlobal + Threads + Sync>(
     rt: &R,
     line: &[u8],
     behind: Lines<'_>,
     values: &[Named],
     scene: &mut Scene,
-    differences: &mut Differences<'_, R>,
-) -> Stopped {
+    differences: &mut Differences<'_>,
+) -> bool {
     if is_run(line) {
-        return do_run(rt, line, behind, values, scene, differences);
-    }
-    match read_setting(rt, line, scene) {
-        Some(why) => Some((behind.first.saturating_sub(1), why)),
-        None => None,
+        do_run(rt, line, behind, values, scene, differences)
+    } else {
+        let wrong = read_setting(rt, line, scene);
+        differences.pass(behind.first.saturating_sub(1), wrong)
     }
 }
 
 // Goes by a line that isn't empty, isn't of a `for` and tells nothing of a run.
-fn go_by_line<R: Files + Print + AllocGlobal + Threads + Sync>(
+fn go_by_line<R: Files + AllocGlobal + Threads + Sync>(
     rt: &R,
     line: &[u8],
     behind: Lines<'_>,
     values: &[Named],
     scene: &mut Scene,
-    differences: &mut Differences<'_, R>,
-) -> Stopped {
+    differences: &mut Differences<'_>,
+) -> bool {
     let mut filled = Vec::new(rt.alloc());
-    match fill_line(rt.alloc(), line, values, &mut filled) {
-        Some(why) => Some((behind.first.saturating_sub(1), why)),
-        None => go_by_filled(rt, &filled, behind, values, scene, differences),
-    }
+    let wrong = fill_line(rt.alloc(), line, values, &mut filled);
+    differences.pass(behind.first.saturating_sub(1), wrong)
+        && go_by_filled(rt, &filled, behind, values, scene, differences)
 }
 
 // What a line of a case is for.
-#[derive(Clone, Copy, PartialEq, Eq)]
+#[derive(Clone, Copy)]
 enum Kind {
     Nothing,
     Row,
@@ -268,65 +250,59 @@ fn kind_of(line: &[u8]) -> Kind {
     }
 }
 
-// The first line that stands where none of its kind may, and why; or that a case has no run.
-fn misplaced(case: Lines<'_>) -> Stopped {
+// Why a line stands where none of its kind may.
+fn misplaced(kind: Kind, is_in_table: bool, is_behind_run: bool) -> Option<&'static str> {
+    match kind {
+        Kind::Row if !is_in_table => Some("a row of no table"),
+        Kind::Wanted if !is_behind_run => Some("no run stands before it"),
+        _ => None,
+    }
+}
+
+// Whether each line of a case stands where it may, and one is a run.
+fn is_in_order(case: Lines<'_>, differences: &mut Differences<'_>) -> bool {
     let (mut is_behind_run, mut has_run, mut is_in_table) = (false, false, false);
     for (offset, line) in case.lines.iter().enumerate() {
-        let number = case.first.saturating_add(offset);
         let kind = kind_of(line);
-        if kind == Kind::Row && !is_in_table {
-            return Some((number, "a row of no table"));
+        let wrong = misplaced(kind, is_in_table, is_behind_run);
+        if !differences.pass(case.first.saturating_add(offset), wrong) {
+            return false;
         }
-        if kind == Kind::Wanted && !is_behind_run {
-            return Some((number, "no run stands before it"));
-        }
-        is_in_table = kind == Kind::Row || is_table(line);
-        is_behind_run = kind == Kind::Run || is_behind_run && kind != Kind::Setting;
-        has_run |= kind == Kind::Run;
+        let is_run = matches!(kind, Kind::Run);
+        has_run |= is_run;
+        is_behind_run = is_run || is_behind_run && !matches!(kind, Kind::Setting);
+        is_in_table = matches!(kind, Kind::Row) || is_table(line);
     }
-    if has_run {
-        None
-    } else {
-        Some((case.first, "a case without a run"))
-    }
+    differences.want(has_run, case.first, "a case without a run");
+    has_run
 }
 
 // Goes by the lines of a case, each of which stands where it may.
-fn go_by_lines<R: Files + Print + AllocGlobal + Threads + Sync>(
+fn go_by_lines<R: Files + AllocGlobal + Threads + Sync>(
     rt: &R,
     case: Lines<'_>,
     values: &[Named],
     scene: &mut Scene,
-    differences: &mut Differences<'_, R>,
-) -> Stopped {
-    let mut behind = case;
-    for _line in 0..case.lines.len() {
-        let Some((line, lines)) = behind.lines.split_first() else {
-            return None;
-        };
-        behind = Lines {
-            first: behind.first.saturating_add(1),
-            lines,
-        };
+    differences: &mut Differences<'_>,
+) {
+    for (place, line) in case.lines.iter().enumerate() {
         if matches!(kind_of(line), Kind::Run | Kind::Setting)
-            && let Some(stopped) = go_by_line(rt, line, behind, values, scene, differences)
+            && !go_by_line(rt, line, case.behind(place), values, scene, differences)
         {
-            return Some(stopped);
+            return;
         }
     }
-    None
 }
 
 /// Goes by the lines of a case, for these values.
-pub fn go<R: Files + Print + AllocGlobal + Threads + Sync>(
+pub fn go<R: Files + AllocGlobal + Threads + Sync>(
     rt: &R,
     case: Lines<'_>,
     values: &[Named],
     scene: &mut Scene,
-    differences: &mut Differences<'_, R>,
-) -> Stopped {
-    match misplaced(case) {
-        Some(stopped) => Some(stopped),
-        None => go_by_lines(rt, case, values, scene, differences),
+    differences: &mut Differences<'_>,
+) {
+    if is_in_order(case, differences) {
+        go_by_lines(rt, case, values, scene, differences);
     }
 }

@@ -6,37 +6,52 @@ use std::alloc::Global;
 use std::rt::Files;
 
 /// What is to stand at a path.
-#[derive(Drop)]
+#[derive(Clone, Copy)]
 pub enum Content {
-    These(Vec<u8>),
+    These,
     Any,
     NoFile,
 }
 
-/// A file that is told of, and in which line.
+/// A file that is told of, and in which line. It has bytes where these are to stand there.
 #[derive(Drop)]
 pub struct WantedFile {
     pub line: usize,
     pub path: Vec<u8>,
     pub content: Content,
+    pub bytes: Vec<u8>,
 }
 
-/// What is told of the calls on links, or on the store.
+/// Of what a number is told: calls on the store and on links, and what links were opened with.
 #[derive(Clone, Copy)]
-pub enum ToldCalls {
-    OnStore { call: Call, count: u64 },
-    Unopened,
-    Opened { seed: u64, room: u64 },
-    Frames(u64),
-    FramesOn { count: u64, link: u64 },
-    FramesOf { count: u64, generation: u32 },
-    Takes(u64),
+pub enum Number {
+    OnStore(Call),
+    /// 1 where any call was made on the links, and else 0.
+    OnLinks,
+    Opens,
+    Seed,
+    Room,
+    Frames,
+    FramesOn(u64),
+    /// By the last bytes of the front of a frame.
+    FramesOf([u8; 4]),
+    Takes,
+}
+
+/// A number that is told, in which line, and what it is called.
+#[derive(Clone, Copy)]
+pub struct WantedNumber {
+    pub line: usize,
+    pub what: &'static str,
+    pub of: Number,
+    pub number: u64,
 }
 
 /// A frame that is told of, by its first bytes, and in which line.
 #[derive(Drop)]
 pub struct WantedFrame {
     pub line: usize,
+    pub link: u32,
     pub front: [u8; 12],
     pub payload: Vec<u8>,
 }
@@ -45,10 +60,10 @@ pub struct WantedFrame {
 #[derive(Drop)]
 pub struct Wanted {
     pub run: usize,
-    pub statuses: Vec<(usize, u64)>,
+    pub status: Option<(usize, u64)>,
     pub said: Vec<u8>,
     pub files: Vec<WantedFile>,
-    pub calls: Vec<(usize, ToldCalls)>,
+    pub numbers: Vec<WantedNumber>,
     pub frames: Vec<WantedFrame>,
 }
 
@@ -57,10 +72,10 @@ impl Wanted {
     pub fn nothing(alloc: Global, run: usize) -> Wanted {
         Wanted {
             run,
-            statuses: Vec::new(alloc),
+            status: None,
             said: Vec::new(alloc),
             files: Vec::new(alloc),
-            calls: Vec::new(alloc),
+            numbers: Vec::new(alloc),
             frames: Vec::new(alloc),
         }
     }
@@ -96,14 +111,14 @@ pub fn is_wanted(line: &[u8]) -> bool {
 // Adds a status, of which a run has one.
 fn add_status(line: usize, cursor: &mut Cursor<'_>, wanted: &mut Wanted) {
     let status = cursor.last_number();
-    cursor.want(wanted.statuses.is_empty(), "a second status");
-    cursor.keep(wanted.statuses.push((line, status)).is_ok());
+    cursor.want(wanted.status.is_none(), "a second status");
+    wanted.status = Some((line, status));
 }
 
 // Adds a line that is said.
 fn add_line(cursor: &mut Cursor<'_>, said: &mut Vec<u8>) {
-    let is_kept = said.extend_from_slice(cursor.rest()).is_ok() && said.push(b'\n').is_ok();
-    cursor.keep(is_kept);
+    cursor.keep(said.extend_from_slice(cursor.rest()).is_ok());
+    cursor.keep(said.push(b'\n').is_ok());
 }
 
 // Adds a file, of which no bytes are told.
@@ -112,16 +127,16 @@ fn add_path(
     line: usize,
     cursor: &mut Cursor<'_>,
     content: Content,
-    wanted: &mut Wanted,
+    files: &mut Vec<WantedFile>,
 ) {
-    let path = cursor.word(alloc);
-    cursor.end();
     let file = WantedFile {
         line,
-        path,
+        path: cursor.word(alloc),
         content,
+        bytes: Vec::new(alloc),
     };
-    cursor.keep(wanted.files.push(file).is_ok());
+    cursor.end();
+    cursor.keep(files.push(file).is_ok());
 }
 
 // Adds a file with its bytes.
@@ -130,64 +145,94 @@ fn add_file<R: Files + AllocGlobal>(
     names: Names<'_>,
     line: usize,
     cursor: &mut Cursor<'_>,
-    wanted: &mut Wanted,
+    files: &mut Vec<WantedFile>,
 ) {
-    let path = cursor.word(rt.alloc());
-    let content = Content::These(bytes_behind(rt, names, cursor));
     let file = WantedFile {
         line,
-        path,
-        content,
+        path: cursor.word(rt.alloc()),
+        content: Content::These,
+        bytes: bytes_behind(rt, names, cursor),
     };
-    cursor.keep(wanted.files.push(file).is_ok());
+    cursor.keep(files.push(file).is_ok());
 }
 
-// Adds what is told of calls.
-fn add_told(line: usize, cursor: &mut Cursor<'_>, calls: ToldCalls, wanted: &mut Wanted) {
+// Adds a number.
+fn add_number(
+    line: usize,
+    cursor: &mut Cursor<'_>,
+    what: &'static str,
+    of: Number,
+    number: u64,
+    numbers: &mut Vec<WantedNumber>,
+) {
+    let told = WantedNumber {
+        line,
+        what,
+        of,
+        number,
+    };
+    cursor.keep(numbers.push(told).is_ok());
+}
+
+// Adds the number and the room of a line `opened`.
+fn add_opened(line: usize, cursor: &mut Cursor<'_>, numbers: &mut Vec<WantedNumber>) {
+    let seed = cursor.number();
+    let room = cursor.next_number();
     cursor.end();
-    cursor.keep(wanted.calls.push((line, calls)).is_ok());
+    add_number(line, cursor, "opened", Number::Opens, 1, numbers);
+    add_number(line, cursor, "seed", Number::Seed, seed, numbers);
+    add_number(line, cursor, "room", Number::Room, room, numbers);
 }
 
-// The counts of a line `frames`.
-fn frames(cursor: &mut Cursor<'_>) -> ToldCalls {
+// Adds the count of a line `frames`.
+fn add_frames(line: usize, cursor: &mut Cursor<'_>, numbers: &mut Vec<WantedNumber>) {
     let count = cursor.number();
-    if cursor.eat(b" on ") {
-        let link = cursor.number();
-        ToldCalls::FramesOn { count, link }
+    let (what, of) = if cursor.eat(b" on ") {
+        ("frames on it", Number::FramesOn(cursor.number()))
     } else if cursor.eat(b" of ") {
-        let number = cursor.number();
-        cursor.want(
-            number <= u64::from(u32::MAX),
-            "no generation has such a number",
-        );
-        let generation = number.min(u64::from(u32::MAX)) as u32;
-        ToldCalls::FramesOf { count, generation }
+        let most = u64::from(u32::MAX);
+        let generation = cursor.number_up_to(most, "no generation has such a number") as u32;
+        ("frames of it", Number::FramesOf(generation.to_be_bytes()))
     } else {
-        ToldCalls::Frames(count)
+        ("frames", Number::Frames)
+    };
+    cursor.end();
+    add_number(line, cursor, what, of, count, numbers);
+}
+
+// The call of a line `calls`.
+fn store_call(cursor: &mut Cursor<'_>) -> Call {
+    match cursor.keyword() {
+        "read " => Call::Read,
+        "create " => Call::Create,
+        "append " => Call::Append,
+        _ => {
+            cursor.note("no such call");
+            Call::Append
+        }
     }
 }
 
-// The number and the room of a line `opened`.
-fn opened(cursor: &mut Cursor<'_>) -> ToldCalls {
-    let seed = cursor.number();
-    let room = cursor.next_number();
-    ToldCalls::Opened { seed, room }
+// Adds the count of a line `calls`.
+fn add_calls(line: usize, cursor: &mut Cursor<'_>, numbers: &mut Vec<WantedNumber>) {
+    let of = Number::OnStore(store_call(cursor));
+    let count = cursor.last_number();
+    add_number(line, cursor, "calls", of, count, numbers);
 }
 
-// The count of a line `calls`.
-fn store_calls(cursor: &mut Cursor<'_>) -> ToldCalls {
-    let call = if cursor.eat(b"read") {
-        Call::Read
-    } else if cursor.eat(b"create") {
-        Call::Create
-    } else {
-        let is_append = cursor.eat(b"append");
-        cursor.want(is_append, "no such call");
-        Call::Append
-    };
-    let count = cursor.next_number();
-    ToldCalls::OnStore { call, count }
+// Adds the count of a line `takes`.
+fn add_takes(line: usize, cursor: &mut Cursor<'_>, numbers: &mut Vec<WantedNumber>) {
+    let count = cursor.last_number();
+    add_number(line, cursor, "takes", Number::Takes, count, numbers);
 }
+
+// Adds that no call was made on the links.
+fn add_unopened(line: usize, cursor: &mut Cursor<'_>, numbers: &mut Vec<WantedNumber>) {
+    let what = "a call was made on the links";
+    add_number(line, cursor, what, Number::OnLinks, 0, numbers);
+}
+
+const NO_FRAME: &str = "no frame has such numbers";
 
 // The first bytes of a frame.
 fn front(link: u32, piece: u8, generation: u32) -> [u8; 12] {
@@ -197,19 +242,20 @@ fn front(link: u32, piece: u8, generation: u32) -> [u8; 12] {
     front
 }
 
-// The first bytes of the frame that a line `frame` tells of.
-fn front_in(cursor: &mut Cursor<'_>) -> [u8; 12] {
-    let link = cursor.number();
-    let piece = cursor.next_number();
-    let generation = cursor.next_number();
+// The frame that a line `frame` tells of, with no payload yet.
+fn frame_in(alloc: Global, line: usize, cursor: &mut Cursor<'_>) -> WantedFrame {
     let most = u64::from(u32::MAX);
-    let is_frame = link <= most && piece < 256 && generation <= most;
-    cursor.want(is_frame, "no frame has such numbers");
-    front(
-        link.min(most) as u32,
-        piece.min(255) as u8,
-        generation.min(most) as u32,
-    )
+    let link = cursor.number_up_to(most, NO_FRAME) as u32;
+    cursor.eat(b" ");
+    let piece = cursor.number_up_to(255, NO_FRAME) as u8;
+    cursor.eat(b" ");
+    let generation = cursor.number_up_to(most, NO_FRAME) as u32;
+    WantedFrame {
+        line,
+        link,
+        front: front(link, piece, generation),
+        payload: Vec::new(alloc),
+    }
 }
 
 // Adds the frame of a line, with zeros up to its whole payload.
@@ -218,57 +264,71 @@ fn add_frame<R: Files + AllocGlobal>(
     names: Names<'_>,
     line: usize,
     cursor: &mut Cursor<'_>,
-    wanted: &mut Wanted,
+    frames: &mut Vec<WantedFrame>,
 ) {
-    let front = front_in(cursor);
-    let mut payload = bytes_behind(rt, names, cursor);
-    cursor.want(payload.len() <= 128, "a payload of more than 128 bytes");
-    cursor.keep(payload.resize(128, 0).is_ok());
-    let frame = WantedFrame {
-        line,
-        front,
-        payload,
-    };
-    cursor.keep(wanted.frames.push(frame).is_ok());
+    let mut frame = frame_in(rt.alloc(), line, cursor);
+    frame.payload = bytes_behind(rt, names, cursor);
+    cursor.want(
+        frame.payload.len() <= 128,
+        "a payload of more than 128 bytes",
+    );
+    cursor.keep(frame.payload.resize(128, 0).is_ok());
+    cursor.keep(frames.push(frame).is_ok());
 }
 
-// Takes in a line on calls, and answers whether it is one.
-fn add_calls(line: usize, cursor: &mut Cursor<'_>, wanted: &mut Wanted) -> bool {
-    let calls = if cursor.eat(b"opened ") {
-        opened(cursor)
-    } else if cursor.eat(b"frames ") {
-        frames(cursor)
-    } else if cursor.eat(b"takes ") {
-        ToldCalls::Takes(cursor.number())
-    } else if cursor.eat(b"calls ") {
-        store_calls(cursor)
-    } else if cursor.eat(b"unopened") {
-        ToldCalls::Unopened
-    } else {
-        return false;
-    };
-    add_told(line, cursor, calls, wanted);
+// Takes in a line on calls, behind its first word, and answers whether it is one.
+fn add_told(
+    line: usize,
+    word: &str,
+    cursor: &mut Cursor<'_>,
+    numbers: &mut Vec<WantedNumber>,
+) -> bool {
+    match word {
+        "opened " => add_opened(line, cursor, numbers),
+        "frames " => add_frames(line, cursor, numbers),
+        "takes " => add_takes(line, cursor, numbers),
+        "calls " => add_calls(line, cursor, numbers),
+        "unopened" => add_unopened(line, cursor, numbers),
+        _ => return false,
+    }
     true
 }
 
-// Takes in a line on a file or a frame.
+// Takes in a line on a file or a frame, behind its first word.
 fn add_content<R: Files + AllocGlobal>(
     rt: &R,
     names: Names<'_>,
     line: usize,
+    word: &str,
     cursor: &mut Cursor<'_>,
     wanted: &mut Wanted,
 ) {
-    if cursor.eat(b"file ") {
-        add_file(rt, names, line, cursor, wanted);
-    } else if cursor.eat(b"made ") {
-        add_path(rt.alloc(), line, cursor, Content::Any, wanted);
-    } else if cursor.eat(b"none ") {
-        add_path(rt.alloc(), line, cursor, Content::NoFile, wanted);
-    } else if cursor.eat(b"frame ") {
-        add_frame(rt, names, line, cursor, wanted);
-    } else {
-        cursor.note("no such line");
+    match word {
+        "file " => add_file(rt, names, line, cursor, &mut wanted.files),
+        "made " => add_path(rt.alloc(), line, cursor, Content::Any, &mut wanted.files),
+        "none " => add_path(rt.alloc(), line, cursor, Content::NoFile, &mut wanted.files),
+        "frame " => add_frame(rt, names, line, cursor, &mut wanted.frames),
+        _ => cursor.note("no such line"),
+    }
+}
+
+// Takes in a line that tells what is to come, behind its first word.
+fn add_by_word<R: Files + AllocGlobal>(
+    rt: &R,
+    names: Names<'_>,
+    line: usize,
+    word: &str,
+    cursor: &mut Cursor<'_>,
+    wanted: &mut Wanted,
+) {
+    match word {
+        "status " => add_status(line, cursor, wanted),
+        "says " => add_line(cursor, &mut wanted.said),
+        _ => {
+            if !add_told(line, word, cursor, &mut wanted.numbers) {
+                add_content(rt, names, line, word, cursor, wanted);
+            }
+        }
     }
 }
 
@@ -281,14 +341,11 @@ pub fn add_wanted<R: Files + AllocGlobal>(
     wanted: &mut Wanted,
 ) -> Option<&'static str> {
     let mut cursor = Cursor::of(text);
-    if cursor.eat(b"status ") {
-        add_status(line, &mut cursor, wanted);
-    } else if cursor.eat(b"says ") {
-        add_line(&mut cursor, &mut wanted.said);
-    } else if cursor.eat(b"said") {
+    if cursor.eat(b"said") {
         wanted.said = bytes_behind(rt, names, &mut cursor);
-    } else if !add_calls(line, &mut cursor, wanted) {
-        add_content(rt, names, line, &mut cursor, wanted);
+    } else {
+        let word = cursor.keyword();
+        add_by_word(rt, names, line, word, &mut cursor, wanted);
     }
     cursor.wrong()
 }
