@@ -2,20 +2,18 @@
 use crate::cursor::Cursor;
 use crate::named::{Named, found};
 use std::alloc::Global;
-use std::fs;
-use std::rt::Files;
 
 // How many bytes a case may make at most.
 const MOST: u64 = 1 << 28;
 
 const TOO_MANY: &str = "more bytes than a case may make";
 
-/// Where names are looked for: those of `let` first, then the files of the store. A name that is in neither is that of a
-/// file in the folder that the program runs in.
+/// Where names are looked for: those of `let` first, then the files of the store, then those that the program was given.
 #[derive(Clone, Copy)]
 pub struct Names<'a> {
     pub lets: &'a [Named],
     pub files: &'a [Named],
+    pub given: &'a [Named],
 }
 
 // A number of bytes.
@@ -90,25 +88,18 @@ fn read_each(alloc: Global, cursor: &mut Cursor<'_>, bytes: &mut Vec<u8>) {
     }
 }
 
-// Adds the bytes of a file of the folder, and answers whether it is there.
-fn add_file<R: Files + AllocGlobal>(rt: &R, path: &str, bytes: &mut Vec<u8>) -> bool {
-    match fs::read(rt, path) {
-        Ok(file) => bytes.extend_from_slice(&file).is_ok(),
-        Err(_) => false,
-    }
+// The bytes of a name.
+fn bytes_of<'a>(names: Names<'a>, name: &[u8]) -> Option<&'a [u8]> {
+    found(names.lets, name)
+        .or(found(names.files, name))
+        .or(found(names.given, name))
 }
 
-// Adds the bytes of a name, and answers whether there are such.
-fn add_named<R: Files + AllocGlobal>(
-    rt: &R,
-    names: Names<'_>,
-    name: &[u8],
-    bytes: &mut Vec<u8>,
-) -> bool {
-    match found(names.lets, name).or(found(names.files, name)) {
-        Some(known) => bytes.extend_from_slice(known).is_ok(),
-        None => add_file(rt, str::from_utf8(name).unwrap_or_default(), bytes),
-    }
+// Adds the bytes of the name that comes next.
+fn add_named(names: Names<'_>, cursor: &mut Cursor<'_>, bytes: &mut Vec<u8>) {
+    let known = bytes_of(names, cursor.until(b" ["));
+    cursor.want(known.is_some(), "no bytes of this name");
+    cursor.keep(bytes.extend_from_slice(known.unwrap_or_default()).is_ok());
 }
 
 // Adds a text or bytes in hex, and answers whether there were such.
@@ -220,40 +211,25 @@ fn change_part(alloc: Global, cursor: &mut Cursor<'_>, part: &mut Vec<u8>) {
 }
 
 // Reads what a part has before all that stands behind it.
-fn read_part<R: Files + AllocGlobal>(
-    rt: &R,
-    names: Names<'_>,
-    cursor: &mut Cursor<'_>,
-    part: &mut Vec<u8>,
-) {
-    if !add_literal(cursor, part) && !add_made(rt.alloc(), cursor, part) {
-        let name = cursor.until(b" [");
-        cursor.want(add_named(rt, names, name, part), "no bytes of this name");
+fn read_part(alloc: Global, names: Names<'_>, cursor: &mut Cursor<'_>, part: &mut Vec<u8>) {
+    if !add_literal(cursor, part) && !add_made(alloc, cursor, part) {
+        add_named(names, cursor, part);
     }
 }
 
 // Adds a part.
-fn add_part<R: Files + AllocGlobal>(
-    rt: &R,
-    names: Names<'_>,
-    cursor: &mut Cursor<'_>,
-    bytes: &mut Vec<u8>,
-) {
-    let mut part = Vec::new(rt.alloc());
-    read_part(rt, names, cursor, &mut part);
-    change_part(rt.alloc(), cursor, &mut part);
+fn add_part(alloc: Global, names: Names<'_>, cursor: &mut Cursor<'_>, bytes: &mut Vec<u8>) {
+    let mut part = Vec::new(alloc);
+    read_part(alloc, names, cursor, &mut part);
+    change_part(alloc, cursor, &mut part);
     cursor.keep(bytes.extend_from_slice(&part).is_ok());
 }
 
 /// The bytes that are all that is left of a line.
-pub fn read_bytes<R: Files + AllocGlobal>(
-    rt: &R,
-    names: Names<'_>,
-    cursor: &mut Cursor<'_>,
-) -> Vec<u8> {
-    let mut bytes = Vec::new(rt.alloc());
+pub fn read_bytes(alloc: Global, names: Names<'_>, cursor: &mut Cursor<'_>) -> Vec<u8> {
+    let mut bytes = Vec::new(alloc);
     for _part in 0..=cursor.rest().len() {
-        add_part(rt, names, cursor, &mut bytes);
+        add_part(alloc, names, cursor, &mut bytes);
         if !cursor.eat(b" + ") {
             break;
         }
@@ -263,12 +239,8 @@ pub fn read_bytes<R: Files + AllocGlobal>(
 }
 
 /// The bytes behind an equals sign, which end the line.
-pub fn bytes_behind<R: Files + AllocGlobal>(
-    rt: &R,
-    names: Names<'_>,
-    cursor: &mut Cursor<'_>,
-) -> Vec<u8> {
+pub fn bytes_behind(alloc: Global, names: Names<'_>, cursor: &mut Cursor<'_>) -> Vec<u8> {
     let is_there = cursor.eat(b" = ");
     cursor.want(is_there, "no ` = `");
-    read_bytes(rt, names, cursor)
+    read_bytes(alloc, names, cursor)
 }

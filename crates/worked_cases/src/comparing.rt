@@ -301,7 +301,7 @@ fn compare_status(wanted: &Wanted, status: u8, differences: &mut Differences<'_>
 }
 
 /// Tells all in which what came of a run differs from what was wanted.
-pub fn compare(scene: &Scene, came: &Came<'_>, differences: &mut Differences<'_>) {
+pub fn compare(scene: &Scene<'_>, came: &Came<'_>, differences: &mut Differences<'_>) {
     let (wanted, before) = (&scene.wanted, scene.files.as_slice());
     compare_status(wanted, came.status, differences);
     differences.want_bytes(wanted.run, "said", &wanted.said, came.said);

@@ -1,31 +1,13 @@
 //! Files of cases: each case goes for all that its lines `for` say.
-use crate::cursor::NO_MEMORY;
+use crate::cursor::{Cursor, NO_MEMORY};
 use crate::differences::{Differences, Place};
 use crate::loops::{Bound, bind_all, first_turns, go_on_before};
 use crate::named::Named;
 use crate::scene::Scene;
 use crate::steps::{Lines, go, is_empty, read_setting};
+use crate::tally::Tally;
 use std::alloc::Global;
-use std::fs;
-use std::rt::Files;
 use std::thread::Threads;
-
-/// How many cases went, and how many of them differ.
-#[derive(Clone, Copy)]
-pub struct Tally {
-    pub cases: u64,
-    pub differ: u64,
-}
-
-impl Tally {
-    // Counts a case that went.
-    fn count(&mut self, differences: u64) {
-        self.cases = self.cases.saturating_add(1);
-        if differences > 0 {
-            self.differ = self.differ.saturating_add(1);
-        }
-    }
-}
 
 /// A case: its file, its name and its lines.
 #[derive(Clone, Copy)]
@@ -38,20 +20,13 @@ struct Case<'a> {
 // How often lines `for` may go, and end one behind the other.
 const MOST_TURNS: u64 = 100_000_000;
 
-// Says what differs, and counts a case.
-fn say<R: Print>(rt: &R, differences: &Differences<'_>, tally: &mut Tally) {
-    if differences.count() > 0 {
-        let _ = rt.print(differences.text());
-    }
-    tally.count(differences.count());
-}
-
 // A case goes for these values. What was made for it is taken away then.
-fn go_once<R: Files + Print + AllocGlobal + Threads + Sync>(
+fn go_once<R: Threads + Sync>(
     rt: &R,
+    alloc: Global,
     case: Case<'_>,
     values: &[Named],
-    scene: &mut Scene,
+    scene: &mut Scene<'_>,
     tally: &mut Tally,
 ) {
     let place = Place {
@@ -59,27 +34,28 @@ fn go_once<R: Files + Print + AllocGlobal + Threads + Sync>(
         case: case.name,
         values,
     };
-    let mut differences = Differences::none(rt.alloc(), place);
+    let mut differences = Differences::none(alloc, place);
     let shared = scene.lets.len();
-    go(rt, case.lines, values, scene, &mut differences);
-    scene.clear(rt.alloc(), shared);
-    say(rt, &differences, tally);
+    go(rt, alloc, case.lines, values, scene, &mut differences);
+    scene.clear(alloc, shared);
+    tally.add(&differences);
 }
 
 // Goes by all values of a case, from these turns on, and answers why it can't.
-fn go_by_values<R: Files + Print + AllocGlobal + Threads + Sync>(
+fn go_by_values<R: Threads + Sync>(
     rt: &R,
+    alloc: Global,
     case: Case<'_>,
-    scene: &mut Scene,
+    scene: &mut Scene<'_>,
     tally: &mut Tally,
     turns: &mut [u64],
     values: &mut Vec<Named>,
 ) -> Option<&'static str> {
     for _turn in 0..MOST_TURNS {
         values.clear();
-        let (level, bound) = bind_all(rt.alloc(), case.lines.lines, turns, values);
+        let (level, bound) = bind_all(alloc, case.lines.lines, turns, values);
         match bound {
-            Bound::Done => go_once(rt, case, values, scene, tally),
+            Bound::Done => go_once(rt, alloc, case, values, scene, tally),
             Bound::Past => {}
             Bound::Wrong(why) => return Some(why),
         }
@@ -91,50 +67,45 @@ fn go_by_values<R: Files + Print + AllocGlobal + Threads + Sync>(
 }
 
 // The same from the first on.
-fn go_from_first<R: Files + Print + AllocGlobal + Threads + Sync>(
+fn go_from_first<R: Threads + Sync>(
     rt: &R,
+    alloc: Global,
     case: Case<'_>,
-    scene: &mut Scene,
+    scene: &mut Scene<'_>,
     tally: &mut Tally,
 ) -> Option<&'static str> {
-    let mut values = Vec::new(rt.alloc());
-    match first_turns(rt.alloc(), case.lines.lines) {
-        Some(mut turns) => go_by_values(rt, case, scene, tally, &mut turns, &mut values),
+    let mut values = Vec::new(alloc);
+    match first_turns(alloc, case.lines.lines) {
+        Some(mut turns) => go_by_values(rt, alloc, case, scene, tally, &mut turns, &mut values),
         None => Some(NO_MEMORY),
     }
 }
 
 // Says that something of a file isn't understood, and counts it as a case that differs.
-fn tell<R: Print + AllocGlobal>(
-    rt: &R,
-    file: &str,
-    name: &[u8],
-    line: usize,
-    why: &str,
-    tally: &mut Tally,
-) {
+fn tell(alloc: Global, file: &str, name: &[u8], line: usize, why: &str, tally: &mut Tally) {
     let place = Place {
         file,
         case: name,
         values: &[],
     };
-    let mut differences = Differences::none(rt.alloc(), place);
+    let mut differences = Differences::none(alloc, place);
     differences.tell(line, why);
-    say(rt, &differences, tally);
+    tally.add(&differences);
 }
 
 // Goes by a case. One that goes for nothing isn't understood.
-fn go_by_case<R: Files + Print + AllocGlobal + Threads + Sync>(
+fn go_by_case<R: Threads + Sync>(
     rt: &R,
+    alloc: Global,
     case: Case<'_>,
-    scene: &mut Scene,
+    scene: &mut Scene<'_>,
     tally: &mut Tally,
 ) {
     let before = tally.cases;
-    let wrong = go_from_first(rt, case, scene, tally);
+    let wrong = go_from_first(rt, alloc, case, scene, tally);
     let nothing = (tally.cases == before).then_some("a case that goes for nothing");
     if let Some(why) = wrong.or(nothing) {
-        tell(rt, case.file, case.name, case.lines.first, why, tally);
+        tell(alloc, case.file, case.name, case.lines.first, why, tally);
     }
 }
 
@@ -159,28 +130,24 @@ fn up_to_case(lines: Lines<'_>) -> Lines<'_> {
 }
 
 // Takes in a line before the first case, and answers what is wrong with it.
-fn read_shared<R: Files + AllocGlobal>(
-    rt: &R,
-    line: &[u8],
-    scene: &mut Scene,
-) -> Option<&'static str> {
+fn read_shared(alloc: Global, line: &[u8], scene: &mut Scene<'_>) -> Option<&'static str> {
     if is_empty(line) {
         None
     } else if line.starts_with(b"let ") {
-        read_setting(rt, line, scene)
+        read_setting(alloc, line, scene)
     } else {
         Some("no case begins before it")
     }
 }
 
 // Takes in the lines before the first case: names that hold in all of them. It answers what is wrong, and in which line.
-fn read_front<R: Files + AllocGlobal>(
-    rt: &R,
+fn read_front(
+    alloc: Global,
     front: Lines<'_>,
-    scene: &mut Scene,
+    scene: &mut Scene<'_>,
 ) -> Option<(usize, &'static str)> {
     for (offset, line) in front.lines.iter().enumerate() {
-        if let Some(why) = read_shared(rt, line, scene) {
+        if let Some(why) = read_shared(alloc, line, scene) {
             return Some((front.first.saturating_add(offset), why));
         }
     }
@@ -188,77 +155,72 @@ fn read_front<R: Files + AllocGlobal>(
 }
 
 // Goes by the cases of lines, behind the front.
-fn go_by_cases<R: Files + Print + AllocGlobal + Threads + Sync>(
+fn go_by_cases<R: Threads + Sync>(
     rt: &R,
+    alloc: Global,
     file: &str,
     all: Lines<'_>,
-    scene: &mut Scene,
+    scene: &mut Scene<'_>,
     tally: &mut Tally,
 ) {
     for (place, line) in all.lines.iter().enumerate() {
         if let Some(name) = name_of(line) {
             let lines = up_to_case(all.behind(place));
-            go_by_case(rt, Case { file, name, lines }, scene, tally);
+            go_by_case(rt, alloc, Case { file, name, lines }, scene, tally);
         }
     }
 }
 
 // Goes by all lines of a file, over a scene with nothing.
-fn go_by_lines<R: Files + Print + AllocGlobal + Threads + Sync>(
+fn go_by_lines<R: Threads + Sync>(
     rt: &R,
+    alloc: Global,
     file: &str,
     all: Lines<'_>,
-    scene: &mut Scene,
+    scene: &mut Scene<'_>,
     tally: &mut Tally,
 ) {
-    match read_front(rt, up_to_case(all), scene) {
-        Some((line, why)) => tell(rt, file, b"", line, why, tally),
-        None => go_by_cases(rt, file, all, scene, tally),
+    match read_front(alloc, up_to_case(all), scene) {
+        Some((line, why)) => tell(alloc, file, b"", line, why, tally),
+        None => go_by_cases(rt, alloc, file, all, scene, tally),
     }
     if tally.cases == 0 {
-        tell(rt, file, b"", 1, "a file without a case", tally);
+        tell(alloc, file, b"", 1, "a file without a case", tally);
     }
 }
 
 // The lines of a text, or nothing where there was no memory.
 fn lines_of(alloc: Global, text: &[u8]) -> Option<Vec<&[u8]>> {
     let mut lines = Vec::new(alloc);
+    let mut cursor = Cursor::of(text);
     let mut are_kept = true;
-    for line in text.split(|byte| *byte == b'\n') {
-        are_kept &= lines.push(line).is_ok();
+    for _line in 0..=text.len() {
+        are_kept &= lines.push(cursor.until(b"\n")).is_ok();
+        if !cursor.eat(b"\n") {
+            break;
+        }
     }
     are_kept.then_some(lines)
 }
 
-// Goes by all cases of a text.
-fn go_by_text<R: Files + Print + AllocGlobal + Threads + Sync>(
+/// Goes by all cases of the text of a file, over the files that the program was given, and counts them.
+pub fn go_by_text<R: Threads + Sync>(
     rt: &R,
+    alloc: Global,
     file: &str,
     text: &[u8],
+    given: &[Named],
     tally: &mut Tally,
 ) {
-    match lines_of(rt.alloc(), text) {
+    match lines_of(alloc, text) {
         Some(lines) => {
             let all = Lines {
                 first: 1,
                 lines: &lines,
             };
-            let mut scene = Scene::empty(rt.alloc());
-            go_by_lines(rt, file, all, &mut scene, tally);
+            let mut scene = Scene::empty(alloc, given);
+            go_by_lines(rt, alloc, file, all, &mut scene, tally);
         }
-        None => tell(rt, file, b"", 0, NO_MEMORY, tally),
+        None => tell(alloc, file, b"", 0, NO_MEMORY, tally),
     }
-}
-
-/// Goes by all cases of a file, and says what differs.
-pub fn go_by_file<R: Files + Print + AllocGlobal + Threads + Sync>(rt: &R, file: &str) -> Tally {
-    let mut tally = Tally {
-        cases: 0,
-        differ: 0,
-    };
-    match fs::read(rt, file) {
-        Ok(text) => go_by_text(rt, file, &text, &mut tally),
-        Err(_) => tell(rt, file, b"", 0, "no such file", &mut tally),
-    }
-    tally
 }

@@ -1,8 +1,8 @@
 //! Cases, told as data: what `lif` does over a store, a sink and links in memory, and all that comes of it.
 //!
-//! docs/CASES.md says how they are written. The words are the names of files of cases. Each file's cases are done, what
-//! differs is said in a line each, and then how many there were. Nothing is promised here but that all calls return: what
-//! the cases show is tested. Begin with `go_by_file` in src/files.rt; a run and what comes of it are in src/running.rt and
+//! docs/CASES.md says how they are written. The words are the names of files: of those whose bytes cases name, and then of
+//! files of cases. Each such file's cases are done, what differs is said in a line each, and then how many there were. Nothing is promised here but that all calls return: what
+//! the cases show is tested. Begin with `go_by_text` in src/files.rt; a run and what comes of it are in src/running.rt and
 //! src/comparing.rt.
 #![tactic(auto)]
 
@@ -17,23 +17,51 @@ mod named;
 mod running;
 mod scene;
 mod steps;
+mod tally;
 mod wanted;
 
-use files::go_by_file;
-use std::rt::Files;
+use files::go_by_text;
+use named::Named;
+use std::alloc::{AllocError, Global};
 use std::thread::Threads;
-use std::{env, io};
+use std::{env, fs, io};
+use tally::Tally;
 
-// Goes by the cases of a file, and says how many there were.
-fn go<R: Files + Print + AllocGlobal + Threads + Sync>(rt: &R, file: &str) -> io::Result<()> {
-    let tally = go_by_file(rt, file);
-    let (cases, differ) = (tally.cases, tally.differ);
-    println!(rt; "{file}: {cases} cases, {differ} differ")
+// Keeps the bytes of a file.
+fn keep(
+    alloc: Global,
+    file: &str,
+    bytes: Vec<u8>,
+    given: &mut Vec<Named>,
+) -> Result<(), AllocError> {
+    let name = Vec::from_slice(alloc, file.as_bytes())?;
+    given.push(Named { name, bytes })?;
+    Ok(())
+}
+
+// Goes by the cases of a file, and says what differs, and how many there were.
+fn go<R: Print + AllocGlobal + Threads + Sync>(
+    rt: &R,
+    file: &str,
+    text: &[u8],
+    given: &[Named],
+) -> io::Result<()> {
+    let mut tally = Tally::none(rt.alloc());
+    go_by_text(rt, rt.alloc(), file, text, given, &mut tally);
+    let (told, cases, differ) = (tally.text(), tally.cases, tally.differ);
+    println!(rt; "{told}{file}: {cases} cases, {differ} differ")
 }
 
 fn main(rt: HostRuntime) -> io::Result<()> {
-    for file in env::args(&rt)?.skip(1) {
-        go(&rt, file.as_str())?;
+    let mut given = Vec::new(rt.alloc());
+    for word in env::args(&rt)?.skip(1) {
+        let file = word.as_str();
+        let bytes = fs::read(&rt, file)?;
+        if file.ends_with(".cases") {
+            go(&rt, file, &bytes, &given)?;
+        } else {
+            keep(rt.alloc(), file, bytes, &mut given)?;
+        }
     }
     Ok(())
 }

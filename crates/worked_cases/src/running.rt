@@ -31,21 +31,20 @@ fn may_carry(words: &[String]) -> bool {
 }
 
 // Runs over links, and compares what comes.
-fn run_over<R: AllocGlobal + Threads + Sync, K: Links>(
+fn run_over<R: Threads + Sync, K: Links>(
     rt: &R,
-    words: &[String],
-    scene: &Scene,
+    alloc: Global,
+    scene: &Scene<'_>,
     outside: &mut Outside,
     links: &mut Watched<K>,
     differences: &mut Differences<'_>,
 )
     requires { K.flying links.old.links ≡ [] }
 {
-    let alloc = rt.alloc();
     let status = lif(
         rt,
         alloc,
-        words,
+        &scene.words,
         &mut outside.store,
         &mut outside.say,
         links,
@@ -58,7 +57,7 @@ fn run_over<R: AllocGlobal + Threads + Sync, K: Links>(
         log: outside.store.log(),
         is_logged: outside.store.is_whole(),
         calls: &links.calls,
-        may_carry: may_carry(words),
+        may_carry: may_carry(&scene.words),
     };
     compare(scene, &came, differences);
 }
@@ -78,17 +77,17 @@ fn listed(alloc: Global, trouble: &Trouble) -> Option<ListLinks>
 }
 
 // Runs over links that go by a list.
-fn run_listed<R: AllocGlobal + Threads + Sync>(
+fn run_listed<R: Threads + Sync>(
     rt: &R,
-    words: &[String],
-    scene: &Scene,
+    alloc: Global,
+    scene: &Scene<'_>,
     outside: &mut Outside,
     differences: &mut Differences<'_>,
 ) -> Option<&'static str> {
-    match listed(rt.alloc(), &scene.trouble) {
+    match listed(alloc, &scene.trouble) {
         Some(links) => {
-            let mut links = watch(rt.alloc(), links);
-            run_over(rt, words, scene, outside, &mut links, differences);
+            let mut links = watch(alloc, links);
+            run_over(rt, alloc, scene, outside, &mut links, differences);
             None
         }
         None => Some("links can't go so"),
@@ -96,29 +95,29 @@ fn run_listed<R: AllocGlobal + Threads + Sync>(
 }
 
 // Runs over links that go by the seed.
-fn run_seeded<R: AllocGlobal + Threads + Sync>(
+fn run_seeded<R: Threads + Sync>(
     rt: &R,
-    words: &[String],
-    scene: &Scene,
+    alloc: Global,
+    scene: &Scene<'_>,
     outside: &mut Outside,
     differences: &mut Differences<'_>,
 ) {
-    let mut links = watch(rt.alloc(), SeedLinks::new(rt.alloc()));
-    run_over(rt, words, scene, outside, &mut links, differences);
+    let mut links = watch(alloc, SeedLinks::new(alloc));
+    run_over(rt, alloc, scene, outside, &mut links, differences);
 }
 
 // Runs over the links that are told.
-fn run_with<R: AllocGlobal + Threads + Sync>(
+fn run_with<R: Threads + Sync>(
     rt: &R,
-    words: &[String],
-    scene: &Scene,
+    alloc: Global,
+    scene: &Scene<'_>,
     outside: &mut Outside,
     differences: &mut Differences<'_>,
 ) -> Option<&'static str> {
     if scene.trouble.is_listed {
-        run_listed(rt, words, scene, outside, differences)
+        run_listed(rt, alloc, scene, outside, differences)
     } else {
-        run_seeded(rt, words, scene, outside, differences);
+        run_seeded(rt, alloc, scene, outside, differences);
         None
     }
 }
@@ -136,19 +135,19 @@ fn put_files(alloc: Global, files: &[Named], store: &mut MemStore) -> bool {
 }
 
 // A store without files, of which the calls fail that are told.
-fn empty_store(alloc: Global, scene: &Scene) -> Option<MemStore> {
+fn empty_store(alloc: Global, scene: &Scene<'_>) -> Option<MemStore> {
     let fails = Vec::from_slice(alloc, &scene.trouble.fails).ok()?;
     Some(MemStore::new(alloc, scene.trouble.most.max(1), fails))
 }
 
 // A store with the files of a case.
-fn store_of(alloc: Global, scene: &Scene) -> Option<MemStore> {
+fn store_of(alloc: Global, scene: &Scene<'_>) -> Option<MemStore> {
     let mut store = empty_store(alloc, scene)?;
     put_files(alloc, &scene.files, &mut store).then_some(store)
 }
 
 // A sink of which the puts fail that are told.
-fn sink_of(alloc: Global, scene: &Scene) -> Option<MemSink> {
+fn sink_of(alloc: Global, scene: &Scene<'_>) -> Option<MemSink> {
     match Vec::from_slice(alloc, &scene.trouble.say_fails) {
         Ok(fails) => Some(MemSink::new(alloc, fails)),
         Err(_) => None,
@@ -192,24 +191,24 @@ fn note_files(
 }
 
 // A store and a sink for a scene.
-fn outside_of(alloc: Global, scene: &Scene) -> Option<Outside> {
+fn outside_of(alloc: Global, scene: &Scene<'_>) -> Option<Outside> {
     let store = Logged::new(alloc, store_of(alloc, scene)?);
     let say = sink_of(alloc, scene)?;
     Some(Outside { store, say })
 }
 
 /// Runs `lif` in a scene, tells what differs, and notes the files that stand there then. It answers why it can't.
-pub fn carry_out<R: AllocGlobal + Threads + Sync>(
+pub fn carry_out<R: Threads + Sync>(
     rt: &R,
-    words: &[String],
-    scene: &Scene,
+    alloc: Global,
+    scene: &Scene<'_>,
     files: &mut Vec<Named>,
     differences: &mut Differences<'_>,
 ) -> Option<&'static str> {
-    match outside_of(rt.alloc(), scene) {
+    match outside_of(alloc, scene) {
         Some(mut outside) => {
-            let stopped = run_with(rt, words, scene, &mut outside, differences);
-            let are_noted = note_files(rt.alloc(), &scene.files, &outside.store, files);
+            let stopped = run_with(rt, alloc, scene, &mut outside, differences);
+            let are_noted = note_files(alloc, &scene.files, &outside.store, files);
             stopped.or((!are_noted).then_some(NO_MEMORY))
         }
         None => Some("a path that isn't text, or no memory for the files"),

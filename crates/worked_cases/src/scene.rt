@@ -46,22 +46,27 @@ impl Trouble {
     }
 }
 
-/// What a case has before a run, and what is to come of it.
+/// What a case has before a run, with the files that the program was given; the words of the run, and what is to
+/// come of it.
 #[derive(Drop)]
-pub struct Scene {
+pub struct Scene<'a> {
+    pub given: &'a [Named],
     pub lets: Vec<Named>,
     pub files: Vec<Named>,
     pub trouble: Trouble,
+    pub words: Vec<String>,
     pub wanted: Wanted,
 }
 
-impl Scene {
+impl<'a> Scene<'a> {
     /// Nothing.
-    pub fn empty(alloc: Global) -> Scene {
+    pub fn empty(alloc: Global, given: &'a [Named]) -> Scene<'a> {
         Scene {
+            given,
             lets: Vec::new(alloc),
             files: Vec::new(alloc),
             trouble: Trouble::none(alloc),
+            words: Vec::new(alloc),
             wanted: Wanted::nothing(alloc, 0),
         }
     }
@@ -71,6 +76,7 @@ impl Scene {
         Names {
             lets: self.lets.as_slice(),
             files: self.files.as_slice(),
+            given: self.given,
         }
     }
 

@@ -9,7 +9,6 @@ use crate::running::carry_out;
 use crate::scene::{Scene, Trouble, read_trouble};
 use crate::wanted::{Wanted, add_wanted, is_wanted};
 use std::alloc::Global;
-use std::rt::Files;
 use std::thread::Threads;
 
 /// Lines of a file, of which the first has this number.
@@ -36,39 +35,35 @@ pub fn is_empty(line: &[u8]) -> bool {
 }
 
 // Takes in a line `let`, behind that word.
-fn read_let<R: Files + AllocGlobal>(rt: &R, cursor: &mut Cursor<'_>, scene: &mut Scene) {
-    let name = cursor.word(rt.alloc());
-    let bytes = bytes_behind(rt, scene.names(), cursor);
-    cursor.keep(add(rt.alloc(), &mut scene.lets, &name, bytes));
+fn read_let(alloc: Global, cursor: &mut Cursor<'_>, scene: &mut Scene<'_>) {
+    let name = cursor.word(alloc);
+    let bytes = bytes_behind(alloc, scene.names(), cursor);
+    cursor.keep(add(alloc, &mut scene.lets, &name, bytes));
 }
 
 // Takes in a line `given`, behind that word.
-fn read_given<R: Files + AllocGlobal>(rt: &R, cursor: &mut Cursor<'_>, scene: &mut Scene) {
-    let path = cursor.word(rt.alloc());
-    let bytes = bytes_behind(rt, scene.names(), cursor);
+fn read_given(alloc: Global, cursor: &mut Cursor<'_>, scene: &mut Scene<'_>) {
+    let path = cursor.word(alloc);
+    let bytes = bytes_behind(alloc, scene.names(), cursor);
     remove(&mut scene.files, &path);
-    cursor.keep(add(rt.alloc(), &mut scene.files, &path, bytes));
+    cursor.keep(add(alloc, &mut scene.files, &path, bytes));
 }
 
 // Takes in a line `gone`, behind that word.
-fn take_away(alloc: Global, cursor: &mut Cursor<'_>, scene: &mut Scene) {
+fn take_away(alloc: Global, cursor: &mut Cursor<'_>, scene: &mut Scene<'_>) {
     let path = cursor.word(alloc);
     cursor.end();
     remove(&mut scene.files, &path);
 }
 
 /// Takes in a line that stands before a run, and answers what is wrong with it.
-pub fn read_setting<R: Files + AllocGlobal>(
-    rt: &R,
-    line: &[u8],
-    scene: &mut Scene,
-) -> Option<&'static str> {
+pub fn read_setting(alloc: Global, line: &[u8], scene: &mut Scene<'_>) -> Option<&'static str> {
     let mut cursor = Cursor::of(line);
     match cursor.keyword() {
-        "let " => read_let(rt, &mut cursor, scene),
-        "given " => read_given(rt, &mut cursor, scene),
-        "gone " => take_away(rt.alloc(), &mut cursor, scene),
-        word => read_trouble(rt.alloc(), word, &mut cursor, &mut scene.trouble),
+        "let " => read_let(alloc, &mut cursor, scene),
+        "given " => read_given(alloc, &mut cursor, scene),
+        "gone " => take_away(alloc, &mut cursor, scene),
+        word => read_trouble(alloc, word, &mut cursor, &mut scene.trouble),
     }
     cursor.wrong()
 }
@@ -81,51 +76,55 @@ fn add_word(cursor: &mut Cursor<'_>, word: Vec<u8>, words: &mut Vec<String>) {
     }
 }
 
-// Adds the words of a line.
-fn add_words(alloc: Global, cursor: &mut Cursor<'_>, words: &mut Vec<String>) {
-    for _word in 0..=cursor.rest().len() {
-        let word = cursor.word(alloc);
-        add_word(cursor, word, words);
+// Takes in a line `run`, and answers what is wrong with it.
+fn read_words(alloc: Global, line: &[u8], words: &mut Vec<String>) -> Option<&'static str> {
+    let mut cursor = Cursor::of(line);
+    cursor.eat(b"run");
+    for _word in 0..line.len() {
         if !cursor.eat(b" ") {
             break;
         }
+        let word = cursor.word(alloc);
+        add_word(&mut cursor, word, words);
     }
     cursor.end();
+    cursor.wrong()
 }
 
 // Takes in a line that tells what is to come of a run, and answers what is wrong with it.
-fn read_filled<R: Files + AllocGlobal>(
-    rt: &R,
+fn read_told(
+    alloc: Global,
     line: &[u8],
     number: usize,
     values: &[Named],
-    scene: &mut Scene,
+    scene: &mut Scene<'_>,
 ) -> Option<&'static str> {
-    let mut filled = Vec::new(rt.alloc());
-    match fill_line(rt.alloc(), line, values, &mut filled) {
+    let mut filled = Vec::new(alloc);
+    match fill_line(alloc, line, values, &mut filled) {
         Some(why) => Some(why),
         None => {
             let names = Names {
                 lets: &scene.lets,
                 files: &scene.files,
+                given: scene.given,
             };
-            add_wanted(rt, names, number, &filled, &mut scene.wanted)
+            add_wanted(alloc, names, number, &filled, &mut scene.wanted)
         }
     }
 }
 
 // Takes in all that is to come of a run from the lines behind it, and answers whether it is understood.
-fn read_wanted<R: Files + AllocGlobal>(
-    rt: &R,
+fn read_wanted(
+    alloc: Global,
     behind: Lines<'_>,
     values: &[Named],
-    scene: &mut Scene,
+    scene: &mut Scene<'_>,
     differences: &mut Differences<'_>,
 ) -> bool {
     for (offset, line) in behind.lines.iter().enumerate() {
         if is_wanted(line) {
             let number = behind.first.saturating_add(offset);
-            let wrong = read_filled(rt, line, number, values, scene);
+            let wrong = read_told(alloc, line, number, values, scene);
             if !differences.pass(number, wrong) {
                 return false;
             }
@@ -136,91 +135,79 @@ fn read_wanted<R: Files + AllocGlobal>(
     true
 }
 
-// Runs with these words, and keeps the files that stand there then.
-fn run_words<R: AllocGlobal + Threads + Sync>(
-    rt: &R,
-    words: &[String],
-    scene: &mut Scene,
-    differences: &mut Differences<'_>,
-) -> Option<&'static str> {
-    let mut files = Vec::new(rt.alloc());
-    let stopped = carry_out(rt, words, scene, &mut files, differences);
-    scene.files = files;
-    scene.trouble = Trouble::none(rt.alloc());
-    stopped
-}
-
-// Runs with the words behind `run`.
-fn run_line<R: AllocGlobal + Threads + Sync>(
-    rt: &R,
-    line: &[u8],
-    scene: &mut Scene,
-    differences: &mut Differences<'_>,
-) -> Option<&'static str> {
-    let mut words = Vec::new(rt.alloc());
-    let mut cursor = Cursor::of(line);
-    if cursor.eat(b"run ") {
-        add_words(rt.alloc(), &mut cursor, &mut words);
-    }
-    match cursor.wrong() {
-        Some(why) => Some(why),
-        None => run_words(rt, &words, scene, differences),
-    }
-}
-
-// Does a run, with what is told behind it.
-fn do_run<R: Files + AllocGlobal + Threads + Sync>(
-    rt: &R,
-    line: &[u8],
-    behind: Lines<'_>,
-    values: &[Named],
-    scene: &mut Scene,
-    differences: &mut Differences<'_>,
-) -> bool {
-    let number = behind.first.saturating_sub(1);
-    scene.wanted = Wanted::nothing(rt.alloc(), number);
-    if !read_wanted(rt, behind, values, scene, differences) {
-        return false;
-    }
-    let wrong = run_line(rt, line, scene, differences);
-    differences.pass(number, wrong)
-}
-
 // Whether a line begins a run.
 fn is_run(line: &[u8]) -> bool {
     line.starts_with(b"run ") || line.starts_with(b"run") && line.len() == 3
 }
 
-// Goes by a line of a case that is filled.
-fn go_by_filled<R: Files + AllocGlobal + Threads + Sync>(
-    rt: &R,
+// What comes of a line.
+#[derive(Clone, Copy)]
+enum Read {
+    /// It is taken in.
+    Done,
+    /// It is a run, and what is to come of it is taken in.
+    Run,
+    /// It isn't understood.
+    Wrong,
+}
+
+// Takes in a run with what is told behind it, and answers whether it is understood.
+fn read_run(
+    alloc: Global,
     line: &[u8],
     behind: Lines<'_>,
     values: &[Named],
-    scene: &mut Scene,
+    scene: &mut Scene<'_>,
     differences: &mut Differences<'_>,
 ) -> bool {
+    let number = behind.first.saturating_sub(1);
+    scene.wanted = Wanted::nothing(alloc, number);
+    scene.words.clear();
+    let wrong = read_words(alloc, line, &mut scene.words);
+    read_wanted(alloc, behind, values, scene, differences) && differences.pass(number, wrong)
+}
+
+// Takes in a line that is filled.
+fn read_filled(
+    alloc: Global,
+    line: &[u8],
+    behind: Lines<'_>,
+    values: &[Named],
+    scene: &mut Scene<'_>,
+    differences: &mut Differences<'_>,
+) -> Read {
     if is_run(line) {
-        do_run(rt, line, behind, values, scene, differences)
+        if read_run(alloc, line, behind, values, scene, differences) {
+            Read::Run
+        } else {
+            Read::Wrong
+        }
     } else {
-        let wrong = read_setting(rt, line, scene);
-        differences.pass(behind.first.saturating_sub(1), wrong)
+        let wrong = read_setting(alloc, line, scene);
+        if differences.pass(behind.first.saturating_sub(1), wrong) {
+            Read::Done
+        } else {
+            Read::Wrong
+        }
     }
 }
 
-// Goes by a line that isn't empty, isn't of a `for` and tells nothing of a run.
-fn go_by_line<R: Files + AllocGlobal + Threads + Sync>(
-    rt: &R,
+// Takes in a line that isn't empty, isn't of a `for` and tells nothing of a run.
+fn read_line(
+    alloc: Global,
     line: &[u8],
     behind: Lines<'_>,
     values: &[Named],
-    scene: &mut Scene,
+    scene: &mut Scene<'_>,
     differences: &mut Differences<'_>,
-) -> bool {
-    let mut filled = Vec::new(rt.alloc());
-    let wrong = fill_line(rt.alloc(), line, values, &mut filled);
-    differences.pass(behind.first.saturating_sub(1), wrong)
-        && go_by_filled(rt, &filled, behind, values, scene, differences)
+) -> Read {
+    let mut filled = Vec::new(alloc);
+    let wrong = fill_line(alloc, line, values, &mut filled);
+    if differences.pass(behind.first.saturating_sub(1), wrong) {
+        read_filled(alloc, &filled, behind, values, scene, differences)
+    } else {
+        Read::Wrong
+    }
 }
 
 // What a line of a case is for.
@@ -277,32 +264,65 @@ fn is_in_order(case: Lines<'_>, differences: &mut Differences<'_>) -> bool {
     has_run
 }
 
-// Goes by the lines of a case, each of which stands where it may.
-fn go_by_lines<R: Files + AllocGlobal + Threads + Sync>(
-    rt: &R,
-    case: Lines<'_>,
+// Takes in lines up to the next run and what is told behind it, and goes past it. It answers whether there is one and all
+// is understood.
+fn read_on(
+    alloc: Global,
+    lines: &mut Lines<'_>,
     values: &[Named],
-    scene: &mut Scene,
+    scene: &mut Scene<'_>,
     differences: &mut Differences<'_>,
-) {
-    for (place, line) in case.lines.iter().enumerate() {
-        if matches!(kind_of(line), Kind::Run | Kind::Setting)
-            && !go_by_line(rt, line, case.behind(place), values, scene, differences)
-        {
-            return;
+) -> bool {
+    let left = *lines;
+    for (place, line) in left.lines.iter().enumerate() {
+        if matches!(kind_of(line), Kind::Run | Kind::Setting) {
+            *lines = left.behind(place);
+            match read_line(alloc, line, *lines, values, scene, differences) {
+                Read::Done => {}
+                Read::Run => return true,
+                Read::Wrong => return false,
+            }
         }
     }
+    false
+}
+
+// Keeps the files that stand there behind a run. No call fails then, and links go by the seed.
+fn settle(alloc: Global, files: Vec<Named>, scene: &mut Scene<'_>) {
+    scene.files = files;
+    scene.trouble = Trouble::none(alloc);
+}
+
+// Does the run that was taken in, and answers whether it could.
+fn do_run<R: Threads + Sync>(
+    rt: &R,
+    alloc: Global,
+    scene: &mut Scene<'_>,
+    differences: &mut Differences<'_>,
+) -> bool {
+    let mut files = Vec::new(alloc);
+    let stopped = carry_out(rt, alloc, scene, &mut files, differences);
+    settle(alloc, files, scene);
+    differences.pass(scene.wanted.run, stopped)
 }
 
 /// Goes by the lines of a case, for these values.
-pub fn go<R: Files + AllocGlobal + Threads + Sync>(
+pub fn go<R: Threads + Sync>(
     rt: &R,
+    alloc: Global,
     case: Lines<'_>,
     values: &[Named],
-    scene: &mut Scene,
+    scene: &mut Scene<'_>,
     differences: &mut Differences<'_>,
 ) {
+    let mut lines = case;
     if is_in_order(case, differences) {
-        go_by_lines(rt, case, values, scene, differences);
+        for _run in case.lines {
+            if !read_on(alloc, &mut lines, values, scene, differences)
+                || !do_run(rt, alloc, scene, differences)
+            {
+                break;
+            }
+        }
     }
 }

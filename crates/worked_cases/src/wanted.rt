@@ -3,7 +3,6 @@ use crate::bytes::{Names, bytes_behind};
 use crate::cursor::Cursor;
 use lif_outside::Call;
 use std::alloc::Global;
-use std::rt::Files;
 
 /// What is to stand at a path.
 #[derive(Clone, Copy)]
@@ -140,8 +139,8 @@ fn add_path(
 }
 
 // Adds a file with its bytes.
-fn add_file<R: Files + AllocGlobal>(
-    rt: &R,
+fn add_file(
+    alloc: Global,
     names: Names<'_>,
     line: usize,
     cursor: &mut Cursor<'_>,
@@ -149,9 +148,9 @@ fn add_file<R: Files + AllocGlobal>(
 ) {
     let file = WantedFile {
         line,
-        path: cursor.word(rt.alloc()),
+        path: cursor.word(alloc),
         content: Content::These,
-        bytes: bytes_behind(rt, names, cursor),
+        bytes: bytes_behind(alloc, names, cursor),
     };
     cursor.keep(files.push(file).is_ok());
 }
@@ -259,15 +258,15 @@ fn frame_in(alloc: Global, line: usize, cursor: &mut Cursor<'_>) -> WantedFrame 
 }
 
 // Adds the frame of a line, with zeros up to its whole payload.
-fn add_frame<R: Files + AllocGlobal>(
-    rt: &R,
+fn add_frame(
+    alloc: Global,
     names: Names<'_>,
     line: usize,
     cursor: &mut Cursor<'_>,
     frames: &mut Vec<WantedFrame>,
 ) {
-    let mut frame = frame_in(rt.alloc(), line, cursor);
-    frame.payload = bytes_behind(rt, names, cursor);
+    let mut frame = frame_in(alloc, line, cursor);
+    frame.payload = bytes_behind(alloc, names, cursor);
     cursor.want(
         frame.payload.len() <= 128,
         "a payload of more than 128 bytes",
@@ -295,8 +294,8 @@ fn add_told(
 }
 
 // Takes in a line on a file or a frame, behind its first word.
-fn add_content<R: Files + AllocGlobal>(
-    rt: &R,
+fn add_content(
+    alloc: Global,
     names: Names<'_>,
     line: usize,
     word: &str,
@@ -304,17 +303,17 @@ fn add_content<R: Files + AllocGlobal>(
     wanted: &mut Wanted,
 ) {
     match word {
-        "file " => add_file(rt, names, line, cursor, &mut wanted.files),
-        "made " => add_path(rt.alloc(), line, cursor, Content::Any, &mut wanted.files),
-        "none " => add_path(rt.alloc(), line, cursor, Content::NoFile, &mut wanted.files),
-        "frame " => add_frame(rt, names, line, cursor, &mut wanted.frames),
+        "file " => add_file(alloc, names, line, cursor, &mut wanted.files),
+        "made " => add_path(alloc, line, cursor, Content::Any, &mut wanted.files),
+        "none " => add_path(alloc, line, cursor, Content::NoFile, &mut wanted.files),
+        "frame " => add_frame(alloc, names, line, cursor, &mut wanted.frames),
         _ => cursor.note("no such line"),
     }
 }
 
 // Takes in a line that tells what is to come, behind its first word.
-fn add_by_word<R: Files + AllocGlobal>(
-    rt: &R,
+fn add_by_word(
+    alloc: Global,
     names: Names<'_>,
     line: usize,
     word: &str,
@@ -326,15 +325,15 @@ fn add_by_word<R: Files + AllocGlobal>(
         "says " => add_line(cursor, &mut wanted.said),
         _ => {
             if !add_told(line, word, cursor, &mut wanted.numbers) {
-                add_content(rt, names, line, word, cursor, wanted);
+                add_content(alloc, names, line, word, cursor, wanted);
             }
         }
     }
 }
 
 /// Takes in a line that tells what is to come, and answers what is wrong with it.
-pub fn add_wanted<R: Files + AllocGlobal>(
-    rt: &R,
+pub fn add_wanted(
+    alloc: Global,
     names: Names<'_>,
     line: usize,
     text: &[u8],
@@ -342,10 +341,10 @@ pub fn add_wanted<R: Files + AllocGlobal>(
 ) -> Option<&'static str> {
     let mut cursor = Cursor::of(text);
     if cursor.eat(b"said") {
-        wanted.said = bytes_behind(rt, names, &mut cursor);
+        wanted.said = bytes_behind(alloc, names, &mut cursor);
     } else {
         let word = cursor.keyword();
-        add_by_word(rt, names, line, word, &mut cursor, wanted);
+        add_by_word(alloc, names, line, word, &mut cursor, wanted);
     }
     cursor.wrong()
 }
