@@ -1,8 +1,8 @@
 //! What came of a run beside what was wanted.
-use crate::differences::Differences;
-use crate::named::{Named, found};
-use crate::scene::{Scene, Trouble};
-use crate::wanted::{Content, Number, Wanted, WantedFile, WantedFrame, WantedNumber};
+use case_reader::differences::Differences;
+use case_reader::named::{Named, found};
+use case_reader::scene::{Scene, Trouble};
+use case_reader::wanted::{Content, Number, Wanted, WantedFile, WantedFrame, WantedNumber};
 use lif_outside::{Call, Flight, MemStore};
 use logged_store::Event;
 use test_support::watched::Calls;

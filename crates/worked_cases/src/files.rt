@@ -1,11 +1,12 @@
 //! Files of cases: each case goes for all that its lines `for` say.
-use crate::cursor::{Cursor, NO_MEMORY};
-use crate::differences::{Differences, Place};
-use crate::loops::{Bound, bind_all, first_turns, go_on_before};
-use crate::named::Named;
-use crate::scene::Scene;
-use crate::steps::{Lines, go, is_empty, read_setting};
-use crate::tally::Tally;
+use crate::steps::go;
+use case_reader::cursor::{Cursor, NO_MEMORY};
+use case_reader::differences::{Differences, Place};
+use case_reader::loops::{Bound, bind_all, first_turns, go_on_before};
+use case_reader::named::Named;
+use case_reader::reading::{Lines, is_empty, read_setting};
+use case_reader::scene::Scene;
+use case_reader::tally::Tally;
 use std::alloc::Global;
 use std::thread::Threads;
 

@@ -1,31 +1,22 @@
 //! Cases, told as data: what `lif` does over a store, a sink and links in memory, and all that comes of it.
 //!
 //! docs/CASES.md says how they are written. The words are the names of files: of those whose bytes cases name, and then of
-//! files of cases. Each such file's cases are done, what differs is said in a line each, and then how many there were. Nothing is promised here but that all calls return: what
-//! the cases show is tested. Begin with `go_by_text` in src/files.rt; a run and what comes of it are in src/running.rt and
-//! src/comparing.rt.
+//! files of cases. Each such file's cases are done, what differs is said in a line each, and then how many there were.
+//! Nothing is promised here but that all calls return: what the cases show is tested. Begin with `go_by_text` in
+//! src/files.rt; a run and what comes of it are in src/running.rt and src/comparing.rt. Lines are read by `case_reader`.
 #![tactic(auto)]
 
-mod bytes;
 mod comparing;
-mod cursor;
-mod differences;
 mod files;
-mod filling;
-mod loops;
-mod named;
 mod running;
-mod scene;
 mod steps;
-mod tally;
-mod wanted;
 
+use case_reader::named::Named;
+use case_reader::tally::Tally;
 use files::go_by_text;
-use named::Named;
 use std::alloc::{AllocError, Global};
 use std::thread::Threads;
 use std::{env, fs, io};
-use tally::Tally;
 
 // Keeps the bytes of a file.
 fn keep(

@@ -3,10 +3,10 @@ ghost use Rattle.std.specs.Prelude.{◌≡◌, [], IfSome};
 ghost use Rattle.lif_outside.specs.Listed.{held_in};
 
 use crate::comparing::{Came, compare};
-use crate::cursor::NO_MEMORY;
-use crate::differences::Differences;
-use crate::named::{Named, add_copy, found};
-use crate::scene::{Scene, Trouble};
+use case_reader::cursor::NO_MEMORY;
+use case_reader::differences::Differences;
+use case_reader::named::{Named, add_copy, found};
+use case_reader::scene::{Scene, Trouble};
 use lif_outside::{Links, ListLinks, MemSink, MemStore, NoGate, SeedLinks};
 use lif_top::lif;
 use logged_store::{Event, Logged};
