@@ -2,8 +2,9 @@
 #
 #     . tools/lif-completion.bash
 
-# The tools' folder, from which the patterns of code files are read.
-_lif_tools=$(cd -- "$(dirname -- "${BASH_SOURCE[0]}")" && pwd)
+# The tool that reads the patterns of code files: the one beside this file, or else the installed one.
+_lif_estimate=$(cd -- "$(dirname -- "${BASH_SOURCE[0]}")" && pwd)/lif-estimate
+if [[ ! -x $_lif_estimate ]]; then _lif_estimate=lif-estimate; fi
 
 # Offers the files whose names begin so, those with the ending alone where there are such, and folders.
 _lif_files() {
@@ -19,7 +20,7 @@ _lif_files() {
 _lif_patterns() {
     local word=$1 code=${2//\\/}
     code=${code/#\~\//$HOME/}
-    mapfile -t COMPREPLY < <(compgen -W "$("$_lif_tools/lif-estimate" "$code" --patterns 2>/dev/null)" -- "$word")
+    mapfile -t COMPREPLY < <(compgen -W "$("$_lif_estimate" "$code" --patterns 2>/dev/null)" -- "$word")
 }
 
 _lif() {

@@ -10,20 +10,7 @@ kept=$top/out
 kept_gate=$kept/lif-proved
 kept_unproved=$kept/lif-unproved
 
-say() {
-    echo "lif: $1" >&2
-}
-
-# Whether the processor has what the third level of x86-64 asks for.
-has_third_level() {
-    flags=" $(sed -n '/^flags/ { p; q; }' /proc/cpuinfo 2>/dev/null) "
-    for flag in avx2 bmi1 bmi2 fma movbe f16c abm; do
-        case $flags in
-        *" $flag "*) ;;
-        *) return 1 ;;
-        esac
-    done
-}
+. "$top/tools/lifcall.sh"
 
 level=x86-64-v2
 if has_third_level; then level=x86-64-v3; fi

@@ -1,0 +1,45 @@
+# What the script `lif` of the repository and that of a package share: what is said, what the processor has, and how the program
+# is called.
+
+say() {
+    echo "lif: $1" >&2
+}
+
+# Whether the processor has all that is named. Where it can't be seen, nothing is had.
+has_flags() {
+    flags=" $(sed -n '/^flags/ { p; q; }' /proc/cpuinfo 2>/dev/null) "
+    for flag; do
+        case $flags in
+        *" $flag "*) ;;
+        *) return 1 ;;
+        esac
+    done
+}
+
+# Whether the processor has what the third level of x86-64 asks for.
+has_third_level() {
+    has_flags avx2 bmi1 bmi2 fma movbe f16c abm
+}
+
+# Says the forms of the synopsis of a manual page.
+say_forms() {
+    awk '/^\.Sh/ { on = /SYNOPSIS/ } on && /^\.Cm/ { word = $2 } on && /^\.Ar/ { $1 = "lif " word; print }' "$1"
+}
+
+# Ends as the program does with the words given. First comes the folder of lifrun.py, which says what operators miss at the
+# terminal, and then the program. LIF_QUIET=1 has the program run without it.
+call() {
+    modules=$1 program=$2
+    shift 2
+    # `send` empties the sinks' files before it reads SRC. So where SRC can't be read, those files are others, which are thrown
+    # away; what is said and the status are the same.
+    if [ "${1-}/$#" = send/6 ] && { [ ! -r "$5" ] || [ -d "$5" ] || [ -S "$5" ]; } && room=$(mktemp -d); then
+        if [ "${LIF_QUIET-}" != 1 ]; then LC_ALL=C cat -- "$5" 2>&1 >/dev/null | sed 's/^cat: /lif: /' >&2; fi
+        trap 'rm -rf -- "$room"' EXIT
+        trap 'exit 1' HUP INT TERM
+        "$program" send "$2" "$3" "$4" "$room/source" "$room/out"
+        exit
+    fi
+    if [ "${LIF_QUIET-}" = 1 ] || ! command -v python3 >/dev/null; then exec "$program" "$@"; fi
+    exec python3 -ES "$modules/lifrun.py" "$program" "$@"
+}
