@@ -1,20 +1,19 @@
 -- Turns in which sinks' files get what came: turn by turn, sink by sink, and those of a source.
-use Rattle.std.specs.Prelude.{◌≡◌, ◌<◌, ◌≤◌, ◌+◌, ◌-◌, ℕ, zero, suc, Bool, true, false, cond, if◌then◌else◌, nat_lt, List, [], ◌∷◌, ◌++◌, Contains, filter, length, map, slice_index_or, Result, Ok, Err, OnOk, OnErr}
+use Rattle.std.specs.Prelude.{◌≡◌, ◌<◌, ◌≤◌, ◌+◌, ◌-◌, ℕ, zero, suc, Bool, true, false, cond, nat_lt, List, [], ◌∷◌, ◌++◌, Contains, filter, length, map, slice_index_or, Result, Ok, Err, OnOk, OnErr}
 use Rattle.std.specs.List.{range_with_len}
 use Rattle.std.proofs.Common.{refl, sym, ap, ◌∙◌, subst, arith}
-use Rattle.std.proofs.lemmas.List.{append-nil, append_assoc, get_or-map, length-map, map-append}
+use Rattle.std.proofs.lemmas.List.{append-nil, append_assoc, map-append}
 use Rattle.std.proofs.lemmas.List.Elements.{Contains-get_or}
-use Rattle.std.proofs.lemmas.List.FromFn.{fill_by_all, filter_of_map_range_with_len_more, map-range_with_len_more}
-use Rattle.generation_frame.proofs.PieceLaws.{pieces_before-more}
-use Rattle.generation_frame.specs.Blocks.{counted_bytes, piece_of, pieces_before}
+use Rattle.std.proofs.lemmas.List.FromFn.{filter_of_map_range_with_len_more, map-range_with_len_more}
+use Rattle.generation_frame.specs.Blocks.{counted_bytes}
 use Rattle.generation_frame.specs.declared.frame.Packet.{Packet}
 use Rattle.lif_outside.proofs.CallLaws.{calls_of}
 use Rattle.lif_outside.proofs.FileCallLaws.{appends-append}
 use Rattle.lif_outside.proofs.SequenceLaws.{stops_behind, stops_first, stops_here}
-use Rattle.lif_outside.proofs.TurnLaws.{appends_of-append, appends_to-append}
+use Rattle.lif_outside.proofs.TurnLaws.{appends_of-append}
 use Rattle.lif_outside.specs.Calls.{ByCalls}
 use Rattle.lif_outside.specs.Events.{Event, append_event, append_failed, appended}
-use Rattle.lif_outside.specs.FileCalls.{AreAppendsTo, StopsWithin, Written, appends_of, appends_to, turn_of}
+use Rattle.lif_outside.specs.FileCalls.{AreAppendsTo, StopsWithin, Written, appends_of}
 use Rattle.lif_outside.specs.Moves.{Move}
 use Rattle.lif_outside.specs.Sequences.{Are}
 use Rattle.lif_outside.specs.declared.Failed.{Failed}
@@ -185,58 +184,6 @@ module _ (paths : List (List ℕ)) (code : Code) (pattern : ℕ) where
         (subst (AreAppendsTo paths) (sym (turns-more generations))
         (appends-append paths _ _ (turns-are generations)
         (subst (AreAppendsTo paths) (sym (calls-alone (turn_at paths code pattern came generations))) (parts-are generations (length paths) (omega arith)))))
-
-    -- ---- where each sink decodes the pieces of a file
-
-    module _ (file : List ℕ) (rate : ℕ) where
-      abbrev Pieces : ℕ → Type 0
-      Pieces generation = (place : ℕ) → place < length paths
-          → counted_bytes (decoded_of code (demand_of code pattern place) came generation) ≡ piece_of file rate generation
-
-      -- of parts with the same bytes all count, or none
-      all-count : (piece : List ℕ) (test : Bool) → nat_lt 0 (length piece) ≡ test → (some : List (List ℕ)) → filter has_bytes (turn_of some piece) ≡ (if test then turn_of some piece else [])
-      all-count piece true is [] = refl
-      all-count piece false is [] = refl
-      all-count piece true is (path ∷ some) =
-          ap (λ b. cond b ((path, piece) ∷ filter has_bytes (turn_of some piece)) (filter has_bytes (turn_of some piece))) is
-          ∙ ap (λ (rest : List Written). (path, piece) ∷ rest) (all-count piece true is some)
-      all-count piece false is (path ∷ some) =
-          ap (λ b. cond b ((path, piece) ∷ filter has_bytes (turn_of some piece)) (filter has_bytes (turn_of some piece))) is ∙ all-count piece false is some
-
-      -- a turn is that of the piece
-      turn-of_piece : (generation : ℕ) → Pieces generation
-          → turn_at paths code pattern came generation
-          ≡ (if nat_lt 0 (length (piece_of file rate generation)) then turn_of paths (piece_of file rate generation) else [])
-      turn-of_piece generation pieces =
-          let piece = piece_of file rate generation in
-          let to : List ℕ → Written = λ path. (path, piece) in
-          ap (filter has_bytes)
-          (same_made (part_at paths code pattern came generation) (λ place. (slice_index_or paths place [], piece)) (length paths) ([], [])
-          (λ place within. ap (λ (bytes : List ℕ). (slice_index_or paths place [], bytes)) (pieces place within))
-          ∙ sym (fill_by_all (λ place. (slice_index_or paths place [], piece)) (turn_of paths piece) (length paths) ([], []) (length-map paths to)
-          (λ place within. get_or-map to paths place [] ([], []) within)))
-          ∙ all-count piece (nat_lt 0 (length piece)) refl paths
-
-      -- and the first turns are those of the first pieces
-      pub turns-of_pieces : (generations : ℕ) → ((generation : ℕ) → generation < generations → Pieces generation)
-          → appends_of (turns_before paths code pattern came generations) ≡ appends_to paths (pieces_before file rate generations)
-      turns-of_pieces zero pieces = refl
-      turns-of_pieces (suc generations) pieces =
-          let one : suc generations ≡ generations + 1 = omega arith in
-          let piece = piece_of file rate generations in
-          let some : List (List ℕ) = if nat_lt 0 (length piece) then piece ∷ [] else [] in
-          ap (λ n. appends_of (turns_before paths code pattern came n)) one ∙ turns-more generations
-          ∙ ap (λ first. first ++ appends_of (turn_at paths code pattern came generations ∷ [])) (turns-of_pieces generations (λ generation below. pieces generation (omega arith)))
-          ∙ ap (λ turn. appends_to paths (pieces_before file rate generations) ++ appends_of (turn ∷ [])) (turn-of_piece generations (pieces generations (omega arith)))
-          ∙ ap (λ later. appends_to paths (pieces_before file rate generations) ++ later) (by_test piece (nat_lt 0 (length piece)))
-          ∙ sym (appends_to-append paths (pieces_before file rate generations) some)
-          ∙ ap (appends_to paths) (sym (pieces_before-more file rate generations))
-          ∙ ap (λ n. appends_to paths (pieces_before file rate n)) (sym one)
-        where
-          by_test : (piece : List ℕ) (test : Bool)
-              → appends_of ((if test then turn_of paths piece else []) ∷ []) ≡ appends_to paths (if test then piece ∷ [] else [])
-          by_test piece true = refl
-          by_test piece false = refl
 
 -- an append, by its answer: all that is due, or where it stops
 module _ {S : Type 0} {H : List Move → Type 0} (calls : List Event → S → S → Type 0) (a b : S) (path bytes : List ℕ) (due : List Move → List Event)

@@ -3,8 +3,8 @@
 //!
 //! Begin with `Delivery::open` and `Delivery::create_outputs`; `stream` then reads the source from a store as it is carried, and
 //! `carry_source` carries one that is in memory. Read `specs/Turns.antt`, what the sinks' files get of what came, and
-//! `specs/Streaming.antt`, the calls of a source that is streamed. The law that matters is `turns-of_pieces` in proofs/TurnLaws:
-//! where each sink decodes the source's blocks, what its file gets is the source, piece by piece.
+//! `specs/Streaming.antt`, the calls of a source that is streamed. The clauses that matter
+//! are those of `stream`: what was read was carried, and what each sink decodes of what came is appended to its file.
 #![tactic(auto)]
 
 mod delivering;
