@@ -1,4 +1,4 @@
-use Rattle.std.specs.Prelude.{◌≤◌, ◌*◌, length}
+use Rattle.std.specs.Prelude.{◌≤◌}
 use Rattle.std.proofs.Common.{◌∙◌, arith, refl, subst}
 use Rattle.coded_traffic.specs.Traffic.{room_for}
 use Rattle.node_program.specs.declared.code.Code.{Code}
