@@ -19,10 +19,10 @@ front_is net front nodes links source sinks patterns = sym (rw (nodes, links, so
 pub AreContents-from_read : (contents : Contents) → AreContentsRead contents → AreContents contents
 AreContents-from_read contents is = record {
   network = IsNetwork-from_read contents.front is.front;
-  code = λ net nodes links source sinks patterns field.
+  code = λ net nodes links source sinks patterns field wanted.
       let same = front_is net contents.front nodes links source sinks patterns in
       let read = subst (λ (front : Front). AreContentsRead (record { front = front; operands = contents.operands; decoders = contents.decoders })) same is in
-      IsCode-from_read net contents.front.rate contents.front.field contents.operands contents.decoders field read.front read.operands read.decoders;
+      IsCode-from_read net contents.front.rate contents.front.field contents.operands contents.decoders field wanted read.front read.operands read.decoders;
 }
 
 -- what the file of a code says is read

@@ -1,6 +1,6 @@
 -- Reading and spelling code files: a file that's read is the one spelling of what it says, and that's what a code has;
 -- the file of a code is read; and a file that's no code's is refused.
-use Rattle.std.specs.Prelude.{◌≡◌, ℕ, ◌+◌, Bool, true, false, ◌==◌, List, [], ◌++◌, length, codes, Result, Ok, Err, if◌then◌else◌}
+use Rattle.std.specs.Prelude.{◌≡◌, ℕ, ◌+◌, Bool, true, false, ◌==◌, List, [], ◌++◌, length, codes, None, Result, Ok, Err, if◌then◌else◌}
 use Rattle.std.proofs.Common.{refl, sym, subst, ap, ◌∙◌, append-nil, arith}
 use Rattle.std.proofs.lemmas.Bool.{eqb-true}
 use Rattle.std.proofs.lemmas.List.{nil_from_length}
@@ -129,7 +129,9 @@ code_of contents are =
       sinks = front.sinks;
       patterns = front.patterns;
       field = choice_of front.field;
+      wanted = None;
       network = are.network;
+      rate = λ rate some. absurd cc;
     } in
     record {
       net = net;
@@ -137,7 +139,7 @@ code_of contents are =
       field = front.field;
       operands = contents.operands;
       decoders = contents.decoders;
-      code = are.code net refl refl refl refl refl refl;
+      code = are.code net refl refl refl refl refl refl refl;
     }
 
 -- ---- the front alone

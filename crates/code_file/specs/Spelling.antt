@@ -1,5 +1,5 @@
 -- What a code file says of a code, how that is spelled, and when it's said of a code.
-use Rattle.std.specs.Prelude.{◌≡◌, ℕ, List, ◌++◌}
+use Rattle.std.specs.Prelude.{◌≡◌, ℕ, None, List, ◌++◌}
 use Rattle.std.specs.List.{concat}
 use Rattle.net_model.specs.Network.{IsNetwork}
 use Rattle.net_model.specs.declared.net.Net.{Net}
@@ -36,16 +36,16 @@ abbrev pub IsNetworkFront : Front → Type 0
 IsNetworkFront front =
     IsNetwork front.nodes front.links front.source front.sinks front.patterns
 
--- with a network of these parts that names the field they make a code
+-- with a network of these parts that names the field, and no wanted rate, they make a code
 abbrev pub IsCodeWith : Contents → Net → Type 0
 IsCodeWith contents net =
     let front = contents.front in
     net.nodes ≡ front.nodes → net.links ≡ front.links → net.source ≡ front.source
     → net.sinks ≡ front.sinks → net.patterns ≡ front.patterns → net.field ≡ choice_of front.field
-    → IsCode net front.rate front.field contents.operands contents.decoders
+    → net.wanted ≡ None → IsCode net front.rate front.field contents.operands contents.decoders
 
--- The parts are those of a network, and with every network of these parts that names the field they
--- make a code.
+-- The parts are those of a network, and with every network of these parts that names the field, and no
+-- wanted rate, they make a code.
 pub record AreContents (contents : Contents) : Type 0 where
   pub network : IsNetworkFront contents.front
   pub code : (net : Net) → IsCodeWith contents net

@@ -1,5 +1,5 @@
 -- What the items of the parts say one by one is what holds of a network and of a code.
-use Rattle.std.specs.Prelude.{◌≡◌, ℕ, suc, ◌+◌, ◌*◌, ◌<◌, ◌≤◌, Bool, true, false, ◌&&◌, ◌==◌, nat_eq, nat_lt, List, [], ◌∷◌, length, map, drop, codes, if◌then◌else◌}
+use Rattle.std.specs.Prelude.{◌≡◌, ℕ, suc, ◌+◌, ◌*◌, ◌<◌, ◌≤◌, Bool, true, false, ◌&&◌, ◌==◌, nat_eq, nat_lt, None, List, [], ◌∷◌, length, map, drop, codes, if◌then◌else◌}
 use Rattle.std.specs.List.{list_all, list_any}
 use Rattle.std.specs.Str.{bytes_eq}
 use Rattle.std.proofs.Common.{refl, sym, subst, ap, ◌∙◌, arith}
@@ -12,7 +12,7 @@ use Rattle.gf_tables.specs.declared.kind.FieldKind.{FieldKind}
 use Rattle.net_model.specs.Demands.{sinks_of_demands}
 use Rattle.net_model.specs.Lists.{are_distinct, is_rising, is_among}
 use Rattle.std.proofs.lemmas.Cmp.{nat_eq_equiv}
-use Rattle.list_laws.proofs.Tests.{list_all-implied, list_any-map}
+use Rattle.item_list.proofs.Tests.{list_all-implied, list_any-map}
 use Rattle.net_model.proofs.ListLaws.{length-are_distinct, is_among-same}
 use Rattle.net_model.specs.Network.{are_names, is_link_among, is_sink_among, is_listed_pattern, are_patterns, IsNetwork}
 use Rattle.net_model.specs.declared.Link.{Link}
@@ -347,10 +347,10 @@ module _ (net : Net) (rate : ℕ) (field : FieldKind) where
       (IsDecoderRead-from_code sink decoder few parts.0, EachFits-from_decoders_of_code sinks decoders few parts.1)
 
   -- what is read with the parts of a network makes a code with it
-  pub IsCode-from_read : (operands : List (List Operand)) (decoders : List Decoder) → net.field ≡ choice_of field
+  pub IsCode-from_read : (operands : List (List Operand)) (decoders : List Decoder) → net.field ≡ choice_of field → net.wanted ≡ None
       → IsFrontRead (front_of net rate field) → EachFits (AreOperandsRead (front_of net rate field)) net.links operands
       → EachFits (IsDecoderRead (front_of net rate field)) (sinks_of_demands net) decoders → IsCode net rate field operands decoders
-  IsCode-from_read operands decoders named front links demands = record {
+  IsCode-from_read operands decoders named unwanted front links demands = record {
     draft = record {
       some_rate = front.some_rate;
       low_rate = front.low_rate;
@@ -358,6 +358,7 @@ module _ (net : Net) (rate : ℕ) (field : FieldKind) where
       link_order = link_order-from_read (length net.nodes) net.links front.links;
       link_operands = are_operands_of-from_read net.links operands links;
       named_field = named;
+      no_wanted = unwanted;
     };
     demand_decoders = are_decoders-from_read (sinks_of_demands net) decoders demands;
   }

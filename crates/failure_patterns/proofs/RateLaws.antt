@@ -1,7 +1,7 @@
 -- What follows of the rate of a network, and of the first demand with a size.
 use Rattle.std.specs.Prelude.{◌≡◌, ◌≤◌, ℕ}
 use Rattle.std.proofs.Common.{sym, ◌∙◌, subst, arith}
-use Rattle.list_laws.proofs.Numbers.{neither_below}
+use Rattle.item_list.proofs.Numbers.{neither_below}
 use Rattle.net_model.proofs.FlowLaws.{IsLeastCut-same_size}
 use Rattle.net_model.specs.Flows.{flow_network}
 use Rattle.net_model.specs.declared.net.Net.{Net}

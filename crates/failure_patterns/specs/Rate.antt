@@ -1,5 +1,6 @@
--- The rate of a network: the least size of a least cut, over its demands; and the first demand with such a size.
-use Rattle.std.specs.Prelude.{◌≡◌, ◌<◌, ◌≤◌, ℕ, List, length}
+-- The rate of a network: the least size of a least cut, over its demands; the rate of its codes; and the first demand
+-- with such a size.
+use Rattle.std.specs.Prelude.{◌≡◌, ◌<◌, ◌≤◌, ℕ, List, length, unwrap_or}
 use Rattle.net_model.specs.Demands.{demand_count}
 use Rattle.net_model.specs.Flows.{IsLeastCut, flow_network}
 use Rattle.net_model.specs.declared.net.Net.{Net}
@@ -8,6 +9,10 @@ use Rattle.failure_patterns.specs.Demands.{demand_of}
 -- a demand of the network has a least cut of so many links
 abbrev pub HasLeastCut : Net → ℕ → ℕ → Type 0
 HasLeastCut net number size = (cut : List ℕ) × IsLeastCut (flow_network net (demand_of net number)) cut × (length cut ≡ size)
+
+-- the rate of a network's codes: the one that is wanted, and else that of the network
+abbrev pub rate_used : Net → ℕ → ℕ
+rate_used net rate = unwrap_or net.wanted rate
 
 -- some demand has a least cut of that size, and none has a smaller one
 pub record IsRate (net : Net) (rate : ℕ) : Type 0 where

@@ -8,8 +8,8 @@ use Rattle.std.proofs.lemmas.List.{length-append, length-map}
 use Rattle.std.proofs.lemmas.List.Elements.{All-cons, All-from_recursion, All-nil}
 use Rattle.std.proofs.lemmas.List.Folds.{list_any_at}
 use Rattle.std.proofs.lemmas.List.FromFn.{get_or-range_with_len, length-map-range_with_len, length-range_with_len}
-use Rattle.list_laws.proofs.Places.{place_within}
-use Rattle.list_laws.proofs.Tests.{passes_at}
+use Rattle.item_list.proofs.Places.{place_within}
+use Rattle.item_list.proofs.Tests.{passes_at}
 use Rattle.net_model.specs.Demands.{demand_count}
 use Rattle.net_model.specs.Flows.{FlowNetwork, IsCut, IsFlow, IsLeastCut, IsPath, flow_network}
 use Rattle.net_model.specs.Lists.{are_distinct, is_among, is_rising}

@@ -8,7 +8,7 @@ use Rattle.std.proofs.lemmas.Fmt.{decimal_by_steps, decimal_injective, length-de
 use Rattle.std.proofs.lemmas.List.{append_assoc, length-append}
 use Rattle.std.proofs.lemmas.List.Folds.{list_all-append}
 use Rattle.std.proofs.lemmas.Slice.Eq.{bytes_eq-Decides}
-use Rattle.list_laws.proofs.Tests.{list_all-implied}
+use Rattle.item_list.proofs.Tests.{list_all-implied}
 use Rattle.net_model.specs.Name.{is_name, is_name_byte}
 use Rattle.net_maker.specs.Combination.{numbered, pair_name}
 use Rattle.net_maker.specs.Names.{IsLetter}

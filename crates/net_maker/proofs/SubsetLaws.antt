@@ -8,7 +8,7 @@ use Rattle.std.proofs.lemmas.Bool.{and_from, and_parts, cases_eq, cases_lt, eq-e
 use Rattle.std.proofs.lemmas.List.{drop-drop, get_or-set_other, get_or-set_same, length-append, length-drop, length-map, length-set, map-id}
 use Rattle.std.proofs.lemmas.List.Folds.{list_any-append}
 use Rattle.std.proofs.lemmas.List.FromFn.{get_or-range_with_len, length-range_with_len, map-range_with_len_more}
-use Rattle.list_laws.proofs.Tests.{list_all-implied}
+use Rattle.item_list.proofs.Tests.{AllByRecursion-append, list_all-implied}
 use Rattle.net_model.specs.Lists.{is_rising}
 use Rattle.net_maker.specs.Subsets.{HasRoom, binomial, subsets_from, subsets_of}
 
@@ -163,10 +163,6 @@ longer first bound k set some is =
       within = and_from _ _ (in_range first bound first (omega arith) some) (wider first bound k set is).within;
     }
 
-all-append : {X : Type 0} (P : X → Type 0) (xs ys : List X) → AllByRecursion P xs → AllByRecursion P ys → AllByRecursion P (xs ++ ys)
-all-append P [] ys first second = second
-all-append P (x ∷ xs) ys first second = (first.0, all-append P xs ys first.1 second)
-
 all-implied : {X Y : Type 0} (P : X → Type 0) (Q : Y → Type 0) (f : X → Y) (xs : List X) → ((x : X) → P x → Q (f x)) → AllByRecursion P xs → AllByRecursion Q (map f xs)
 all-implied P Q f [] implies all = tt
 all-implied P Q f (x ∷ xs) implies all = (implies x all.0, all-implied P Q f xs implies all.1)
@@ -181,7 +177,7 @@ subsets_of-each first (suc count) (suc k) bound end =
     let with_first = all-implied (IsSetOf (first + 1) bound k) (IsSetOf first bound (suc k)) (λ rest. first ∷ rest) (subsets_of (first + 1) count k)
     (λ set is. longer first bound k set (omega arith) is) (subsets_of-each (first + 1) count k bound (omega arith)) in
     let others = subsets_of-each (first + 1) count (suc k) bound (omega arith) in
-    all-append (IsSetOf first bound (suc k)) _ _ with_first
+    AllByRecursion-append (IsSetOf first bound (suc k)) _ _ with_first
     (subst (λ (l : List (List ℕ)). AllByRecursion (IsSetOf first bound (suc k)) l) (map-id (subsets_of (first + 1) count (suc k)))
     (all-implied (IsSetOf (first + 1) bound (suc k)) (IsSetOf first bound (suc k)) (λ set. set) (subsets_of (first + 1) count (suc k)) (λ set is. wider first bound (suc k) set is) others))
 

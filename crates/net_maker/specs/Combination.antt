@@ -1,5 +1,5 @@
 -- Combination networks: a source, n nodes in the middle, and a sink behind each k of them.
-use Rattle.std.specs.Prelude.{◌≡◌, ℕ, ◌+◌, List, [], ◌∷◌, ◌++◌, codes, decimal, map}
+use Rattle.std.specs.Prelude.{◌≡◌, ℕ, ◌+◌, List, [], ◌∷◌, ◌++◌, codes, decimal, map, None}
 use Rattle.std.specs.List.{range_with_len}
 use Rattle.net_model.specs.declared.Link.{Link}
 use Rattle.net_model.specs.declared.Pattern.{Pattern}
@@ -50,3 +50,4 @@ pub record IsCombination (n k : ℕ) (net : Net) : Type 0 where
   pub sinks : net.sinks ≡ sinks n (binomial n k)
   pub patterns : net.patterns ≡ patterns
   pub field : net.field ≡ Any
+  pub wanted : net.wanted ≡ None

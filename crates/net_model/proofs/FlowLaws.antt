@@ -1,11 +1,12 @@
 -- Laws of flows and cuts: no flow has more paths than a cut has links, and where they are as many both are best.
-use Rattle.std.specs.Prelude.{◌≡◌, ◌↔◌, ℕ, zero, suc, ◌<◌, ◌≤◌, ◌-◌, Bool, true, false, ◌||◌, nat_eq, List, [], ◌∷◌, length, slice_index, filter, All}
+use Rattle.std.specs.Prelude.{◌≡◌, ◌↔◌, ℕ, zero, suc, ◌<◌, ◌≤◌, ◌-◌, Bool, true, false, nat_eq, List, [], ◌∷◌, length, slice_index, filter, All}
 use Rattle.std.specs.List.{list_any, range_with_len, concat}
 use Rattle.std.proofs.Common.{sym, ◌∙◌, ap, arith, inl, inr}
-use Rattle.std.proofs.lemmas.Bool.{and_parts, and_from, or_left, or_right, cases_Bool, cond_both, lt-ltb, ltb-true, not_from_false}
+use Rattle.std.proofs.lemmas.Bool.{and_parts, and_from, or_left, or_right, cases_Bool, lt-ltb, ltb-true, not_from_false}
 use Rattle.std.proofs.lemmas.List.{ext_get_or, length-append}
 use Rattle.std.proofs.lemmas.List.Elements.{All-filter, All-head, All-tail, filter-append}
 use Rattle.std.proofs.lemmas.List.FromFn.{length-range_with_len, get_or-range_with_len}
+use Rattle.item_list.proofs.Tests.{length-filter-some}
 use Rattle.net_model.specs.Flows.{FlowNetwork, IsFlow, IsGreatestFlow, IsCut, IsLeastCut, IsSide, IsLeastCrossed, IsLeastSide, is_on, leaves, crossing}
 use Rattle.std.specs.Cmp.{both_ways as same_truth}
 use Rattle.net_model.proofs.ListLaws.{are_distinct-filter, is_among-filter, is_among-range_with_len, length-le_from_is_among, is_among-from_length}
@@ -47,17 +48,11 @@ IsCut-crossing network side is path path_is =
     let some = path_is.some in
     walk_leaves network side path (length path - 1) (omega arith) path_is.walk path_is.working (ap (is_on side) path_is.start ∙ is.source) (ap (is_on side) path_is.end ∙ is.sink)
 
--- a list with a number that passes a test keeps one
-some_kept : (test : ℕ → Bool) (xs : List ℕ) → list_any test xs ≡ true → 0 < length (filter test xs)
-some_kept test [] found = cc
-some_kept test (x ∷ xs) found =
-    cond_both (test x) (x ∷ filter test xs) (filter test xs) (λ l. 0 < length l) (λ _. omega arith) (λ fails. some_kept test xs (sym (ap (λ b. b || list_any test xs) fails) ∙ found))
-
 -- lists that each have a number that passes keep at least as many as there are lists
 each_kept : (test : ℕ → Bool) (lists : List (List ℕ)) → All (λ xs. list_any test xs ≡ true) lists → length lists ≤ length (filter test (concat lists))
 each_kept test [] each = omega arith
 each_kept test (xs ∷ lists) each =
-    let one = some_kept test xs (All-head (λ ys. list_any test ys ≡ true) xs lists each) in
+    let one = length-filter-some test xs (All-head (λ ys. list_any test ys ≡ true) xs lists each) in
     let rest = each_kept test lists (All-tail (λ ys. list_any test ys ≡ true) xs lists each) in
     rw filter-append (omega (arith, one, rest, length-append (filter test xs) (filter test (concat lists))))
 

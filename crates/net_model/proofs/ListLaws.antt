@@ -12,7 +12,7 @@ use Rattle.std.proofs.lemmas.List.Sums.{AllPass-from_list_all, list_all-from_All
 use Rattle.std.proofs.lemmas.Map.Made.{length-le_from_is_member}
 use Rattle.std.proofs.lemmas.Map.Steps.{length-le_from_distinct_below}
 use Rattle.std.proofs.lemmas.Map.Views.{any-filter_same}
-use Rattle.list_laws.proofs.Tests.{below_bound, none_passes}
+use Rattle.item_list.proofs.Tests.{below_bound, none_passes}
 use Rattle.net_model.specs.Lists.{are_distinct, is_among, is_rising}
 
 -- the test of `are_distinct` in the words of the library

@@ -3,7 +3,7 @@ use Rattle.std.specs.Prelude.{◌≡◌, ℕ, zero, suc, ◌<◌, true, List, []
 use Rattle.std.specs.List.{list_all}
 use Rattle.std.proofs.Common.{arith}
 use Rattle.std.proofs.lemmas.Bool.{and_parts}
-pub use Rattle.list_laws.proofs.Tests.{passes_at}
+pub use Rattle.item_list.proofs.Tests.{passes_at}
 use Rattle.net_model.specs.Name.{is_name, IsName}
 
 -- the name of a node

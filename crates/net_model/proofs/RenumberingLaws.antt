@@ -15,7 +15,7 @@ use Rattle.std.proofs.lemmas.Map.Keys.{IsDistinct-cons, apart_from_distinct}
 use Rattle.std.proofs.lemmas.Map.Steps.{length-le_from_distinct_below}
 use Rattle.std.proofs.lemmas.Map.Views.{any-filter_same}
 use Rattle.std.proofs.lemmas.Option.{slice_get-map, slice_get-get_or}
-use Rattle.list_laws.proofs.Tests.{below_bound, none_passes, position_or_len-within}
+use Rattle.item_list.proofs.Tests.{below_bound, none_passes, position_or_len-within}
 use Rattle.net_model.specs.Failed.{failed_links}
 use Rattle.net_model.specs.Flows.{FlowNetwork, IsCut, IsFlow, IsPath, flow_network}
 use Rattle.net_model.proofs.ListLaws.{IsDistinct-from_are_distinct}

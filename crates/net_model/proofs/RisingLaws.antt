@@ -12,7 +12,7 @@ use Rattle.std.proofs.lemmas.List.Sums.{AllPass-from_list_all, list_all-from_All
 use Rattle.std.proofs.lemmas.Map.Keys.{IsStrictlyIncreasing-dedup}
 use Rattle.std.proofs.lemmas.Map.Views.{Contains-from_any, list_any-from_Contains}
 use Rattle.std.specs.Cmp.{both_ways as same_truth}
-use Rattle.list_laws.proofs.Positions.{place_in}
+use Rattle.item_list.proofs.Positions.{place_in}
 use Rattle.net_model.proofs.ListLaws.{is_among-from_list_any, list_any-from_is_among}
 use Rattle.net_model.specs.Lists.{is_among, is_rising}
 

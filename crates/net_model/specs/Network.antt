@@ -1,8 +1,9 @@
 -- A network: named nodes, named links between them, one source, sinks, and patterns of failed links.
-use Rattle.std.specs.Prelude.{ℕ, Bool, false, not, ◌<◌, ◌≤◌, ◌&&◌, ◌==◌, nat_lt, nat_eq, IsTrue, List, [], ◌∷◌, length, map, codes}
+use Rattle.std.specs.Prelude.{ℕ, Bool, false, not, ◌<◌, ◌≤◌, ◌&&◌, ◌==◌, nat_lt, nat_eq, IsTrue, List, [], ◌∷◌, length, map, codes, Option}
+use Rattle.std.specs.Option.{ForSome}
 use Rattle.std.specs.List.{list_all}
 use Rattle.std.specs.Str.{bytes_eq}
-use Rattle.net_model.specs.Limits.{most_links, most_nodes, most_patterns}
+use Rattle.net_model.specs.Limits.{highest_rate, most_links, most_nodes, most_patterns}
 use Rattle.net_model.specs.Lists.{are_distinct, is_rising}
 use Rattle.net_model.specs.Name.{is_name}
 use Rattle.net_model.specs.declared.Link.{Link}
@@ -44,3 +45,7 @@ pub record IsNetwork (nodes : List (List ℕ)) (links : List Link) (source : ℕ
   pub few_nodes : length nodes ≤ most_nodes
   pub few_links : length links ≤ most_links
   pub few_patterns : length patterns ≤ most_patterns
+
+-- the rate that is wanted of a network's codes, where there is one
+abbrev pub IsWanted : Option ℕ → Type 0
+IsWanted wanted = ForSome wanted (λ rate. (1 ≤ rate) × (rate ≤ highest_rate))

@@ -1,5 +1,5 @@
 -- Networks whose links have new numbers: the new link at a place is the old one whose number stands there.
-use Rattle.std.specs.Prelude.{◌≡◌, ℕ, nat_eq, nat_lt, Bool, false, if◌then◌else◌, IsTrue, List, [], length, map, filter, slice_get, slice_index, slice_index_or, unwrap_or}
+use Rattle.std.specs.Prelude.{◌≡◌, ℕ, nat_eq, nat_lt, Bool, None, false, if◌then◌else◌, IsTrue, List, [], length, map, filter, slice_get, slice_index, slice_index_or, unwrap_or}
 use Rattle.std.specs.List.{list_all, position_or_len, range_with_len}
 use Rattle.net_model.specs.Flows.{FlowNetwork}
 use Rattle.net_model.specs.Lists.{are_distinct, is_among}
@@ -44,7 +44,7 @@ renumbered_network network order =
       failed = renumbered_set order network.failed;
     }
 
--- a network with its links in a new order, and this field named; all else is as it was
+-- a network with its links in a new order, this field named, and no rate wanted; all else is as it was
 pub record IsRenumbered (order : List ℕ) (choice : FieldChoice) (old new : Net) : Type 0 where
   pub nodes : new.nodes ≡ old.nodes
   pub links : new.links ≡ renumbered_links old.links order
@@ -52,6 +52,7 @@ pub record IsRenumbered (order : List ℕ) (choice : FieldChoice) (old new : Net
   pub sinks : new.sinks ≡ old.sinks
   pub patterns : new.patterns ≡ map (renumbered_pattern order) old.patterns
   pub field : new.field ≡ choice
+  pub wanted : new.wanted ≡ None
 
 -- no link has a mark
 pub record AreUnmarked (marks : List Bool) : Type 0 where

@@ -1,5 +1,5 @@
 //! Networks.
-ghost use Rattle.net_model.specs.Network.{IsNetwork};
+ghost use Rattle.net_model.specs.Network.{IsNetwork, IsWanted};
 
 use crate::renumbering::{mark, renumbered};
 use crate::{LinkTable, NameList, NodeList, PatternList};
@@ -19,7 +19,8 @@ pub enum FieldChoice {
 /// A network. Names are valid and distinct in their kind. A link leads from one node to another. The
 /// sinks are distinct nodes other than the source, at least one. The first pattern is `none`, without
 /// links; each further one has at least one link, in rising order. There are at most 4096 nodes,
-/// 8192 links and 4096 patterns, `none` among them.
+/// 8192 links and 4096 patterns, `none` among them. The rate that is wanted of its codes is 1 to 32, where
+/// there is one.
 #[derive(Drop)]
 pub struct Net {
     pub nodes: NameList,
@@ -28,16 +29,19 @@ pub struct Net {
     pub sinks: NodeList,
     pub patterns: PatternList,
     pub field: FieldChoice,
+    pub wanted: Option<u32>,
     ghost network: { IsNetwork nodes links source sinks patterns },
+    ghost rate: { IsWanted wanted },
 }
 
 impl Net {
-    ghost use Rattle.std.specs.Prelude.{◌≡◌, ◌<◌, ℕ, IfOk, false, length, slice_index_or, vec_len};
+    ghost use Rattle.std.specs.Prelude.{◌≡◌, ◌<◌, ◌≤◌, ℕ, IfOk, None, Some, false, length, slice_index_or, vec_len};
     ghost use Rattle.net_model.specs.Failed.{is_failed_in};
+    ghost use Rattle.net_model.specs.Limits.{highest_rate};
     ghost use Rattle.net_model.specs.Renumbering.{HasEachOnce, IsRenumbered};
     ghost use Rattle.net_model.specs.Walks.{head_of, leaves_source, tail_of};
 
-    /// The network of these parts. It takes no memory.
+    /// The network of these parts, without a wanted rate. It takes no memory.
     pub fn of(
         nodes: NameList,
         links: LinkTable,
@@ -53,6 +57,7 @@ impl Net {
         ensures sinks { result.sinks ≡ sinks }
         ensures patterns { result.patterns ≡ patterns }
         ensures field { result.field ≡ field }
+        ensures wanted { result.wanted ≡ None }
     {
         Net {
             nodes,
@@ -61,6 +66,39 @@ impl Net {
             sinks,
             patterns,
             field,
+            wanted: None,
+        }
+    }
+
+    /// The network with this rate wanted of its codes, in place of any other. It takes no memory.
+    pub fn wanting(self, rate: u32) -> Net
+        requires some { 1 ≤ rate }
+        requires low { rate ≤ highest_rate }
+        ensures nodes { result.nodes ≡ self.nodes }
+        ensures links { result.links ≡ self.links }
+        ensures source { result.source ≡ self.source }
+        ensures sinks { result.sinks ≡ self.sinks }
+        ensures patterns { result.patterns ≡ self.patterns }
+        ensures field { result.field ≡ self.field }
+        ensures wanted { result.wanted ≡ Some rate }
+    {
+        let Net {
+            nodes,
+            links,
+            source,
+            sinks,
+            patterns,
+            field,
+            wanted: _,
+        } = self;
+        Net {
+            nodes,
+            links,
+            source,
+            sinks,
+            patterns,
+            field,
+            wanted: Some(rate),
         }
     }
 
@@ -115,7 +153,7 @@ impl Net {
     }
 
     /// The network whose link `i` is the link `order[i]` of this one. The patterns have the new numbers of
-    /// their links, in rising order, and all else but the field choice stays.
+    /// their links, in rising order, no rate is wanted, and all else but the field choice stays.
     pub fn renumbered(
         &self,
         alloc: Global,

@@ -11,7 +11,7 @@ use crate::{
 use std::alloc::{AllocError, Global};
 
 /// The network whose link `i` is the link `order[i]` of this one. The patterns have the new numbers of
-/// their links, in rising order, and all else but the field choice stays.
+/// their links, in rising order, no rate is wanted, and all else but the field choice stays.
 pub(crate) fn renumbered(
     alloc: Global,
     net: &Net,

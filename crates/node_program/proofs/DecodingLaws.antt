@@ -3,8 +3,8 @@
 use Rattle.std.specs.Prelude.{◌≡◌, ℕ, zero, suc, ◌*◌, ◌<◌, ◌≤◌, ◌↔◌, true, nat_lt, Some, List, [], ◌∷◌, IsTrue, length, map, slice_get, slice_index}
 use Rattle.std.proofs.Common.{refl, sym, ap, ◌∙◌, subst, arith}
 use Rattle.std.proofs.lemmas.Bool.{and_parts, false≢true, eqb-true, ltb-true}
-use Rattle.list_laws.proofs.Tests.{passes_at}
-use Rattle.list_laws.proofs.Maps.{map-agree}
+use Rattle.item_list.proofs.Tests.{passes_at}
+use Rattle.item_list.proofs.Maps.{map-agree}
 use Rattle.gf_tables.specs.Product.{size_of}
 use Rattle.gf_tables.specs.declared.kind.FieldKind.{FieldKind}
 use Rattle.net_model.specs.Demands.{demand_count, pattern_of_demand, sink_of_demand, sinks_of_demands}
@@ -68,6 +68,15 @@ decoder_of_demand {net} {rate} {field} {operands} {decoders} code demand within 
     let found = decoder_of_sink net rate field (sinks_of_demands net) decoders demand code.demand_decoders inside in
     let At : ℕ → Type 0 = λ sink. IsDecoder net rate field sink found.0 in
     (found.0, found.1, subst At (slice_index-sinks_of_demands net demand within) found.2)
+
+-- so the decoder that a code has for a demand is one
+pub decoder_shape : (code : Code) (demand : ℕ) (decoder : Decoder) → demand < demand_count code.net → slice_get code.decoders demand ≡ Some decoder
+    → IsDecoder code.net code.rate code.field (sink_of_demand code.net demand) decoder
+decoder_shape code demand decoder within found =
+    let one = decoder_of_demand code.code demand within in
+    let first = one.1 in
+    let same : one.0 ≡ decoder = cc in
+    subst (IsDecoder code.net code.rate code.field (sink_of_demand code.net demand)) same one.2
 
 -- the decoder's matrix is one of elements
 pub AreRows-decoder_matrix : (code : Code) (demand : ℕ) → demand < demand_count code.net → AreRows code.field code.rate (decoder_matrix code demand)

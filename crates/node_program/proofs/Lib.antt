@@ -4,5 +4,6 @@ pub mod BlockLaws
 pub mod VectorLaws
 pub mod DecodingLaws
 pub mod LiveLaws
+pub mod LinkLaws
 pub mod CarrySteps
 pub mod VectorSteps

@@ -1,11 +1,11 @@
 -- Laws of the live links of a code.
-use Rattle.std.specs.Prelude.{◌≡◌, ℕ, suc, ◌+◌, ◌<◌, Bool, true, false, List, [], ◌∷◌, ◌++◌, Some, length, slice_get}
+use Rattle.std.specs.Prelude.{◌≡◌, ℕ, suc, ◌+◌, ◌<◌, Bool, true, false, List, [], ◌∷◌, ◌++◌, Some, None, length, slice_get}
 use Rattle.std.specs.List.{All, list_any}
-use Rattle.std.proofs.Common.{refl, sym, ◌∙◌, ap, get_or, arith}
-use Rattle.std.proofs.lemmas.Bool.{and_parts, false≢true}
+use Rattle.std.proofs.Common.{refl, sym, ◌∙◌, ap, get_or, arith, inl, inr}
+use Rattle.std.proofs.lemmas.Bool.{and_parts, cases_lt, false≢true}
 use Rattle.std.proofs.lemmas.List.Folds.{list_any_at}
 use Rattle.std.proofs.lemmas.List.FromFn.{length-map-range_with_len, get_or-map-range_with_len, map-range_with_len_more}
-use Rattle.std.proofs.lemmas.Option.{slice_get-get_or}
+use Rattle.std.proofs.lemmas.Option.{slice_get-get_or, slice_get_past}
 use Rattle.gf_tables.specs.declared.kind.FieldKind.{FieldKind}
 use Rattle.net_model.specs.Failed.{failed_links, is_failed_in}
 use Rattle.net_model.specs.declared.Link.{Link}
@@ -81,3 +81,17 @@ pub slice_get-live_table : (code : Code) (pattern count link : ℕ) → link < c
 slice_get-live_table code pattern count link below =
     slice_get-get_or (live_table code pattern count) link false (omega (arith, length-live_table code pattern count))
     ∙ ap Some (get_or-live_table code pattern count link false below)
+
+-- a live link has an operand that is a source row or a live link
+pub live-reads : (code : Code) (pattern link : ℕ) → is_live_in code pattern link ≡ true
+    → list_any (reads_live_in code pattern link) (operands_at code.operands link) ≡ true
+live-reads code pattern link live = (and_parts _ _ (sym (is_live-equation code.code.draft (failed_links code.net.patterns pattern) link) ∙ live)).1
+
+-- and is one of the network's
+pub live-below : (code : Code) (pattern link : ℕ) → is_live_in code pattern link ≡ true → link < length code.net.links
+live-below code pattern link live = elim (cases_lt link (length code.net.links)) [
+  | inl within ↦ within
+  | inr past ↦
+      let none : slice_get code.operands link ≡ None = slice_get_past code.operands link (omega (arith, length-operands code.code.draft)) in
+      absurd (false≢true (rw none at (live-reads code pattern link live)))
+]

@@ -6,7 +6,7 @@ use Rattle.std.proofs.lemmas.Bool.{cases_Bool}
 use Rattle.std.proofs.lemmas.List.Elements.{All-map, All-weaker, recursion_from_All}
 use Rattle.std.proofs.lemmas.Option.{unwrap_or-slice_get}
 use Rattle.std.proofs.lemmas.Simd.{map-map}
-use Rattle.list_laws.proofs.Maps.{map-agree}
+use Rattle.item_list.proofs.Maps.{map-agree}
 use Rattle.gf_tables.specs.Product.{size_of}
 use Rattle.gf_tables.specs.declared.kind.FieldKind.{FieldKind}
 use Rattle.net_model.specs.Lists.{is_among}

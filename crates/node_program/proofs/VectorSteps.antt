@@ -1,7 +1,7 @@
 -- How the rows of a code's vectors are made, one after another.
 use Rattle.std.proofs.Common.{◌≡◌, ℕ, ◌+◌, ◌<◌, ◌≤◌, false, List, length, map, replicate, inl, inr, refl, sym, ap, ◌∙◌, subst, arith, Bool, true, if◌then◌else◌}
 use Rattle.std.proofs.lemmas.Bool.{cases_lt}
-use Rattle.list_laws.proofs.Maps.{map-agree}
+use Rattle.item_list.proofs.Maps.{map-agree}
 use Rattle.field_vectors.specs.Grid.{Grid, row_of}
 use Rattle.field_vectors.proofs.NumberLaws.{numbers-zeros}
 use Rattle.linear_algebra.specs.Elements.{numbers}

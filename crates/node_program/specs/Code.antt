@@ -1,5 +1,5 @@
 -- A code: a network, a rate, a field, the operands of each link and a decoder for each demand.
-use Rattle.std.specs.Prelude.{◌≡◌, ℕ, Bool, true, false, not, ◌≤◌, ◌*◌, ◌&&◌, ◌==◌, nat_lt, IsTrue, List, [], ◌∷◌, length, map, slice_get, if◌then◌else◌}
+use Rattle.std.specs.Prelude.{◌≡◌, ℕ, Bool, None, true, false, not, ◌≤◌, ◌*◌, ◌&&◌, ◌==◌, nat_lt, IsTrue, List, [], ◌∷◌, length, map, slice_get, if◌then◌else◌}
 use Rattle.std.specs.List.{list_all, list_any}
 use Rattle.std.specs.Option.{option_map_or}
 use Rattle.failure_patterns.specs.UsedField.{pair_demands}
@@ -71,6 +71,7 @@ pub record IsDraft (net : Net) (rate : ℕ) (field : FieldKind) (operands : List
   pub link_order : IsTrue (are_in_order [] net.links)
   pub link_operands : IsTrue (are_operands_of net rate field net.links operands)
   pub named_field : net.field ≡ choice_of field
+  pub no_wanted : net.wanted ≡ None
 
 -- a draft, and a decoder for each demand
 pub record IsCode (net : Net) (rate : ℕ) (field : FieldKind) (operands : List (List Operand)) (decoders : List Decoder) : Type 0 where

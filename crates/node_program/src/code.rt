@@ -9,7 +9,7 @@ use net_model::Net;
 /// tail of that link or of an earlier one. An operand of a link that leaves the source is a source row below
 /// the rate, one of another link is a link into its tail; the operands of a link rise, and their
 /// coefficients are nonzero elements. Each decoder has as many links as the rate, rising and all into the
-/// demand's sink, and a square matrix of elements. The network names the code's field.
+/// demand's sink, and a square matrix of elements. The network names the code's field, and no wanted rate.
 #[derive(Drop)]
 pub struct Code {
     pub net: Net,

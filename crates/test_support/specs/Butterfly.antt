@@ -1,6 +1,7 @@
 -- The butterfly: two rows from `s` to `t1` and to `t2`, whose paths share the link from `c` to `d`.
-use Rattle.std.specs.Prelude.{[], ◌∷◌}
+use Rattle.std.specs.Prelude.{[], ◌∷◌, None}
 use Rattle.std.proofs.Common.{refl, lit<, lit≤}
+use Rattle.std.proofs.lemmas.Option.{none-some}
 use Rattle.gf_tables.specs.declared.kind.FieldKind.TheVariants.{Eight}
 use Rattle.net_model.specs.declared.net.Net.{Net}
 use Rattle.net_model.specs.declared.net.FieldChoice.TheVariants as choice
@@ -16,6 +17,7 @@ network = record {
   sinks = butterfly_sinks;
   patterns = pattern_none ∷ [];
   field = choice.Eight;
+  wanted = None;
   network = record {
     node_names = refl;
     link_names = refl;
@@ -30,6 +32,7 @@ network = record {
     few_links = lit≤ tt;
     few_patterns = lit≤ tt;
   };
+  rate = λ rate some. absurd (none-some rate some);
 }
 
 unfoldable pub butterfly : Code
@@ -47,6 +50,7 @@ butterfly = record {
       link_order = refl;
       link_operands = refl;
       named_field = refl;
+      no_wanted = refl;
     };
     demand_decoders = refl;
   };
@@ -68,6 +72,7 @@ changed_butterfly = record {
       link_order = refl;
       link_operands = refl;
       named_field = refl;
+      no_wanted = refl;
     };
     demand_decoders = refl;
   };

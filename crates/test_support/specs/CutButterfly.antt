@@ -1,5 +1,7 @@
 -- The butterfly where the link from `s` to `a` may fail.
+use Rattle.std.specs.Prelude.{None}
 use Rattle.std.proofs.Common.{refl, lit<, lit≤}
+use Rattle.std.proofs.lemmas.Option.{none-some}
 use Rattle.gf_tables.specs.declared.kind.FieldKind.TheVariants.{Eight}
 use Rattle.net_model.specs.declared.net.Net.{Net}
 use Rattle.net_model.specs.declared.net.FieldChoice.TheVariants as choice
@@ -14,6 +16,7 @@ network = record {
   sinks = butterfly_sinks;
   patterns = cut_patterns;
   field = choice.Eight;
+  wanted = None;
   network = record {
     node_names = refl;
     link_names = refl;
@@ -28,6 +31,7 @@ network = record {
     few_links = lit≤ tt;
     few_patterns = lit≤ tt;
   };
+  rate = λ rate some. absurd (none-some rate some);
 }
 
 -- the pattern `cut` is number 1; each sink decodes as without it
@@ -46,6 +50,7 @@ cut_butterfly = record {
       link_order = refl;
       link_operands = refl;
       named_field = refl;
+      no_wanted = refl;
     };
     demand_decoders = refl;
   };

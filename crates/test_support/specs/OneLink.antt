@@ -1,6 +1,7 @@
 -- One link `l` from `s` to `t`.
-use Rattle.std.specs.Prelude.{ℕ, IsTrue, List, [], ◌∷◌, codes}
+use Rattle.std.specs.Prelude.{ℕ, IsTrue, None, List, [], ◌∷◌, codes}
 use Rattle.std.proofs.Common.{refl, lit<, lit≤}
+use Rattle.std.proofs.lemmas.Option.{none-some}
 use Rattle.gf_tables.specs.declared.kind.FieldKind.{FieldKind}
 use Rattle.gf_tables.specs.declared.kind.FieldKind.TheVariants.{Eight, Sixteen}
 use Rattle.net_model.specs.declared.Link.{Link}
@@ -28,6 +29,7 @@ network field = record {
   sinks = 1 ∷ [];
   patterns = patterns;
   field = field;
+  wanted = None;
   network = record {
     node_names = refl;
     link_names = refl;
@@ -42,6 +44,7 @@ network field = record {
     few_links = lit≤ tt;
     few_patterns = lit≤ tt;
   };
+  rate = λ rate some. absurd (none-some rate some);
 }
 
 abbrev operands : ℕ → List (List Operand)
@@ -71,6 +74,7 @@ code_with field times entry are = record {
       link_order = refl;
       link_operands = are.coefficient;
       named_field = refl;
+      no_wanted = refl;
     };
     demand_decoders = are.decoder;
   };

@@ -1,7 +1,7 @@
 use Rattle.std.proofs.Common.{◌≡◌, ℕ, ◌+◌, List, ◌++◌, length, drop, take, Ok, ap, ◌∙◌, arith}
 use Rattle.std.proofs.lemmas.Result.{err_from_is_err_and}
 use Rattle.std.proofs.lemmas.List.{length_push}
-use Rattle.list_laws.proofs.Writes.{written_back}
+use Rattle.item_list.proofs.Writes.{written_back}
 use Rattle.code_items.specs.Reading.{Rest, Reading, sink_at}
 use Rattle.code_items.specs.Gives.{Fails, left_of}
 use Rattle.code_items.proofs.Loop.{goes_on, ends, is_done}

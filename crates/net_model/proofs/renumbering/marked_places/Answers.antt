@@ -1,7 +1,7 @@
 use Rattle.std.proofs.Common.{◌++◌, ◌∷◌, ℕ, List, [], Bool, false, Vec, Global, cond, filter, slice_index, slice_index_or, ap, sym, ◌∙◌}
 use Rattle.std.specs.List.{range_with_len}
 use Rattle.std.proofs.lemmas.List.{append-nil}
-use Rattle.list_laws.proofs.Ranges.{filter-range_more}
+use Rattle.item_list.proofs.Ranges.{filter-range_more}
 use Rattle.net_model.proofs.renumbering.marked_places.Goals as goal
 use Rattle.net_model.proofs.renumbering.marked_places.Goals.{then-marks-old+in_ok-push, else-marks-old}
 

@@ -2,7 +2,7 @@ use Rattle.std.proofs.Common.{◌≡◌, ◌<◌, ◌++◌, ◌∷◌, ℕ, List
 use Rattle.std.proofs.lemmas.Bool.{ltb-true}
 use Rattle.std.proofs.lemmas.List.{map_more}
 use Rattle.std.proofs.lemmas.Option.{slice_get_read}
-use Rattle.list_laws.proofs.Tests.{passes_at}
+use Rattle.item_list.proofs.Tests.{passes_at}
 use Rattle.net_model.specs.declared.Link.{Link}
 use Rattle.net_model.proofs.renumbering.ordered_links.Goals as goal
 
