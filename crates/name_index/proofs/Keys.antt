@@ -3,7 +3,7 @@ use Rattle.std.proofs.Common.{◌≡◌, ℕ, Bool, true, false, not, List, [], 
 use Rattle.std.specs.List.{list_any, prefix_len, position, IsDistinct, AllByRecursion}
 use Rattle.std.specs.Str.{bytes_eq}
 use Rattle.std.proofs.lemmas.List.{map_push, length-map}
-use Rattle.list_laws.proofs.Tests.{list_any-map}
+use Rattle.item_list.proofs.Tests.{list_any-map}
 use Rattle.name_index.specs.Seen.{distinct_from}
 
 module _ {X : Type 0} (f : X → List ℕ) (keys : List X) (x : X) where

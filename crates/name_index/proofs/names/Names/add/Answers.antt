@@ -1,7 +1,7 @@
 use Rattle.std.proofs.Common.{not, ap, ◌∙◌, map, Bor, List, ℕ, ◌∷◌, [], sym}
 use Rattle.std.specs.List.{list_any}
 use Rattle.std.specs.Str.{bytes_eq}
-use Rattle.list_laws.proofs.Tests.{list_any-map}
+use Rattle.item_list.proofs.Tests.{list_any-map}
 use Rattle.name_index.proofs.Keys.{added_to}
 use Rattle.name_index.specs.Seen.{distinct_from}
 use Rattle.name_index.proofs.names.Names.add.Goals as goal

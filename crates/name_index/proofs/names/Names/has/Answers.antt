@@ -1,7 +1,7 @@
 use Rattle.std.proofs.Common.{ap, ◌∙◌, Bor, List, ℕ, sym}
 use Rattle.std.specs.List.{list_any}
 use Rattle.std.specs.Str.{bytes_eq}
-use Rattle.list_laws.proofs.Tests.{list_any-map}
+use Rattle.item_list.proofs.Tests.{list_any-map}
 use Rattle.name_index.proofs.names.Names.has.Goals as goal
 
 pub returns : goal.returns
