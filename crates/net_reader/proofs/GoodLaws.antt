@@ -1,33 +1,35 @@
 -- What holds of statements that are read without a refusal.
-use Rattle.std.specs.Prelude.{◌≡◌, ℕ, ◌+◌, ◌≤◌, Bool, true, false, not, ◌&&◌, nat_lt, List, [], ◌∷◌, ◌++◌, length, codes, Option, Some, None, Result, Ok, Err, IfOk, if◌then◌else◌}
-use Rattle.std.specs.List.{flat_map, list_all}
+use Rattle.std.specs.Prelude.{◌≡◌, ℕ, ◌+◌, ◌≤◌, ◌<◌, ◌==◌, Bool, true, false, not, nat_lt, List, [], ◌∷◌, ◌++◌, length, codes, All, Option, Some, None, Result, Ok, Err, IfOk, IfSome, if◌then◌else◌}
+use Rattle.std.specs.List.{flat_map, list_all, list_any}
 use Rattle.std.specs.Str.{bytes_eq}
-use Rattle.std.proofs.Common.{refl, ap, ◌∙◌, append-nil, arith}
-use Rattle.std.proofs.lemmas.Bool.{and_parts, and_from, not-false, not_from_false, ltb-false, lt-ltb}
+use Rattle.std.proofs.Common.{refl, ap, sym, subst, ◌∙◌, append-nil, arith}
+use Rattle.std.proofs.lemmas.Bool.{and_parts, and_from, not-false, not_from_false, or_parts, or_left, ltb-false, ltb-true, lt-ltb}
 use Rattle.std.proofs.lemmas.List.{length-append}
-use Rattle.std.proofs.lemmas.List.Folds.{list_all-append}
-use Rattle.net_model.specs.Lists.{are_distinct}
+use Rattle.std.proofs.lemmas.List.Elements.{All-append, All-cons, All-nil}
+use Rattle.std.proofs.lemmas.List.Folds.{list_all-append, list_any-append}
+use Rattle.net_model.specs.Limits.{highest_rate, most_links, most_listed, most_nodes}
+use Rattle.net_model.specs.Lists.{are_distinct, is_among}
 use Rattle.net_model.specs.Name.{is_name}
-use Rattle.net_model.specs.Network.{are_names}
+use Rattle.net_model.specs.Network.{are_names, is_listed_pattern}
+use Rattle.net_model.specs.declared.Pattern.{Pattern}
 use Rattle.net_reader.specs.Lines.{content_of, is_text, words_of}
-use Rattle.net_reader.proofs.Pushes.{flat_nodes-push, link_names-push, pattern_names-push, sink_names-push}
-use Rattle.net_reader.proofs.NameLaws.{are_distinct-more, are_names-more, all_have-more}
-use Rattle.name_index.specs.Seen.{has, distinct_from}
-use Rattle.net_reader.specs.Statements.{Statement, field_is, source_is, sink_is, link_is, pattern_is, field_of, source_of, sink_of, link_of, pattern_of, statement_of, nodes_in, link_names, pattern_names, sink_names, nodes_of, faults_of, refused_first, read_words, read_line}
+use Rattle.net_reader.proofs.BundleLaws.{NamesOne, bundles_of-within, names_one}
+use Rattle.net_reader.proofs.LinkLines.{link_names-good}
+use Rattle.net_model.proofs.RenumberedParts.{is_rising-filter_range, list_all-filter_range, some-filter_range}
+use Rattle.net_reader.proofs.NameLaws.{are_distinct-more, are_names-more}
+use Rattle.net_reader.proofs.Pushes.{each_after-push, flat_map-push, nodes_of-push}
+use Rattle.net_reader.proofs.Tables.{NoneHolds}
+use Rattle.net_reader.proofs.WordsSaid.{IsWithinLimits, IsWithinLimits-statement_of}
+use Rattle.net_reader.specs.Bundles.{in_rising_order, numbers_named, numbers_of_words}
+use Rattle.net_reader.specs.Statements.{Statement, field_is, rate_is, source_is, sink_is, link_is, pattern_is, fail_each_is, bundles_of, is_unknown, links_in, names_made, nodes_in, numbers_in, link_names, pattern_in, pattern_names, patterns_in, patterns_of, rates_in, rates_of, sink_names, sinks_in, nodes_of, faults_of, refused_first, read_words, read_line, statement_of}
 use Rattle.net_reader.specs.Text.{and_then, read_lines}
 use Rattle.net_reader.specs.declared.refusal.ReadRefusal.{ReadRefusal}
 use Rattle.net_reader.specs.declared.refusal.ReadRefusal.TheVariants.{BadByte, BadLine}
 
--- a pattern has links
-abbrev pub has_links : Statement → Bool
-has_links (pattern_is name links) = nat_lt 0 (length links)
-has_links statement = true
-
--- a link leads to another node, and a pattern has links, all of them with these names
-abbrev pub is_whole : List (List ℕ) → Statement → Bool
-is_whole names (link_is name tail head) = not (bytes_eq tail head)
-is_whole names (pattern_is name links) = nat_lt 0 (length links) && list_all (has names) links
-is_whole names statement = true
+-- a link leads to another node
+abbrev pub ends_differ : Statement → Bool
+ends_differ (link_is name tail head bundle) = not (bytes_eq tail head)
+ends_differ statement = true
 
 -- what holds of statements, each of which has no fault in view of those before it
 pub record AreGood (statements : List Statement) : Type 0 where
@@ -35,15 +37,12 @@ pub record AreGood (statements : List Statement) : Type 0 where
   pub links_named : are_names (link_names statements) ≡ true
   pub sinks_distinct : are_distinct bytes_eq (sink_names statements) ≡ true
   pub patterns_named : are_names (codes "none" ∷ pattern_names statements) ≡ true
-  pub each_whole : list_all (is_whole (link_names statements)) statements ≡ true
-  pub few_nodes : length (nodes_of statements) ≤ 4096
-  pub few_links : length (link_names statements) ≤ 8192
-  pub few_patterns : length (pattern_names statements) ≤ 4095
-
--- no fault is there
-abbrev pub NoneHolds : List (Bool × ReadRefusal) → Type 0
-NoneHolds [] = Unit {0}
-NoneHolds (fault ∷ faults) = (fault.0 ≡ false) × NoneHolds faults
+  pub ends_apart : list_all ends_differ statements ≡ true
+  pub patterns_listed : list_all (is_listed_pattern (length (link_names statements))) (patterns_of statements) ≡ true
+  pub rates_low : All (λ rate. (1 ≤ rate) × (rate ≤ highest_rate)) (rates_of statements)
+  pub few_nodes : length (nodes_of statements) ≤ most_nodes
+  pub few_links : length (link_names statements) ≤ most_links
+  pub few_patterns : length (pattern_names statements) ≤ most_listed
 
 -- no statements are good
 pub AreGood-none : AreGood []
@@ -52,149 +51,188 @@ AreGood-none = record {
   links_named = refl;
   sinks_distinct = refl;
   patterns_named = refl;
-  each_whole = refl;
+  ends_apart = refl;
+  patterns_listed = refl;
+  rates_low = All-nil (λ rate. (1 ≤ rate) × (rate ≤ highest_rate));
   few_nodes = omega arith;
   few_links = omega arith;
   few_patterns = omega arith;
 }
 
--- a statement without nodes adds none
-nodes_of-same : (earlier : List Statement) (statement : Statement) → nodes_in statement ≡ [] → nodes_of (earlier ++ statement ∷ []) ≡ nodes_of earlier
-nodes_of-same earlier statement none =
-    ap (λ (names : List (List ℕ)). distinct_from [] names) (flat_nodes-push earlier statement ∙ ap (λ (names : List (List ℕ)). flat_map nodes_in earlier ++ names) none ∙ append-nil (flat_map nodes_in earlier))
+-- ---- patterns
 
--- what is whole stays so with more links
-whole-more : (names more : List (List ℕ)) (statement : Statement) → is_whole names statement ≡ true → is_whole (names ++ more) statement ≡ true
-whole-more names more (pattern_is name links) whole =
-    let parts = and_parts _ _ whole in
-    and_from _ _ parts.0 (all_have-more names more links parts.1)
-whole-more names more (link_is name tail head) whole = whole
-whole-more names more statement whole = refl
+-- a listed pattern is one of more links too
+listed-more : (less more : ℕ) → less ≤ more → (patterns : List Pattern) → list_all (is_listed_pattern less) patterns ≡ true → list_all (is_listed_pattern more) patterns ≡ true
+listed-more less more within [] all = refl
+listed-more less more within (pattern ∷ patterns) all =
+    let parts = and_parts (is_listed_pattern less pattern) (list_all (is_listed_pattern less) patterns) all in
+    let links = and_parts _ (list_all (λ link. nat_lt link less) pattern.links) parts.0 in
+    and_from _ _ (and_from _ _ links.0 (below pattern.links links.1)) (listed-more less more within patterns parts.1)
+  where
+    below : (links : List ℕ) → list_all (λ link. nat_lt link less) links ≡ true → list_all (λ link. nat_lt link more) links ≡ true
+    below [] all = refl
+    below (link ∷ links) all =
+        let parts = and_parts (nat_lt link less) (list_all (λ link. nat_lt link less) links) all in
+        and_from _ _ (lt-ltb link more (omega (arith, ltb-true link less parts.0, within))) (below links parts.1)
 
-all_whole-more : (names more : List (List ℕ)) (statements : List Statement) → list_all (is_whole names) statements ≡ true → list_all (is_whole (names ++ more)) statements ≡ true
-all_whole-more names more [] all = refl
-all_whole-more names more (statement ∷ statements) all =
-    let parts = and_parts _ _ all in
-    and_from _ _ (whole-more names more statement parts.0) (all_whole-more names more statements parts.1)
+-- a number that is among the first of numbers is among all
+among-front : (front rest : List ℕ) (number : ℕ) → is_among front number ≡ true → is_among (front ++ rest) number ≡ true
+among-front front rest number among = list_any-append (λ one. one == number) front rest ∙ or_left _ _ among
+
+-- words of which each names a link name one, where there is a word
+words_name_one : (earlier : List Statement) (words : List (List ℕ)) → 0 < length words → list_any (is_unknown earlier) words ≡ false → NamesOne (length (link_names earlier)) (numbers_in earlier words)
+words_name_one earlier [] some known = absurd (omega (arith, some))
+words_name_one earlier (word ∷ words) some known =
+    let links = link_names earlier in
+    let bundles = bundles_of earlier in
+    let one = names_one links bundles word (bundles_of-within earlier) (or_parts (is_unknown earlier word) _ known).0 in
+    (one.0, one.1, among-front (numbers_named links bundles word) (numbers_of_words links bundles words) one.0 one.2)
+
+-- so they are the links of a listed pattern
+words_listed : (earlier : List Statement) (name : List ℕ) (words : List (List ℕ)) → 0 < length words → list_any (is_unknown earlier) words ≡ false
+    → list_all (is_listed_pattern (length (link_names earlier))) (pattern_in earlier (pattern_is name words)) ≡ true
+words_listed earlier name words some known =
+    let count = length (link_names earlier) in
+    let numbers = numbers_in earlier words in
+    let test : ℕ → Bool = is_among numbers in
+    let one = words_name_one earlier words some known in
+    let there : 0 < length (in_rising_order count numbers) = some-filter_range test 0 count one.0 (omega arith) (omega (arith, one.1)) one.2 in
+    and_from _ _ (and_from _ _ (and_from _ _ (lt-ltb 0 _ there) (is_rising-filter_range test 0 count)) (list_all-filter_range test (λ link. nat_lt link count) 0 count (λ link from below. lt-ltb link count (omega (arith, below))))) refl
 
 -- ---- one more statement without a fault
 
 module _ (earlier : List Statement) (line : ℕ) (good : AreGood earlier) where
   -- the names of its nodes are names
   nodes_named-more : (statement : Statement) → NoneHolds (faults_of earlier line statement) → list_all is_name (nodes_in statement) ≡ true
-  nodes_named-more (field_is bits) none = refl
   nodes_named-more (source_is node) none = and_from _ _ (not-false _ none.0) refl
   nodes_named-more (sink_is node) none = and_from _ _ (not-false _ none.0) refl
-  nodes_named-more (link_is name tail head) none = (and_parts (is_name name) (list_all is_name (tail ∷ head ∷ [])) (not-false _ none.0)).1
+  nodes_named-more (link_is name tail head bundle) none =
+      let ends = (and_parts (is_name name) (list_all is_name (tail ∷ head ∷ names_made name bundle)) (not-false _ none.0)).1 in
+      let rest = and_parts (is_name tail) (list_all is_name (head ∷ names_made name bundle)) ends in
+      and_from _ _ rest.0 (and_from _ _ (and_parts (is_name head) (list_all is_name (names_made name bundle)) rest.1).0 refl)
+  nodes_named-more (field_is bits) none = refl
+  nodes_named-more (rate_is rate) none = refl
   nodes_named-more (pattern_is name links) none = refl
+  nodes_named-more fail_each_is none = refl
 
   -- the links are named
-  links_named-more : (statement : Statement) → NoneHolds (faults_of earlier line statement) → are_names (link_names earlier ++ link_names (statement ∷ [])) ≡ true
-  links_named-more (link_is name tail head) none =
-      are_names-more (link_names earlier) name good.links_named (and_parts (is_name name) (list_all is_name (tail ∷ head ∷ [])) (not-false _ none.0)).0 none.1.0
-  links_named-more statement none = rw (append-nil (link_names earlier)) good.links_named
+  links_named-more : (statement : Statement) → IsWithinLimits statement → NoneHolds (faults_of earlier line statement) → are_names (link_names earlier ++ links_in statement) ≡ true
+  links_named-more (link_is name tail head bundle) within none =
+      let own = and_parts (is_name name) (list_all is_name (tail ∷ head ∷ names_made name bundle)) (not-false _ none.0) in
+      let rest = and_parts (is_name tail) (list_all is_name (head ∷ names_made name bundle)) own.1 in
+      let made = (and_parts (is_name head) (list_all is_name (names_made name bundle)) rest.1).1 in
+      link_names-good earlier name bundle within good.links_named (and_from _ _ own.0 made) none.1.0
+  links_named-more (field_is bits) within none = rw (append-nil (link_names earlier)) good.links_named
+  links_named-more (rate_is rate) within none = rw (append-nil (link_names earlier)) good.links_named
+  links_named-more (source_is node) within none = rw (append-nil (link_names earlier)) good.links_named
+  links_named-more (sink_is node) within none = rw (append-nil (link_names earlier)) good.links_named
+  links_named-more (pattern_is name links) within none = rw (append-nil (link_names earlier)) good.links_named
+  links_named-more fail_each_is within none = rw (append-nil (link_names earlier)) good.links_named
 
   -- the sinks are distinct
-  sinks_distinct-more : (statement : Statement) → NoneHolds (faults_of earlier line statement) → are_distinct bytes_eq (sink_names earlier ++ sink_names (statement ∷ [])) ≡ true
+  sinks_distinct-more : (statement : Statement) → NoneHolds (faults_of earlier line statement) → are_distinct bytes_eq (sink_names earlier ++ sinks_in statement) ≡ true
   sinks_distinct-more (sink_is node) none = are_distinct-more (sink_names earlier) node good.sinks_distinct none.1.0
-  sinks_distinct-more statement none = rw (append-nil (sink_names earlier)) good.sinks_distinct
+  sinks_distinct-more (field_is bits) none = rw (append-nil (sink_names earlier)) good.sinks_distinct
+  sinks_distinct-more (rate_is rate) none = rw (append-nil (sink_names earlier)) good.sinks_distinct
+  sinks_distinct-more (source_is node) none = rw (append-nil (sink_names earlier)) good.sinks_distinct
+  sinks_distinct-more (link_is name tail head bundle) none = rw (append-nil (sink_names earlier)) good.sinks_distinct
+  sinks_distinct-more (pattern_is name links) none = rw (append-nil (sink_names earlier)) good.sinks_distinct
+  sinks_distinct-more fail_each_is none = rw (append-nil (sink_names earlier)) good.sinks_distinct
 
   -- the patterns are named
-  patterns_named-more : (statement : Statement) → NoneHolds (faults_of earlier line statement) → are_names (codes "none" ∷ pattern_names earlier ++ pattern_names (statement ∷ [])) ≡ true
+  patterns_named-more : (statement : Statement) → NoneHolds (faults_of earlier line statement) → are_names (codes "none" ∷ pattern_names earlier ++ patterns_in statement) ≡ true
   patterns_named-more (pattern_is name links) none =
       are_names-more (codes "none" ∷ pattern_names earlier) name good.patterns_named (and_parts (is_name name) (list_all is_name links) (not-false _ none.0)).0 none.1.0
-  patterns_named-more statement none = rw (append-nil (pattern_names earlier)) good.patterns_named
+  patterns_named-more (field_is bits) none = rw (append-nil (pattern_names earlier)) good.patterns_named
+  patterns_named-more (rate_is rate) none = rw (append-nil (pattern_names earlier)) good.patterns_named
+  patterns_named-more (source_is node) none = rw (append-nil (pattern_names earlier)) good.patterns_named
+  patterns_named-more (sink_is node) none = rw (append-nil (pattern_names earlier)) good.patterns_named
+  patterns_named-more (link_is name tail head bundle) none = rw (append-nil (pattern_names earlier)) good.patterns_named
+  patterns_named-more fail_each_is none = rw (append-nil (pattern_names earlier)) good.patterns_named
 
-  -- it's whole in view of the earlier links
-  whole_after : (statement : Statement) → has_links statement ≡ true → NoneHolds (faults_of earlier line statement) → is_whole (link_names earlier) statement ≡ true
-  whole_after (link_is name tail head) linked none = not_from_false _ none.1.1.0
-  whole_after (pattern_is name links) linked none = and_from _ _ linked (not-false _ none.1.1.0)
-  whole_after statement linked none = refl
+  -- a link leads to another node
+  ends_apart-more : (statement : Statement) → NoneHolds (faults_of earlier line statement) → ends_differ statement ≡ true
+  ends_apart-more (link_is name tail head bundle) none = not_from_false _ none.1.1.0
+  ends_apart-more (field_is bits) none = refl
+  ends_apart-more (rate_is rate) none = refl
+  ends_apart-more (source_is node) none = refl
+  ends_apart-more (sink_is node) none = refl
+  ends_apart-more (pattern_is name links) none = refl
+  ends_apart-more fail_each_is none = refl
+
+  -- a pattern is a listed one
+  pattern_listed : (statement : Statement) → IsWithinLimits statement → NoneHolds (faults_of earlier line statement) → list_all (is_listed_pattern (length (link_names earlier))) (pattern_in earlier statement) ≡ true
+  pattern_listed (pattern_is name links) within none = words_listed earlier name links within none.1.1.0
+  pattern_listed (field_is bits) within none = refl
+  pattern_listed (rate_is rate) within none = refl
+  pattern_listed (source_is node) within none = refl
+  pattern_listed (sink_is node) within none = refl
+  pattern_listed (link_is name tail head bundle) within none = refl
+  pattern_listed fail_each_is within none = refl
+
+  -- a wanted rate is low
+  rate_low : (statement : Statement) → IsWithinLimits statement → All (λ rate. (1 ≤ rate) × (rate ≤ highest_rate)) (rates_in statement)
+  rate_low (rate_is rate) within = All-cons (λ rate. (1 ≤ rate) × (rate ≤ highest_rate)) rate [] within (All-nil (λ rate. (1 ≤ rate) × (rate ≤ highest_rate)))
+  rate_low (field_is bits) within = All-nil (λ rate. (1 ≤ rate) × (rate ≤ highest_rate))
+  rate_low (source_is node) within = All-nil (λ rate. (1 ≤ rate) × (rate ≤ highest_rate))
+  rate_low (sink_is node) within = All-nil (λ rate. (1 ≤ rate) × (rate ≤ highest_rate))
+  rate_low (link_is name tail head bundle) within = All-nil (λ rate. (1 ≤ rate) × (rate ≤ highest_rate))
+  rate_low (pattern_is name links) within = All-nil (λ rate. (1 ≤ rate) × (rate ≤ highest_rate))
+  rate_low fail_each_is within = All-nil (λ rate. (1 ≤ rate) × (rate ≤ highest_rate))
 
   -- there are few nodes
-  few_nodes-more : (statement : Statement) → NoneHolds (faults_of earlier line statement) → length (nodes_of (earlier ++ statement ∷ [])) ≤ 4096
-  few_nodes-more (field_is bits) none = rw (nodes_of-same earlier (field_is bits) refl) good.few_nodes
+  few_nodes-more : (statement : Statement) → NoneHolds (faults_of earlier line statement) → length (nodes_of (earlier ++ statement ∷ [])) ≤ most_nodes
   few_nodes-more (source_is node) none = ltb-false _ _ none.1.1.0
   few_nodes-more (sink_is node) none = ltb-false _ _ none.1.1.0
-  few_nodes-more (link_is name tail head) none = ltb-false _ _ none.1.1.1.0
-  few_nodes-more (pattern_is name links) none = rw (nodes_of-same earlier (pattern_is name links) refl) good.few_nodes
+  few_nodes-more (link_is name tail head bundle) none = ltb-false _ _ none.1.1.1.0
+  few_nodes-more (field_is bits) none = rw (nodes_of-push earlier (field_is bits)) good.few_nodes
+  few_nodes-more (rate_is rate) none = rw (nodes_of-push earlier (rate_is rate)) good.few_nodes
+  few_nodes-more (pattern_is name links) none = rw (nodes_of-push earlier (pattern_is name links)) good.few_nodes
+  few_nodes-more fail_each_is none = rw (nodes_of-push earlier fail_each_is) good.few_nodes
 
   -- there are few links
-  few_links-more : (statement : Statement) → NoneHolds (faults_of earlier line statement) → length (link_names earlier ++ link_names (statement ∷ [])) ≤ 8192
-  few_links-more (link_is name tail head) none =
-      let few = ltb-false _ _ none.1.1.1.1.0 in
-      omega (arith, few, length-append (link_names earlier) (name ∷ []))
-  few_links-more statement none = rw (append-nil (link_names earlier)) good.few_links
+  few_links-more : (statement : Statement) → NoneHolds (faults_of earlier line statement) → length (link_names (earlier ++ statement ∷ [])) ≤ most_links
+  few_links-more (link_is name tail head bundle) none = ltb-false _ _ none.1.1.1.1.0
+  few_links-more (field_is bits) none = rw (flat_map-push links_in earlier (field_is bits) ∙ append-nil (link_names earlier)) good.few_links
+  few_links-more (rate_is rate) none = rw (flat_map-push links_in earlier (rate_is rate) ∙ append-nil (link_names earlier)) good.few_links
+  few_links-more (source_is node) none = rw (flat_map-push links_in earlier (source_is node) ∙ append-nil (link_names earlier)) good.few_links
+  few_links-more (sink_is node) none = rw (flat_map-push links_in earlier (sink_is node) ∙ append-nil (link_names earlier)) good.few_links
+  few_links-more (pattern_is name links) none = rw (flat_map-push links_in earlier (pattern_is name links) ∙ append-nil (link_names earlier)) good.few_links
+  few_links-more fail_each_is none = rw (flat_map-push links_in earlier fail_each_is ∙ append-nil (link_names earlier)) good.few_links
 
   -- there are few patterns
-  few_patterns-more : (statement : Statement) → NoneHolds (faults_of earlier line statement) → length (pattern_names earlier ++ pattern_names (statement ∷ [])) ≤ 4095
-  few_patterns-more (pattern_is name links) none =
-      let few = ltb-false _ _ none.1.1.1.1.0 in
-      omega (arith, few, length-append (pattern_names earlier) (name ∷ []))
-  few_patterns-more statement none = rw (append-nil (pattern_names earlier)) good.few_patterns
+  few_patterns-more : (statement : Statement) → NoneHolds (faults_of earlier line statement) → length (pattern_names (earlier ++ statement ∷ [])) ≤ most_listed
+  few_patterns-more (pattern_is name links) none = ltb-false _ _ none.1.1.1.1.0
+  few_patterns-more (field_is bits) none = rw (flat_map-push patterns_in earlier (field_is bits) ∙ append-nil (pattern_names earlier)) good.few_patterns
+  few_patterns-more (rate_is rate) none = rw (flat_map-push patterns_in earlier (rate_is rate) ∙ append-nil (pattern_names earlier)) good.few_patterns
+  few_patterns-more (source_is node) none = rw (flat_map-push patterns_in earlier (source_is node) ∙ append-nil (pattern_names earlier)) good.few_patterns
+  few_patterns-more (sink_is node) none = rw (flat_map-push patterns_in earlier (sink_is node) ∙ append-nil (pattern_names earlier)) good.few_patterns
+  few_patterns-more (link_is name tail head bundle) none = rw (flat_map-push patterns_in earlier (link_is name tail head bundle) ∙ append-nil (pattern_names earlier)) good.few_patterns
+  few_patterns-more fail_each_is none = rw (flat_map-push patterns_in earlier fail_each_is ∙ append-nil (pattern_names earlier)) good.few_patterns
 
   -- so statements with one more are good
-  pub AreGood-more : (statement : Statement) → has_links statement ≡ true → NoneHolds (faults_of earlier line statement) → AreGood (earlier ++ statement ∷ [])
-  AreGood-more statement linked none = record {
-    nodes_named = rw (flat_nodes-push earlier statement) (list_all-append is_name (flat_map nodes_in earlier) (nodes_in statement) ∙ and_from _ _ good.nodes_named (nodes_named-more statement none));
-    links_named = rw (link_names-push earlier statement) (links_named-more statement none);
-    sinks_distinct = rw (sink_names-push earlier statement) (sinks_distinct-more statement none);
-    patterns_named = rw (pattern_names-push earlier statement) (patterns_named-more statement none);
-    each_whole = rw (link_names-push earlier statement)
-        (all_whole-more (link_names earlier) (link_names (statement ∷ [])) (earlier ++ statement ∷ [])
-        (list_all-append (is_whole (link_names earlier)) earlier (statement ∷ []) ∙ and_from _ _ good.each_whole (and_from _ _ (whole_after statement linked none) refl)));
-    few_nodes = few_nodes-more statement none;
-    few_links = rw (link_names-push earlier statement) (few_links-more statement none);
-    few_patterns = rw (pattern_names-push earlier statement) (few_patterns-more statement none);
-  }
+  pub AreGood-more : (statement : Statement) → IsWithinLimits statement → NoneHolds (faults_of earlier line statement) → AreGood (earlier ++ statement ∷ [])
+  AreGood-more statement within none =
+      let links = flat_map-push links_in earlier statement in
+      let fewer : length (link_names earlier) ≤ length (link_names (earlier ++ statement ∷ [])) = omega (arith, ap length links, length-append (link_names earlier) (links_in statement)) in
+      record {
+        nodes_named = rw (flat_map-push nodes_in earlier statement) (list_all-append is_name (flat_map nodes_in earlier) (nodes_in statement) ∙ and_from _ _ good.nodes_named (nodes_named-more statement none));
+        links_named = rw links (links_named-more statement within none);
+        sinks_distinct = rw (flat_map-push sinks_in earlier statement) (sinks_distinct-more statement none);
+        patterns_named = rw (flat_map-push patterns_in earlier statement) (patterns_named-more statement none);
+        ends_apart = list_all-append ends_differ earlier (statement ∷ []) ∙ and_from _ _ good.ends_apart (and_from _ _ (ends_apart-more statement none) refl);
+        patterns_listed =
+            rw (each_after-push pattern_in [] earlier statement)
+            (listed-more (length (link_names earlier)) _ fewer (patterns_of earlier ++ pattern_in earlier statement)
+            (list_all-append (is_listed_pattern (length (link_names earlier))) (patterns_of earlier) (pattern_in earlier statement) ∙ and_from _ _ good.patterns_listed (pattern_listed statement within none)));
+        rates_low = subst (All (λ rate. (1 ≤ rate) × (rate ≤ highest_rate))) (sym (flat_map-push rates_in earlier statement))
+            (All-append (λ rate. (1 ≤ rate) × (rate ≤ highest_rate)) (rates_of earlier) (rates_in statement) good.rates_low (rate_low statement within));
+        few_nodes = few_nodes-more statement none;
+        few_links = few_links-more statement none;
+        few_patterns = few_patterns-more statement none;
+      }
 
 -- ---- what words say
-
--- a statement that words are, if they are one, has links where it's a pattern
-abbrev AreLinked : Option Statement → Type 0
-AreLinked None = Unit {0}
-AreLinked (Some statement) = has_links statement ≡ true
-
-linked_either : (b : Bool) (x y : Option Statement) → AreLinked x → AreLinked y → AreLinked (if b then x else y)
-linked_either true x y is_x is_y = is_x
-linked_either false x y is_x is_y = is_y
-
-field_linked : (words : List (List ℕ)) → AreLinked (field_of words)
-field_linked [] = tt
-field_linked (bits ∷ []) =
-    linked_either (bytes_eq bits (codes "8")) (Some (field_is 8)) (if bytes_eq bits (codes "16") then Some (field_is 16) else None) refl
-    (linked_either (bytes_eq bits (codes "16")) (Some (field_is 16)) None refl tt)
-field_linked (bits ∷ more ∷ words) = tt
-
-source_linked : (words : List (List ℕ)) → AreLinked (source_of words)
-source_linked [] = tt
-source_linked (node ∷ []) = refl
-source_linked (node ∷ more ∷ words) = tt
-
-sink_linked : (words : List (List ℕ)) → AreLinked (sink_of words)
-sink_linked [] = tt
-sink_linked (node ∷ []) = refl
-sink_linked (node ∷ more ∷ words) = tt
-
-link_linked : (words : List (List ℕ)) → AreLinked (link_of words)
-link_linked [] = tt
-link_linked (name ∷ []) = tt
-link_linked (name ∷ tail ∷ []) = tt
-link_linked (name ∷ tail ∷ head ∷ []) = refl
-link_linked (name ∷ tail ∷ head ∷ more ∷ words) = tt
-
-pattern_linked : (words : List (List ℕ)) → AreLinked (pattern_of words)
-pattern_linked [] = tt
-pattern_linked (name ∷ []) = tt
-pattern_linked (name ∷ link ∷ links) = lt-ltb 0 (length (link ∷ links)) (omega arith)
-
-statement_linked : (first : List ℕ) (words : List (List ℕ)) → AreLinked (statement_of first words)
-statement_linked first words =
-    linked_either (bytes_eq first (codes "field")) _ _ (field_linked words)
-    (linked_either (bytes_eq first (codes "source")) _ _ (source_linked words)
-    (linked_either (bytes_eq first (codes "sink")) _ _ (sink_linked words)
-    (linked_either (bytes_eq first (codes "link")) _ _ (link_linked words)
-    (linked_either (bytes_eq first (codes "pattern")) _ None (pattern_linked words) tt))))
 
 -- where no fault is there, a statement is said
 not_refused : (P : List Statement → Type 0) (statement : Statement) (faults : List (Bool × ReadRefusal)) → (NoneHolds faults → P (statement ∷ [])) → IfOk (refused_first faults statement) P
@@ -206,16 +244,16 @@ not_refused P statement (fault ∷ faults) good = either fault.0 refl (λ is. no
     either false is rest = rest is
 
 -- what a statement says, if there is one, is good after what is good
-said-good : (earlier : List Statement) (line : ℕ) (said : Option Statement) → AreGood earlier → AreLinked said
+said-good : (earlier : List Statement) (line : ℕ) (said : Option Statement) → AreGood earlier → IfSome said IsWithinLimits
     → IfOk (elim said as (λ x. Result (List Statement) ReadRefusal) [ None ↦ Err (BadLine line) | Some statement ↦ refused_first (faults_of earlier line statement) statement ]) (λ statements. AreGood (earlier ++ statements))
-said-good earlier line None good linked = tt
-said-good earlier line (Some statement) good linked =
-    not_refused (λ statements. AreGood (earlier ++ statements)) statement (faults_of earlier line statement) (λ none. AreGood-more earlier line good statement linked none)
+said-good earlier line None good within = tt
+said-good earlier line (Some statement) good within =
+    not_refused (λ statements. AreGood (earlier ++ statements)) statement (faults_of earlier line statement) (λ none. AreGood-more earlier line good statement within none)
 
 -- so is what words say
 read_words-good : (earlier : List Statement) (line : ℕ) (words : List (List ℕ)) → AreGood earlier → IfOk (read_words earlier line words) (λ statements. AreGood (earlier ++ statements))
 read_words-good earlier line [] good = rw (append-nil earlier) good
-read_words-good earlier line (first ∷ words) good = said-good earlier line (statement_of first words) good (statement_linked first words)
+read_words-good earlier line (first ∷ words) good = said-good earlier line (statement_of first words) good (IsWithinLimits-statement_of first words)
 
 -- and what a line says
 read_line-good : (earlier : List Statement) (line : ℕ) (bytes : List ℕ) → AreGood earlier → IfOk (read_line earlier line bytes) (λ statements. AreGood (earlier ++ statements))

@@ -1,15 +1,15 @@
 -- Names among names: their numbers, and names each where it stands first.
-use Rattle.std.specs.Prelude.{◌≡◌, ℕ, zero, suc, ◌+◌, ◌<◌, ◌≤◌, Bool, true, false, nat_eq, nat_lt, List, [], ◌∷◌, ◌++◌, length, map, filter, Some, None, cond, unwrap_or, if◌then◌else◌}
-use Rattle.std.specs.List.{list_all, list_any, position_or_len, range_with_len}
+use Rattle.std.specs.Prelude.{◌≡◌, ℕ, ◌+◌, ◌<◌, ◌||◌, Bool, true, false, not, nat_eq, List, [], ◌∷◌, ◌++◌, length, map, Some, None, cond, unwrap_or, if◌then◌else◌}
+use Rattle.std.specs.List.{list_all, list_any, position_or_len}
 use Rattle.std.specs.Str.{bytes_eq}
-use Rattle.std.proofs.Common.{refl, sym, subst, ap, ◌∙◌, get_or, arith}
+use Rattle.std.proofs.Common.{refl, sym, ap, ◌∙◌, get_or}
 use Rattle.std.proofs.lemmas.Bool.{false≢true, and_parts, and_from, or_parts, or_from, or_left, or_right, not-true, not_from_false, false_from_ne_true, eqb-true, lt-ltb}
 use Rattle.std.proofs.lemmas.List.Folds.{list_any-append, list_all-append}
 use Rattle.std.proofs.lemmas.List.Sums.{passes_at_first}
 use Rattle.std.proofs.lemmas.Slice.Eq.{bytes_eq-Decides}
-use Rattle.net_model.specs.Lists.{are_distinct, is_rising}
+use Rattle.net_model.specs.Lists.{are_distinct}
 use Rattle.std.proofs.lemmas.Cmp.{nat_list_eq_equiv}
-use Rattle.list_laws.proofs.Tests.{position_or_len-within}
+use Rattle.item_list.proofs.Tests.{position_or_len-within}
 use Rattle.net_model.specs.Name.{is_name}
 use Rattle.net_model.specs.Network.{are_names, is_sink_among}
 use Rattle.name_index.specs.Seen.{has, distinct_from}
@@ -40,13 +40,6 @@ are_names-more names name are is is_new =
 -- what stands among names stands among more
 pub has-more : (names more : List (List ℕ)) (name : List ℕ) → has names name ≡ true → has (names ++ more) name ≡ true
 has-more names more name here = list_any-append (bytes_eq name) names more ∙ or_left _ _ here
-
--- so do all of several names
-pub all_have-more : (names more among : List (List ℕ)) → list_all (has names) among ≡ true → list_all (has (names ++ more)) among ≡ true
-all_have-more names more [] all = refl
-all_have-more names more (name ∷ among) all =
-    let parts = and_parts _ _ all in
-    and_from _ _ (has-more names more name parts.0) (all_have-more names more among parts.1)
 
 -- ---- names each where it stands first
 
@@ -147,45 +140,17 @@ module _ (names : List (List ℕ)) where
       let apart = and_parts _ _ distinct in
       and_from _ _ (not_from_false _ (number_new name among parts.0 parts.1 (not-true _ apart.0))) (distinct_numbers among parts.1 apart.1)
 
--- ---- the numbers from one on that pass a test
+-- the first place at which an item passes is the same with more items
+first-more : {X : Type 0} (test : X → Bool) (xs more : List X) → list_any test xs ≡ true → position_or_len test (xs ++ more) ≡ position_or_len test xs
+first-more test [] more some = absurd (false≢true some)
+first-more test (x ∷ xs) more some = either (test x) some (first-more test xs more)
+  where
+    either : (b : Bool) → (b || list_any test xs) ≡ true → (list_any test xs ≡ true → position_or_len test (xs ++ more) ≡ position_or_len test xs)
+        → cond (not b) (1 + position_or_len test (xs ++ more)) 0 ≡ cond (not b) (1 + position_or_len test xs) 0
+    either true some rest = refl
+    either false some rest = ap (λ (n : ℕ). 1 + n) (rest some)
 
-module _ (test : ℕ → Bool) where
-  -- each is at least the first
-  all_above : (low a n : ℕ) → low < a → list_all (nat_lt low) (filter test (range_with_len a n)) ≡ true
-  all_above low a zero above = refl
-  all_above low a (suc n) above = either (test a) (all_above low (a + 1) n (omega arith))
-    where
-      either : (b : Bool) → list_all (nat_lt low) (filter test (range_with_len (a + 1) n)) ≡ true → list_all (nat_lt low) (cond b (a ∷ filter test (range_with_len (a + 1) n)) (filter test (range_with_len (a + 1) n))) ≡ true
-      either true rest = and_from _ _ (lt-ltb low a above) rest
-      either false rest = rest
-
-  -- they rise
-  pub is_rising-filter : (a n : ℕ) → is_rising (filter test (range_with_len a n)) ≡ true
-  is_rising-filter a zero = refl
-  is_rising-filter a (suc n) = either (test a) (is_rising-filter (a + 1) n)
-    where
-      either : (b : Bool) → is_rising (filter test (range_with_len (a + 1) n)) ≡ true → is_rising (cond b (a ∷ filter test (range_with_len (a + 1) n)) (filter test (range_with_len (a + 1) n))) ≡ true
-      either true rest = and_from _ _ (all_above a (a + 1) n (omega arith)) rest
-      either false rest = rest
-
-  -- they are below the last
-  pub all_below-filter : (a n bound : ℕ) → a + n ≤ bound → list_all (λ i. nat_lt i bound) (filter test (range_with_len a n)) ≡ true
-  all_below-filter a zero bound within = refl
-  all_below-filter a (suc n) bound within = either (test a) (all_below-filter (a + 1) n bound (omega arith))
-    where
-      either : (b : Bool) → list_all (λ i. nat_lt i bound) (filter test (range_with_len (a + 1) n)) ≡ true → list_all (λ i. nat_lt i bound) (cond b (a ∷ filter test (range_with_len (a + 1) n)) (filter test (range_with_len (a + 1) n))) ≡ true
-      either true rest = and_from _ _ (lt-ltb a bound (omega arith)) rest
-      either false rest = rest
-
-  -- where one passes there is one
-  pub some-filter : (a n skip : ℕ) → skip < n → test (a + skip) ≡ true → 0 < length (filter test (range_with_len a n))
-  some-filter a zero skip within passes = absurd (omega arith)
-  some-filter a (suc n) zero within passes = rw (passes_here passes) (omega arith)
-    where
-      passes_here : test (a + 0) ≡ true → test a ≡ true
-      passes_here passes = subst (λ (i : ℕ). test i ≡ true) (omega arith) passes
-  some-filter a (suc n) (suc skip) within passes = either (test a) (some-filter (a + 1) n skip (omega arith) (subst (λ (i : ℕ). test i ≡ true) (omega arith) passes))
-    where
-      either : (b : Bool) → 0 < length (filter test (range_with_len (a + 1) n)) → 0 < length (cond b (a ∷ filter test (range_with_len (a + 1) n)) (filter test (range_with_len (a + 1) n)))
-      either true rest = omega arith
-      either false rest = rest
+-- the number of a name is the same with more names
+pub number_in-more : (names more : List (List ℕ)) (name : List ℕ) → has names name ≡ true → number_in (names ++ more) name ≡ number_in names name
+number_in-more names more name here =
+    number_is (names ++ more) name (has-more names more name here) ∙ first-more (bytes_eq name) names more here ∙ sym (number_is names name here)

@@ -1,8 +1,8 @@
-pub mod Added
+pub mod Bundles
+pub mod Digits
 pub mod Fresh
 pub mod Gives
 pub mod Lines
-pub mod Marks
 pub mod Parts
 pub mod RefusalNames
 pub mod Said

@@ -11,4 +11,5 @@ parts_seen parts = record {
   sinks = parts.sinks;
   patterns = parts.patterns;
   field = parts.field;
+  wanted = parts.wanted;
 }

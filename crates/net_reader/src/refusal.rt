@@ -10,11 +10,12 @@ pub enum What {
     Links,
     /// More than 4095 listed patterns.
     Patterns,
+    /// More than 2,097,152 links in all listed patterns together.
+    Members,
 }
 
-/// Why a text is no network. The refusal is that of the first line that isn't good, and of its
-/// refusals the first in the order below; the last but one three are of the text as a whole. A line
-/// is counted from 1, skipped ones too.
+/// Why a text is no network. The refusal is that of the first line that isn't good, and of its refusals the first in
+/// the order below; those that have no line are of the text as a whole. A line is counted from 1, skipped ones too.
 #[derive(Clone, Copy, Debug, PartialEq, Eq)]
 pub enum ReadRefusal {
     /// A byte is neither a tab nor from the space to the tilde.
@@ -29,7 +30,7 @@ pub enum ReadRefusal {
     BadName {
         line: u64,
     },
-    /// An earlier link has the name.
+    /// An earlier link or bundle has the name, or one that the bundle makes.
     DuplicateLink {
         line: u64,
     },
@@ -49,11 +50,11 @@ pub enum ReadRefusal {
     SelfLoop {
         line: u64,
     },
-    /// No earlier link has the name.
+    /// No earlier link or bundle has the name.
     UnknownLink {
         line: u64,
     },
-    /// A link is named twice.
+    /// A link is named twice, by itself or by its bundle.
     RepeatedLink {
         line: u64,
     },
@@ -77,6 +78,24 @@ pub enum ReadRefusal {
     },
     /// There was no memory.
     OutOfMemory,
+    /// There is a wanted rate already.
+    SecondRate {
+        line: u64,
+    },
+    /// That each link fails alone was said already.
+    SecondFailEach {
+        line: u64,
+    },
+    /// Each link is to fail alone, and a link is named `none` or as a listed pattern.
+    PatternNamed {
+        /// The number of the first such link.
+        link: u32,
+    },
+    /// Each link is to fail alone, and there are more than 4095 listed patterns and links.
+    TooManyPatterns {
+        /// How many there are.
+        count: u64,
+    },
 }
 
 impl What {
@@ -92,6 +111,7 @@ impl What {
             What::Nodes => "Nodes",
             What::Links => "Links",
             What::Patterns => "Patterns",
+            What::Members => "Members",
         }
     }
 }
@@ -122,6 +142,10 @@ impl ReadRefusal {
             ReadRefusal::NoSink => "NoSink",
             ReadRefusal::SinkIsSource { .. } => "SinkIsSource",
             ReadRefusal::OutOfMemory => "OutOfMemory",
+            ReadRefusal::SecondRate { .. } => "SecondRate",
+            ReadRefusal::SecondFailEach { .. } => "SecondFailEach",
+            ReadRefusal::PatternNamed { .. } => "PatternNamed",
+            ReadRefusal::TooManyPatterns { .. } => "TooManyPatterns",
         }
     }
 
@@ -146,6 +170,10 @@ impl ReadRefusal {
             ReadRefusal::NoSink => None,
             ReadRefusal::SinkIsSource { .. } => None,
             ReadRefusal::OutOfMemory => None,
+            ReadRefusal::SecondRate { line } => Some(line),
+            ReadRefusal::SecondFailEach { line } => Some(line),
+            ReadRefusal::PatternNamed { .. } => None,
+            ReadRefusal::TooManyPatterns { .. } => None,
         }
     }
 }

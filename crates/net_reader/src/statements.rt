@@ -1,12 +1,15 @@
 //! What the words of a line say.
-ghost use Rattle.std.specs.Prelude.{IfOk};
+ghost use Rattle.std.specs.Prelude.{◌≡◌};
 ghost use Rattle.net_reader.specs.Said.{Says};
-ghost use Rattle.net_reader.specs.Statements.{field_of, source_of, sink_of, link_of, pattern_of, statement_of};
+ghost use Rattle.net_reader.specs.Statements.{count_of, fail_each_of, field_of, link_of, pattern_of, rate_of, sink_of, source_of, statement_of};
 ghost use Rattle.net_reader.specs.Words.{texts_of};
 
-use std::alloc::{AllocError, Global};
+use crate::digits::number_to;
+use net_model::{HIGHEST_RATE, MOST_LINKS};
 
 const FIELD: &[u8] = b"field";
+
+const RATE: &[u8] = b"rate";
 
 const SOURCE: &[u8] = b"source";
 
@@ -16,28 +19,33 @@ const LINK: &[u8] = b"link";
 
 const PATTERN: &[u8] = b"pattern";
 
+const FAIL_EACH: &[u8] = b"fail-each";
+
 const EIGHT: &[u8] = b"8";
 
 const SIXTEEN: &[u8] = b"16";
 
 /// What a line says.
-#[derive(Drop)]
-pub(crate) enum Said<'a> {
+pub(crate) enum Said<'a, 'w> {
     Field(u32),
+    Rate(u32),
     Source(&'a [u8]),
     Sink(&'a [u8]),
+    /// A link, or a bundle of so many.
     Link {
         name: &'a [u8],
         tail: &'a [u8],
         head: &'a [u8],
+        bundle: Option<u32>,
     },
     Pattern {
         name: &'a [u8],
-        links: Vec<&'a [u8]>,
+        links: &'w [&'a [u8]],
     },
+    FailEach,
 }
 
-fn field_of<'a>(words: &[&'a [u8]]) -> Option<Said<'a>>
+fn field_of<'a, 'w>(words: &'w [&'a [u8]]) -> Option<Said<'a, 'w>>
     ensures { Says (field_of (texts_of words.now)) result }
 {
     let [bits] = words else {
@@ -52,7 +60,17 @@ fn field_of<'a>(words: &[&'a [u8]]) -> Option<Said<'a>>
     }
 }
 
-fn source_of<'a>(words: &[&'a [u8]]) -> Option<Said<'a>>
+fn rate_of<'a, 'w>(words: &'w [&'a [u8]]) -> Option<Said<'a, 'w>>
+    ensures { Says (rate_of (texts_of words.now)) result }
+{
+    let [rate] = words else {
+        return None;
+    };
+    let rate = number_to(HIGHEST_RATE, rate)?;
+    Some(Said::Rate(rate))
+}
+
+fn source_of<'a, 'w>(words: &'w [&'a [u8]]) -> Option<Said<'a, 'w>>
     ensures { Says (source_of (texts_of words.now)) result }
 {
     match words {
@@ -61,7 +79,7 @@ fn source_of<'a>(words: &[&'a [u8]]) -> Option<Said<'a>>
     }
 }
 
-fn sink_of<'a>(words: &[&'a [u8]]) -> Option<Said<'a>>
+fn sink_of<'a, 'w>(words: &'w [&'a [u8]]) -> Option<Said<'a, 'w>>
     ensures { Says (sink_of (texts_of words.now)) result }
 {
     match words {
@@ -70,46 +88,79 @@ fn sink_of<'a>(words: &[&'a [u8]]) -> Option<Said<'a>>
     }
 }
 
-fn link_of<'a>(words: &[&'a [u8]]) -> Option<Said<'a>>
-    ensures { Says (link_of (texts_of words.now)) result }
+// How many links a bundle has.
+fn count_of(word: &[u8]) -> Option<u32>
+    ensures { result ≡ count_of word.now }
 {
-    match words {
-        [name, tail, head] => Some(Said::Link { name, tail, head }),
+    match word {
+        [b'x', digits @ ..] => number_to(MOST_LINKS as u32, digits),
         _ => None,
     }
 }
 
-fn pattern_of<'a>(alloc: Global, words: &[&'a [u8]]) -> Result<Option<Said<'a>>, AllocError>
-    ensures { IfOk result (Says (pattern_of (texts_of words.now))) }
+fn link_of<'a, 'w>(words: &'w [&'a [u8]]) -> Option<Said<'a, 'w>>
+    ensures { Says (link_of (texts_of words.now)) result }
 {
     match words {
-        [name, _, ..] => {
-            let links = Vec::from_slice(alloc, &words[1..])?;
-            Ok(Some(Said::Pattern { name, links }))
+        [name, tail, head] => Some(Said::Link {
+            name,
+            tail,
+            head,
+            bundle: None,
+        }),
+        [name, tail, head, count] => {
+            let count = count_of(count)?;
+            Some(Said::Link {
+                name,
+                tail,
+                head,
+                bundle: Some(count),
+            })
         }
-        _ => Ok(None),
+        _ => None,
+    }
+}
+
+fn pattern_of<'a, 'w>(words: &'w [&'a [u8]]) -> Option<Said<'a, 'w>>
+    ensures { Says (pattern_of (texts_of words.now)) result }
+{
+    match words {
+        [name, _, ..] => Some(Said::Pattern {
+            name,
+            links: &words[1..],
+        }),
+        _ => None,
+    }
+}
+
+fn fail_each_of<'a, 'w>(words: &'w [&'a [u8]]) -> Option<Said<'a, 'w>>
+    ensures { Says (fail_each_of (texts_of words.now)) result }
+{
+    match words {
+        [] => Some(Said::FailEach),
+        _ => None,
     }
 }
 
 /// What words say, if they say anything.
-pub(crate) fn statement_of<'a>(
-    alloc: Global,
-    first: &[u8],
-    words: &[&'a [u8]],
-) -> Result<Option<Said<'a>>, AllocError>
-    ensures { IfOk result (Says (statement_of first.now (texts_of words.now))) }
+pub(crate) fn statement_of<'a, 'w>(first: &[u8], words: &'w [&'a [u8]]) -> Option<Said<'a, 'w>>
+    ensures { Says (statement_of first.now (texts_of words.now)) result }
 {
     if first == FIELD {
-        Ok(field_of(words))
+        field_of(words)
+    } else if first == RATE {
+        rate_of(words)
     } else if first == SOURCE {
-        Ok(source_of(words))
+        source_of(words)
     } else if first == SINK {
-        Ok(sink_of(words))
+        sink_of(words)
     } else if first == LINK {
-        Ok(link_of(words))
+        link_of(words)
     } else if first == PATTERN {
-        pattern_of(alloc, words)
+        pattern_of(words)
+    } else if first == FAIL_EACH {
+        fail_each_of(words)
     } else {
-        Ok(None)
+        None
     }
 }

@@ -1,43 +1,83 @@
 //! All of a network text.
-ghost use Rattle.std.specs.Prelude.{◌≡◌, ◌≤◌, [], Ok, length, IfOk, IfErr, IsOkUnless};
-ghost use Rattle.net_model.specs.Network.{IsNetwork};
+ghost use Rattle.std.specs.Prelude.{◌≡◌, ◌≤◌, List, Ok, length, position, IfOk, IfErr, IsOkUnless};
+ghost use Rattle.net_model.specs.Network.{IsNetwork, IsWanted};
 ghost use Rattle.net_reader.specs.Gives.{Fails, Gives, Makes};
 ghost use Rattle.net_reader.specs.Parts.{parts_seen};
-ghost use Rattle.net_reader.specs.State.{said_in, IsState};
-ghost use Rattle.net_reader.specs.Text.{net_limit, network_of, parts_in, parts_of, whole_said};
+ghost use Rattle.net_reader.specs.State.{AreTables, IsState};
+ghost use Rattle.net_reader.specs.Statements.{Statement, link_names};
+ghost use Rattle.net_reader.specs.Text.{alone_fault, names_pattern, net_limit, network_of, parts_in, parts_of, whole_said};
 ghost use Rattle.net_reader.specs.declared.refusal.ReadRefusal.TheVariants.{OutOfMemory};
 
 use crate::ReadRefusal;
-use crate::parts::{Parts, choice_of, link_table, name_list, number, pattern_list, sink_list};
+use crate::parts::{Parts, choice_of, name_list, number, pattern_list, sink_list};
 use crate::reading::read_text;
-use crate::state::State;
-use net_model::Net;
+use crate::state::{NONE, State};
+use net_model::{LinkTable, MOST_LISTED, Net};
 use std::alloc::Global;
 
-// The parts that the statements stand for.
-fn parts_in(alloc: Global, state: &State, source: &[u8]) -> Result<Parts, ReadRefusal>
-    requires { IsState state.now }
-    ensures gives { Makes parts_seen result (parts_in (said_in state.now) source.now) }
+// The parts that the tables stand for.
+fn parts_in(alloc: Global, state: State, source: &[u8]) -> Result<Parts, ReadRefusal>
+    requires { IsState state }
+    ensures gives { (statements : List Statement) → AreTables statements state.entry
+        → Makes parts_seen result (parts_in statements source.now) }
     ensures refused { IsOkUnless result OutOfMemory }
 {
     let nodes = name_list(alloc, state.nodes.as_slice())?;
-    let links = link_table(alloc, &state.nodes, &state.said)?;
+    let source = number(&state.nodes, source);
     let sinks = sink_list(alloc, &state.nodes, state.sinks.as_slice())?;
-    let patterns = pattern_list(alloc, &state.links, &state.said)?;
+    let State {
+        link_names,
+        links,
+        patterns,
+        field,
+        rate,
+        fails_each,
+        ..
+    } = state;
+    let patterns = pattern_list(alloc, patterns, link_names.as_slice(), fails_each)?;
     Ok(Parts {
         nodes,
-        links,
-        source: number(&state.nodes, source),
+        links: LinkTable::of(links),
+        source,
         sinks,
         patterns,
-        field: choice_of(state.field),
+        field: choice_of(field),
+        wanted: rate,
     })
 }
 
-// What the statements stand for, or what is wrong with them as a whole.
-fn whole_of(alloc: Global, state: &State) -> Result<Parts, ReadRefusal>
+// The number of the first link that is named as a pattern.
+fn first_named(state: &State) -> Option<usize>
+    ensures { (statements : List Statement) → AreTables statements state.now
+        → result ≡ position (names_pattern statements) (link_names statements) }
+{
+    state.link_names.as_slice().iter().position(|name| name.as_slice() == NONE
+        || state.pattern_names.has(name.as_slice()))
+}
+
+// What is wrong where each link is to fail alone.
+fn alone_fault(state: &State) -> Option<ReadRefusal>
     requires { IsState state.now }
-    ensures { Gives parts_seen result (whole_said (said_in state.now)) }
+    ensures { (statements : List Statement) → AreTables statements state.now
+        → result ≡ alone_fault statements }
+{
+    if let Some(link) = first_named(state) {
+        return Some(ReadRefusal::PatternNamed { link: link as u32 });
+    }
+    let count = state.patterns.len() + state.links.len();
+    if count > MOST_LISTED {
+        return Some(ReadRefusal::TooManyPatterns {
+            count: count as u64,
+        });
+    }
+    None
+}
+
+// What the tables stand for, or what is wrong with them as a whole.
+fn whole_of(alloc: Global, state: State) -> Result<Parts, ReadRefusal>
+    requires { IsState state }
+    ensures { (statements : List Statement) → AreTables statements state.entry
+        → Gives parts_seen result (whole_said statements) }
 {
     let Some(source) = state.source else {
         return Err(ReadRefusal::NoSource);
@@ -50,21 +90,12 @@ fn whole_of(alloc: Global, state: &State) -> Result<Parts, ReadRefusal>
             sink: number(&state.nodes, source),
         });
     }
+    if state.fails_each {
+        if let Some(refusal) = alone_fault(&state) {
+            return Err(refusal);
+        }
+    }
     parts_in(alloc, state, source)
-}
-
-// The parts that a text stands for, which is the first that the state reads.
-fn parts_read<'a>(
-    alloc: Global,
-    state: &mut State<'a>,
-    text: &'a [u8],
-) -> Result<Parts, ReadRefusal>
-    requires said { said_in state.old ≡ [] }
-    requires tables { IsState state.old }
-    ensures { Gives parts_seen result (network_of text.now) }
-{
-    read_text(alloc, state, text)?;
-    whole_of(alloc, state)
 }
 
 // The parts that a text stands for.
@@ -72,12 +103,14 @@ fn read_parts(alloc: Global, text: &[u8]) -> Result<Parts, ReadRefusal>
     ensures { Gives parts_seen result (network_of text.now) }
 {
     let mut state = State::new(alloc);
-    parts_read(alloc, &mut state, text)
+    read_text(alloc, &mut state, text)?;
+    whole_of(alloc, state)
 }
 
 // The network of its parts.
 fn net_of(parts: Parts) -> Net
-    requires { IsNetwork parts.nodes parts.links parts.source parts.sinks parts.patterns }
+    requires network { IsNetwork parts.nodes parts.links parts.source parts.sinks parts.patterns }
+    requires wanted { IsWanted parts.wanted }
     ensures { parts_of result ≡ parts_seen parts }
 {
     let Parts {
@@ -87,8 +120,13 @@ fn net_of(parts: Parts) -> Net
         sinks,
         patterns,
         field,
+        wanted,
     } = parts;
-    Net::of(nodes, links, source, sinks, patterns, field)
+    let net = Net::of(nodes, links, source, sinks, patterns, field);
+    match wanted {
+        None => net,
+        Some(rate) => net.wanting(rate),
+    }
 }
 
 /// The greatest length of a network text, in bytes.

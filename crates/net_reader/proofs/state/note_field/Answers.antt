@@ -1,13 +1,31 @@
-use Rattle.std.proofs.Common.{List, ℕ, [], ◌∷◌, ◌++◌, refl, sym, ap}
+use Rattle.std.proofs.Common.{◌∷◌, ◌++◌, [], ℕ, List, length, nat_lt, refl, sym, ap, ◌∙◌, arith}
+use Rattle.std.proofs.Math.Bool.{or-false}
 use Rattle.std.proofs.lemmas.List.{append-nil}
-use Rattle.net_reader.specs.State.{said_in}
 use Rattle.net_reader.specs.Statements.{field_is}
-use Rattle.net_reader.proofs.Tables.{noted, none_listed}
+use Rattle.net_reader.proofs.Tables.{Hears-said, none_listed}
 use Rattle.net_reader.proofs.state.note_field.Goals as goal
 
-pub returns-clause-noted : goal.returns-clause-noted
-returns-clause-noted c =
-    noted (said_in c.args.state.now) (field_is c.args.bits) c.args.state.now c.requires _
-    refl (sym (append-nil _)) (sym (append-nil _)) (sym (append-nil _)) (sym (append-nil _))
-    (ap (λ (l : List ℕ). l ++ c.args.bits ∷ []) (sym (none_listed c.args.state.now.field (cc))))
-    c.requires.few_nodes c.requires.few_links
+pub returns : goal.returns
+returns c = λ earlier tables.
+    let none = none_listed c.args.state.now.field (cc) in
+    Hears-said earlier c.args.line (field_is c.args.bits) c.args.state.now _ tables
+    (ap (λ (bits : List ℕ). nat_lt 0 (length bits)) (sym tables.field ∙ none), tt)
+    (record {
+      nodes = refl;
+      link_names = sym (append-nil _);
+      links = sym (append-nil _);
+      bundle_names = sym (append-nil _);
+      bundles = sym (append-nil _);
+      pattern_names = sym (append-nil _);
+      patterns = sym (append-nil _);
+      members = omega arith;
+      sinks = sym (append-nil _);
+      source = sym (append-nil _);
+      field = ap (λ (bits : List ℕ). bits ++ c.args.bits ∷ []) (sym none);
+      rate = sym (append-nil _);
+      fails_each = sym (or-false _);
+      few_nodes = tables.few_nodes;
+      few_links = tables.few_links;
+      few_patterns = tables.few_patterns;
+      few_members = tables.few_members;
+    })
