@@ -15,7 +15,7 @@ use Rattle.field_vectors.specs.Grid.{Grid, IsMatrix, row_of}
 use Rattle.field_vectors.proofs.GridLaws.{length-row_of, row_of-elements}
 use Rattle.field_vectors.proofs.NumberLaws.{number-dot_of, numbers-IsRow, numbers-zeros}
 use Rattle.std.specs.declared.cmp.PartialEq.{Ghosts as EqualityWords}
-use Rattle.list_laws.proofs.Maps.{map-agree}
+use Rattle.item_list.proofs.Maps.{map-agree}
 use Rattle.gf_tables.specs.declared.field.Field.{Ghosts as FieldWords}
 use Rattle.gf_tables.specs.Product.{size_of}
 use Rattle.linear_algebra.proofs.CombinationLaws.{dot-combination}

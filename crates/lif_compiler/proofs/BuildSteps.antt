@@ -9,7 +9,7 @@ use Rattle.cut_witness.proofs.CertificateLaws.{IsRate-least_value}
 use Rattle.cut_witness.specs.Certificate.{AreCertificates, IsLeastValue}
 use Rattle.cut_witness.specs.declared.cert.Cert.{Cert}
 use Rattle.failure_patterns.proofs.RateLaws.{IsRate-unique}
-use Rattle.failure_patterns.specs.Rate.{IsRate}
+use Rattle.failure_patterns.specs.Rate.{IsRate, rate_used}
 use Rattle.gf_tables.specs.Product.{size_of}
 use Rattle.gf_tables.specs.declared.kind.FieldKind.{FieldKind}
 use Rattle.net_model.specs.Demands.{demand_count}
@@ -28,6 +28,8 @@ use Rattle.lif_compiler.specs.Compiled.{Feeds, IsCodeOf, IsCompiled, IsOfPaths}
 use Rattle.lif_compiler.specs.Hops.{HaveHops}
 use Rattle.lif_compiler.proofs.InOrderLaws.{HasEachOnce-order_of, are_in_order-renumbered}
 use Rattle.lif_compiler.proofs.OriginLaws.{AreRoutes-renumbered, Feeds-of_hop, demand_count-renumbered}
+use Rattle.lif_compiler.proofs.WorkLaws.{rate_within}
+use Rattle.lif_compiler.specs.Rating.{IsRateUsed}
 use Rattle.lif_compiler.specs.Routes.{routes_of_certs}
 use Rattle.lif_compiler.specs.Visits.{AreVisitable, IsFilled, IsOfHop}
 use Rattle.lif_compiler.specs.Work.{choice_bound}
@@ -37,19 +39,31 @@ use Rattle.lif_compiler.specs.declared.hops.Hop.{Hop}
 pub order_once : (net : Net) (order : List ℕ) → order ≡ order_of net.links → IsAcyclic net.links → HasEachOnce (length net.links) order
 order_once net order is acyclic = subst (HasEachOnce (length net.links)) (sym is) (HasEachOnce-order_of net.links acyclic)
 
--- each certificate has as many paths as the least value says
-pub enough_paths : (net : Net) (certs : List Cert) (rate : ℕ) → AreCertificates net certs → IsLeastValue certs rate → All (λ cert. rate ≤ length cert.paths) certs
-enough_paths net certs rate are least = λ k d within.
-    let there = slice_get-get_or certs k d within in
-    omega (arith, least.least k (get_or certs k d) there, (are.are.at k (get_or certs k d) there).0.paths_value)
+-- certificates have one least value
+IsLeastValue-unique : (certs : List Cert) (least other : ℕ) → IsLeastValue certs least → IsLeastValue certs other → least ≡ other
+IsLeastValue-unique certs least other one two =
+    let below = one.least two.attained.0 two.attained.1 two.attained.2 in
+    let above = two.least one.attained.0 one.attained.1 one.attained.2 in
+    omega (arith, below, above, one.attained.3, two.attained.3)
 
-module _ (net new : Net) (certs : List Cert) (order : List ℕ) (rate : ℕ) (kind : FieldKind) (order_is : order ≡ order_of net.links) (acyclic : IsAcyclic net.links) (are : AreCertificates net certs) (least : IsLeastValue certs rate)
+-- a code that is made by certificates has the rate that they give
+pub rate-compiled : {net : Net} {kind : FieldKind} {code : Code} {certs : List Cert} {rate : ℕ} → IsCompiled net kind code certs → IsRateUsed net certs rate → code.rate ≡ rate
+rate-compiled {net} {kind} {code} {certs} {rate} compiled used =
+    compiled.rate ∙ ap (rate_used net) (IsLeastValue-unique certs compiled.least used.least compiled.is_least used.is_least) ∙ sym used.used
+
+-- each certificate has as many paths as the rate says
+pub enough_paths : (net : Net) (certs : List Cert) (rate : ℕ) → AreCertificates net certs → IsRateUsed net certs rate → All (λ cert. rate ≤ length cert.paths) certs
+enough_paths net certs rate are used = λ k d within.
+    let there = slice_get-get_or certs k d within in
+    omega (arith, used.within, used.is_least.least k (get_or certs k d) there, (are.are.at k (get_or certs k d) there).0.paths_value)
+
+module _ (net new : Net) (certs : List Cert) (order : List ℕ) (rate : ℕ) (kind : FieldKind) (order_is : order ≡ order_of net.links) (acyclic : IsAcyclic net.links) (are : AreCertificates net certs) (used : IsRateUsed net certs rate)
     (renumbered : IsRenumbered order (choice_of kind) net new) where
   once : HasEachOnce (length net.links) order
   once = order_once net order order_is acyclic
 
   enough : All (λ cert. rate ≤ length cert.paths) certs
-  enough = enough_paths net certs rate are least
+  enough = enough_paths net certs rate are used
 
   -- the new network's links are in order, and as many
   pub new_order : IsTrue (are_in_order [] new.links)
@@ -75,9 +89,9 @@ module _ (net new : Net) (certs : List Cert) (order : List ℕ) (rate : ℕ) (ki
   }
 
   -- no accepted code of the network has a rate above the least value
-  pub at_most_least : (other : Code) → IsCodeOf net other → IsAccepted other → other.rate ≤ rate
+  pub at_most_least : (other : Code) → IsCodeOf net other → IsAccepted other → other.rate ≤ used.least
   at_most_least other of accepted =
-      accepted-at_most_rate net of.order of.choice rate other of.once of.network (IsRate-least_value net certs rate are least) accepted
+      accepted-at_most_rate net of.order of.choice used.least other of.once of.network (IsRate-least_value net certs used.least are used.is_least) accepted
 
   -- a code that is made so is one of the network
   pub compiled : (size : ℕ) → size ≡ size_of kind → demand_count net ≤ size → (operands : List (List Operand)) (decoders : List Decoder)
@@ -88,11 +102,12 @@ module _ (net new : Net) (certs : List Cert) (order : List ℕ) (rate : ℕ) (ki
     certified = are;
     network = subst (λ order. IsRenumbered order (choice_of kind) net code.net) order_is (subst (IsRenumbered order (choice_of kind) net) (sym of_net) renumbered);
     over = of_field;
-    least = rate;
-    is_least = least;
-    rate = of_rate;
+    least = used.least;
+    is_least = used.is_least;
+    rate = of_rate ∙ used.used;
+    within = omega (arith, of_rate, used.within);
     accepted = filled.accepted code of_net of_rate of_field of_operands of_decoders;
-    greatest = λ other of good. subst (λ rate. other.rate ≤ rate) (sym of_rate) (at_most_least other of good);
+    greatest = at_most_least;
     of_paths = λ link below.
         let of_hops = filled.of_hops link (omega (arith, new_count)) in
         let of_these : All (IsOfHop (routes_of_certs order rate certs) link) (operands_at code.operands link) =
@@ -106,9 +121,9 @@ module _ (net new : Net) (certs : List Cert) (order : List ℕ) (rate : ℕ) (ki
         (operands_at code.operands link) of_these;
   }
 
--- what is counted at the least value of a network's certificates is counted at its rate
-pub rate_ticks : (net : Net) (certs : List Cert) (least old new : ℕ) → AreCertificates net certs → IsLeastValue certs least → RoseByAtMost (choice_bound (length net.links) (demand_count net) least) old new
+-- what is counted at the rate of a network's codes is counted at the network's
+pub rate_ticks : (net : Net) (certs : List Cert) (used old new : ℕ) → AreCertificates net certs → IsRateUsed net certs used → RoseByAtMost (choice_bound (length net.links) (demand_count net) used) old new
     → (rate : ℕ) → IsRate net rate → RoseByAtMost (choice_bound (length net.links) (demand_count net) rate) old new
-rate_ticks net certs least old new are is_least rose rate is =
-    let same = IsRate-unique net least rate (IsRate-least_value net certs least are is_least) is in
-    subst (λ rate. RoseByAtMost (choice_bound (length net.links) (demand_count net) rate) old new) same rose
+rate_ticks net certs used old new are is_used rose rate is =
+    let same = IsRate-unique net is_used.least rate (IsRate-least_value net certs is_used.least are is_used.is_least) is in
+    rate_within (length net.links) (demand_count net) used rate old new (omega (arith, is_used.within, same)) rose

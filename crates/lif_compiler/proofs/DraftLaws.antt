@@ -1,12 +1,12 @@
 -- Laws of drafts: what the compiler gives to later links doesn't change the vectors of the earlier ones.
-use Rattle.std.specs.Prelude.{◌≡◌, ℕ, zero, suc, ◌-◌, ◌<◌, ◌≤◌, true, Some, List, [], ◌∷◌, ◌++◌, IsTrue, length, map, replicate, slice_get, if◌then◌else◌}
+use Rattle.std.specs.Prelude.{◌≡◌, ℕ, zero, suc, ◌-◌, ◌<◌, ◌≤◌, true, None, Some, List, [], ◌∷◌, ◌++◌, IsTrue, length, map, replicate, slice_get, if◌then◌else◌}
 use Rattle.std.specs.List.{All}
 use Rattle.std.proofs.Common.{refl, sym, ap, ◌∙◌, subst, arith, get_or, inl, inr}
 use Rattle.std.proofs.Math.Seq.{get_or-append_seam}
 use Rattle.std.proofs.lemmas.Bool.{cases_Bool, and_parts, and_from}
 use Rattle.std.proofs.lemmas.List.{append_assoc, append-nil, length-append, get_or_append_left}
 use Rattle.std.proofs.lemmas.Option.{slice_get_within, unwrap_or-slice_get}
-use Rattle.list_laws.proofs.Maps.{map-agree}
+use Rattle.item_list.proofs.Maps.{map-agree}
 use Rattle.gf_tables.specs.declared.kind.FieldKind.{FieldKind}
 use Rattle.net_model.specs.Demands.{demand_count}
 use Rattle.net_model.specs.Lists.{is_among}
@@ -28,9 +28,9 @@ no_operands net rate field [] = refl
 no_operands net rate field (link ∷ links) = no_operands net rate field links
 
 -- where no link is visited yet, no link has operands, and that is a draft
-pub IsDraft-none : (net : Net) (rate : ℕ) (field : FieldKind) → 1 ≤ rate → rate ≤ 32 → demand_count net ≤ 65536 → IsTrue (are_in_order [] net.links) → net.field ≡ choice_of field
+pub IsDraft-none : (net : Net) (rate : ℕ) (field : FieldKind) → 1 ≤ rate → rate ≤ 32 → demand_count net ≤ 65536 → IsTrue (are_in_order [] net.links) → net.field ≡ choice_of field → net.wanted ≡ None
     → IsDraft net rate field (draft_of (length net.links) [])
-IsDraft-none net rate field some low few order named =
+IsDraft-none net rate field some low few order named unwanted =
     let whole : length net.links - 0 ≡ length net.links = omega arith in
     record {
       some_rate = some;
@@ -39,6 +39,7 @@ IsDraft-none net rate field some low few order named =
       link_order = order;
       link_operands = rw whole (no_operands net rate field net.links);
       named_field = named;
+      no_wanted = unwanted;
     }
 
 -- operands that fit the link after the visited ones
@@ -81,6 +82,7 @@ IsDraft-more {net} {rate} {field} visited operands link draft at fits =
       link_operands = rw (with_next (length net.links) visited operands)
           (next_operands net rate field net.links visited others [] operands link (rw (before_next (length net.links) visited operands within) at draft.link_operands) at fits);
       named_field = draft.named_field;
+      no_wanted = draft.no_wanted;
     }
 
 -- where each link is visited, the draft has their operands

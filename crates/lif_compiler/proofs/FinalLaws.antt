@@ -29,6 +29,7 @@ use Rattle.net_model.proofs.ListLaws.{is_among-same}
 use Rattle.net_model.specs.Lists.{are_distinct, is_among}
 use Rattle.net_model.proofs.WalkLaws.{IsWalk-below}
 use Rattle.net_model.specs.declared.net.Net.{Net}
+use Rattle.node_program.proofs.LinkLaws.{leads_into-head_of}
 use Rattle.node_program.specs.Code.{IsCode, IsDraft, are_decoders, is_decoder, leads_into}
 use Rattle.node_program.specs.Decoding.{IsAccepted}
 use Rattle.node_program.specs.Value.{global_vector}
@@ -41,7 +42,6 @@ use Rattle.lif_compiler.specs.Decoders.{AreInverse, IsBasisDecoder, IsReadOff}
 use Rattle.lif_compiler.proofs.DraftLaws.{draft_of-whole}
 use Rattle.lif_compiler.specs.Frontier.{frontier_vector, last_below}
 use Rattle.lif_compiler.proofs.FrontierLaws.{last_below-whole}
-use Rattle.lif_compiler.proofs.HopLaws.{leads-head}
 use Rattle.lif_compiler.specs.Bases.{HasMatrices, frontier_in, vectors_in}
 use Rattle.lif_compiler.specs.Compiled.{marked_kind}
 use Rattle.lif_compiler.specs.Hops.{Routes}
@@ -148,7 +148,7 @@ module _ {X : Type 0} {F : FieldWords X} {E : EqualityWords X} {net : Net} {rout
 
   last_leads : (demand path : ℕ) → demand < demand_count net → path < code.rate → leads_into net.links (sink_of_demand net demand) (last_link demand path) ≡ true
   last_leads demand path within below =
-      leads-head net.links (sink_of_demand net demand) (last_link demand path) (last_within demand path within below) (route_path demand path within below).end
+      leads_into-head_of net.links (sink_of_demand net demand) (last_link demand path) (last_within demand path within below) (route_path demand path within below).end
 
   -- and it is the path's frontier link
   frontier-last : (demand path : ℕ) → demand < demand_count net → path < code.rate → slice_index_or (frontier_in code.bases.items demand) path None ≡ Some (last_link demand path)

@@ -4,8 +4,9 @@ use Rattle.std.specs.Prelude.{◌≡◌, ◌<◌, ◌≤◌, ◌-◌, ◌==◌, 
 use Rattle.std.specs.Option.{option_map_or}
 use Rattle.std.proofs.Common.{refl, sym, ap, ◌∙◌, subst, arith, inl, inr}
 use Rattle.std.proofs.lemmas.Bool.{cases_lt, eq-eqb, lt-ltb, ne_eqb}
-use Rattle.std.proofs.lemmas.Option.{slice_get_cases, slice_get_past, unwrap_or-slice_get}
+use Rattle.std.proofs.lemmas.Option.{slice_get_past, unwrap_or-slice_get}
 use Rattle.failure_patterns.specs.Demands.{demand_of}
+use Rattle.net_model.proofs.EndLaws.{leaves_source-tail}
 use Rattle.net_model.specs.Demands.{demand_count, pattern_of_demand}
 use Rattle.net_model.specs.Failed.{failed_links}
 use Rattle.net_model.specs.Flows.{IsPath, flow_network}
@@ -14,7 +15,8 @@ use Rattle.net_model.proofs.WalkLaws.{IsWalk-below}
 use Rattle.net_model.specs.Walks.{head_of, tail_of}
 use Rattle.net_model.specs.declared.Link.{Link}
 use Rattle.net_model.specs.declared.net.Net.{Net}
-use Rattle.node_program.specs.Code.{are_in_order, is_source_of, leads_into}
+use Rattle.node_program.proofs.LinkLaws.{leads_into-head_of}
+use Rattle.node_program.specs.Code.{are_in_order, is_source_of}
 use Rattle.node_program.specs.Value.{leaves_source}
 use Rattle.topo_order.proofs.OrderLaws.{walk_next}
 use Rattle.lif_compiler.specs.Hops.{IsHop, Routes, route_of}
@@ -22,26 +24,6 @@ use Rattle.lif_compiler.proofs.InOrderLaws.{are_in_order-at, is_rising-walk}
 use Rattle.net_model.proofs.RisingLaws.{rising-at_most}
 use Rattle.lif_compiler.specs.Visits.{AreRoutes, paths_of}
 use Rattle.lif_compiler.specs.declared.hops.Hop.{Hop}
-
--- whether a link leaves the source, by its tail
-leaves-tail : (net : Net) (link : ℕ) → link < length net.links → leaves_source net link ≡ (tail_of net.links link == net.source)
-leaves-tail net link within = elim (slice_get_cases net.links link).1 [
-  | inl found ↦
-      (let leaves : Option Link → Bool = λ l. option_map_or (λ (l : Link). l.tail == net.source) l false in
-      let tail : Option Link → ℕ = λ l. option_map_or (λ (l : Link). l.tail) l 0 in
-      ap leaves found.2 ∙ sym (ap (λ l. tail l == net.source) found.2))
-  | inr past ↦ absurd (omega (arith, past.0))
-]
-
--- a link leads into a node where its head is that
-pub leads-head : (links : List Link) (node link : ℕ) → link < length links → head_of links link ≡ node → leads_into links node link ≡ true
-leads-head links node link within head = elim (slice_get_cases links link).1 [
-  | inl found ↦
-      (let leads : Option Link → Bool = λ l. option_map_or (λ (l : Link). l.head == node) l false in
-      let head_in : Option Link → ℕ = λ l. option_map_or (λ (l : Link). l.head) l 0 in
-      ap leads found.2 ∙ eq-eqb found.0.head node (sym (ap head_in found.2) ∙ head))
-  | inr past ↦ absurd (omega (arith, past.0))
-]
 
 -- the tail of a link that is there
 tail-there : (links : List Link) (link : ℕ) (at : Link) → slice_get links link ≡ Some at → tail_of links link ≡ at.tail
@@ -94,7 +76,7 @@ module _ (net : Net) (rate : ℕ) (routes : Routes) (order : IsTrue (are_in_orde
     -- as the first of its path it leaves the source
     hop-first : is.place ≡ 0 → leaves_source net link ≡ true
     hop-first first =
-        leaves-tail net link hop-link
+        leaves_source-tail net link hop-link
         ∙ eq-eqb (tail_of net.links link) net.source (ap (tail_of net.links) (sym is.here ∙ ap (slice_index route) first) ∙ path.start)
 
     -- behind another it starts at that one's head
@@ -110,7 +92,7 @@ module _ (net : Net) (rate : ℕ) (routes : Routes) (order : IsTrue (are_in_orde
         let inside : i < length route = omega (arith, is.within, behind) in
         let below : before < length net.links = IsWalk-below net.links route path.walk i 0 inside in
         let upto : slice_index route 0 ≤ before = rising-at_most route 0 i (rising-route hop.demand hop.path hop-demand hop-path) (omega arith) inside in
-        leaves-tail net link hop-link
+        leaves_source-tail net link hop-link
         ∙ ne_eqb (tail_of net.links link) net.source (λ source. are_in_order-at net.links order (slice_index route 0) before upto below (sym (hop-behind i behind) ∙ source ∙ sym path.start))
 
     -- a link with a hop leaves the source exactly where it is the first of the path
@@ -146,7 +128,7 @@ module _ (net : Net) (rate : ℕ) (routes : Routes) (order : IsTrue (are_in_orde
         tail = sym (tail-there net.links link at there)
 
         leaves_at : (at.tail == net.source) ≡ leaves_source net link
-        leaves_at = ap (λ tail. tail == net.source) tail ∙ sym (leaves-tail net link hop-link)
+        leaves_at = ap (λ tail. tail == net.source) tail ∙ sym (leaves_source-tail net link hop-link)
 
         by_leaves : (leaves : Bool) → leaves_source net link ≡ leaves → is_source_of net rate at hop.before ≡ true
         by_leaves true leaves = rw (leaves_at ∙ leaves) (lt-ltb hop.before rate (subst (λ row. row < rate) (sym (hop-before_first leaves)) hop-path))
@@ -155,4 +137,4 @@ module _ (net : Net) (rate : ℕ) (routes : Routes) (order : IsTrue (are_in_orde
             let next : is.place ≡ suc (is.place - 1) = omega (arith, inner.0) in
             let inside : is.place - 1 < length route = omega (arith, is.within) in
             let below : hop.before < length net.links = subst (λ link. link < length net.links) (sym inner.1) (IsWalk-below net.links route path.walk (is.place - 1) 0 inside) in
-            rw (leaves_at ∙ leaves) (leads-head net.links at.tail hop.before below (ap (head_of net.links) inner.1 ∙ sym (hop-behind (is.place - 1) next) ∙ sym tail))
+            rw (leaves_at ∙ leaves) (leads_into-head_of net.links at.tail hop.before below (ap (head_of net.links) inner.1 ∙ sym (hop-behind (is.place - 1) next) ∙ sym tail))

@@ -1,38 +1,24 @@
 -- Laws of links in order: the order of an acyclic network puts them so, and walks over them rise.
-use Rattle.std.specs.Prelude.{◌≡◌, ◌≢◌, ◌<◌, ◌≤◌, ℕ, zero, suc, Bool, true, false, ◌==◌, nat_eq, nat_lt, IsTrue, List, [], ◌∷◌, length, take, slice_index}
+use Rattle.std.specs.Prelude.{◌≡◌, ◌≢◌, ◌<◌, ◌≤◌, ℕ, suc, Bool, true, false, ◌==◌, nat_eq, nat_lt, IsTrue, List, [], ◌∷◌, length, take, slice_index}
 use Rattle.std.specs.List.{IsDistinct}
 use Rattle.std.proofs.Common.{refl, sym, ◌∙◌, arith, inl, inr}
-use Rattle.std.proofs.lemmas.Bool.{and_from, and_parts, both_ways, cases_lt, eqb-false, lt-ltb, ltb-true, ne_eqb, not-true, not_from_false, or_from, or_parts}
+use Rattle.std.proofs.lemmas.Bool.{and_from, and_parts, both_ways, cases_lt, lt-ltb, ltb-true, ne_eqb, not_from_false, or_from}
 use Rattle.std.proofs.lemmas.List.{get_or-take, get_or_default, length-take-le}
 use Rattle.std.proofs.lemmas.List.Elements.{All-from_recursion}
 use Rattle.std.proofs.lemmas.List.Folds.{list_any_none}
 use Rattle.std.proofs.lemmas.List.Sums.{list_all-from_AllPass}
 use Rattle.std.proofs.lemmas.Map.Keys.{IsDistinct-head, IsDistinct-tail, apart_from_distinct}
-use Rattle.list_laws.proofs.Tests.{list_all-implied}
+use Rattle.item_list.proofs.Tests.{list_all-implied}
 use Rattle.net_model.proofs.ListLaws.{IsDistinct-from_are_distinct}
 use Rattle.net_model.specs.Lists.{are_distinct, is_among, is_rising}
 use Rattle.net_model.specs.Renumbering.{HasEachOnce, renumbered_links}
 use Rattle.net_model.proofs.RenumberingLaws.{head_of-renumbered, length-renumbered_links, old_number-below, tail_of-renumbered}
 use Rattle.net_model.specs.Walks.{IsAcyclic, IsWalk, head_of, tail_of}
 use Rattle.net_model.specs.declared.Link.{Link}
+use Rattle.node_program.proofs.LinkLaws.{apart_behind}
 use Rattle.node_program.specs.Code.{are_in_order}
 use Rattle.topo_order.specs.Order.{order_of}
 use Rattle.topo_order.proofs.OrderLaws.{IsDistinct-order_of, length-order_of, order_below, order_of-after}
-
--- no link of an order leads into a tail that was before it
-none_behind : (tails : List ℕ) (links : List Link) → are_in_order tails links ≡ true → (j : ℕ) → j < length links → is_among tails (head_of links j) ≡ false
-none_behind tails [] order j within = absurd (omega arith)
-none_behind tails (link ∷ links) order zero within = (or_parts _ _ (not-true _ (and_parts _ _ order).0)).1
-none_behind tails (link ∷ links) order (suc j) within = (or_parts _ _ (none_behind (link.tail ∷ tails) links (and_parts _ _ order).1 j (omega arith))).1
-
--- behind any tails, no link's head is the tail of it or of an earlier link
-apart_behind : (tails : List ℕ) (links : List Link) → are_in_order tails links ≡ true → (i j : ℕ) → i ≤ j → j < length links → head_of links j ≢ tail_of links i
-apart_behind tails [] order i j before within = absurd (omega arith)
-apart_behind tails (link ∷ links) order zero zero before within = λ same. eqb-false _ _ (or_parts _ _ (not-true _ (and_parts _ _ order).0)).0 (sym same)
-apart_behind tails (link ∷ links) order zero (suc j) before within =
-    λ same. eqb-false _ _ (or_parts _ _ (none_behind (link.tail ∷ tails) links (and_parts _ _ order).1 j (omega arith))).0 (sym same)
-apart_behind tails (link ∷ links) order (suc i) zero before within = absurd (omega arith)
-apart_behind tails (link ∷ links) order (suc i) (suc j) before within = apart_behind (link.tail ∷ tails) links (and_parts _ _ order).1 i j (omega arith) (omega arith)
 
 -- and links of which that holds are in order behind tails that none leads into
 order_behind : (tails : List ℕ) (links : List Link) → ((j : ℕ) → j < length links → is_among tails (head_of links j) ≡ false)

@@ -27,6 +27,6 @@ pub mod StandSteps
 pub mod VisitSteps
 pub mod StartSteps
 pub mod AllSteps
-pub mod BuildSteps
 pub mod WorkLaws
+pub mod BuildSteps
 pub mod CountLaws

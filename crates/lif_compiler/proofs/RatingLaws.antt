@@ -1,31 +1,54 @@
--- The demands that show the rate of a network, told by its certificates.
-use Rattle.std.specs.Prelude.{◌≡◌, ◌<◌, ◌*◌, ℕ, List, Some, length, slice_get}
-use Rattle.std.proofs.Common.{◌∙◌, refl, subst, inl, inr, arith}
+-- The demands that show that a rate can't be had, told by a network's certificates.
+use Rattle.std.specs.Prelude.{◌≡◌, ◌<◌, ◌≤◌, ◌-◌, ◌*◌, ℕ, List, Option, None, Some, length, slice_get, unwrap_or}
+use Rattle.std.proofs.Common.{refl, subst, sym, inl, inr, arith}
 use Rattle.std.proofs.lemmas.Option.{slice_get_cases, slice_get_within}
+use Rattle.net_model.specs.Demands.{demand_count}
 use Rattle.net_model.specs.Flows.{IsLeastCut, IsLeastSide, flow_network}
+use Rattle.net_model.specs.Network.{IsWanted}
 use Rattle.net_model.specs.declared.Demand.{Demand}
 use Rattle.net_model.specs.declared.net.Net.{Net}
 use Rattle.failure_patterns.proofs.DemandLaws.{few_demands, some_demand}
 use Rattle.failure_patterns.specs.Demands.{demand_of}
-use Rattle.failure_patterns.specs.Rate.{HasLeastCut, IsFirstWith}
+use Rattle.failure_patterns.specs.Rate.{HasLeastCut, IsFirstWith, rate_used}
 use Rattle.cut_witness.specs.Certificate.{AreCertificates, IsLeastValue}
 use Rattle.cut_witness.proofs.CertificateLaws.{AreCertificates-at, IsLeastCut-certificate, IsRate-least_value, value-certificate}
 use Rattle.cut_witness.specs.declared.cert.Cert.{Cert}
-use Rattle.lif_compiler.specs.Rating.{IsFirstOfValue}
-use Rattle.lif_compiler.specs.Refused.{IsRateOver, IsZeroRate}
+use Rattle.lif_compiler.specs.Rating.{IsFirstOf}
+use Rattle.lif_compiler.specs.Refused.{IsRateOver, IsRateUnmet, IsZeroRate}
 
--- it is one of them
-pub IsFirstOfValue-within : (certs : List Cert) (value number : ℕ) → IsFirstOfValue certs value number → number < length certs
-IsFirstOfValue-within certs value number is = slice_get_within certs number is.has.0 is.has.1
+-- where the rate of a network's codes is above the network's, it is wanted
+some_wanted : (wanted : Option ℕ) (least : ℕ) → least < unwrap_or wanted least → wanted ≡ Some (unwrap_or wanted least)
+some_wanted None least above = absurd (omega arith)
+some_wanted (Some rate) least above = refl
+
+-- where it is above 32, none is wanted
+none_wanted : (wanted : Option ℕ) (least : ℕ) → IsWanted wanted → 32 < unwrap_or wanted least → wanted ≡ None
+none_wanted None least fits over = refl
+none_wanted (Some rate) least fits over = absurd (omega (arith, (fits rate refl).1))
+
+-- the first demand with a size of which this holds is also the first with one of which that holds, where both hold of
+-- the same sizes of least cuts
+IsFirstWith-same : (net : Net) (P Q : ℕ → Type 0) (demand size : ℕ) → ((number other : ℕ) → number < demand_count net → HasLeastCut net number other → P other → Q other)
+    → ((other : ℕ) → Q other → P other) → IsFirstWith net P demand size → IsFirstWith net Q demand size
+IsFirstWith-same net P Q demand size forth back is = record {
+  within = is.within;
+  has = is.has;
+  holds = forth demand size is.within is.has is.holds;
+  first = λ earlier other before has holds. is.first earlier other before has (back other holds);
+}
+
+-- the first of certificates with such a value is one of them
+pub IsFirstOf-within : (P : ℕ → Type 0) (certs : List Cert) (number : ℕ) → IsFirstOf P certs number → number < length certs
+IsFirstOf-within P certs number is = slice_get_within certs number is.has.0 is.has.1
 
 module _ (net : Net) (certs : List Cert) (are : AreCertificates net certs) where
   -- there is a certificate
   pub some_certificate : 0 < length certs
   some_certificate = omega (arith, are.each_demand, some_demand net)
 
-  -- the number of the first with a value fits into 32 bits
-  pub IsFirstOfValue-small : (value number : ℕ) → IsFirstOfValue certs value number → number < 4096 * 4096
-  IsFirstOfValue-small value number is = omega (arith, IsFirstOfValue-within certs value number is, are.each_demand, few_demands net)
+  -- a certificate's number fits into 32 bits
+  pub IsFirstOf-small : (P : ℕ → Type 0) (number : ℕ) → IsFirstOf P certs number → number < 4096 * 4096
+  IsFirstOf-small P number is = omega (arith, IsFirstOf-within P certs number is, are.each_demand, few_demands net)
 
   module _ (number : ℕ) (cert : Cert) (there : slice_get certs number ≡ Some cert) where
     -- the demand of a certificate's number has a least cut of its value
@@ -48,31 +71,58 @@ module _ (net : Net) (certs : List Cert) (are : AreCertificates net certs) where
         let at = AreCertificates-at net certs are number cert there in
         value-certificate net number size cert at.0 at.1 has
 
-  -- the first certificate of a value belongs to the first demand whose least cut has that size
-  pub IsFirstWith-first_of_value : (value number : ℕ) → IsFirstOfValue certs value number → IsFirstWith net (λ size. size ≡ value) number value
-  IsFirstWith-first_of_value value number is =
-      let within : number < length certs = IsFirstOfValue-within certs value number is in
+  -- the first certificate of whose value this holds belongs to the first demand of whose least cut's size it holds
+  pub IsFirstWith-first_of : (P : ℕ → Type 0) (number : ℕ) (cert : Cert) → IsFirstOf P certs number → slice_get certs number ≡ Some cert → IsFirstWith net P number cert.value
+  IsFirstWith-first_of P number cert is there =
+      let within = slice_get_within certs number cert there in
+      let same : is.has.0 ≡ cert = cc (is.has.1, there) in
       record {
         within = omega (arith, within, are.each_demand);
-        has = subst (HasLeastCut net number) is.has.2 (HasLeastCut-certificate number is.has.0 is.has.1);
-        holds = refl;
-        first = λ earlier other before has same. elim (slice_get_cases certs earlier).1 [
-          | inl here ↦ is.first earlier here.0 before here.2 (value_of_demand earlier here.0 here.2 other has ∙ same)
+        has = HasLeastCut-certificate number cert there;
+        holds = subst (λ (cert : Cert). P cert.value) same is.has.2;
+        first = λ earlier other before has holds. elim (slice_get_cases certs earlier).1 [
+          | inl here ↦ is.first earlier here.0 before here.2 (subst P (sym (value_of_demand earlier here.0 here.2 other has)) holds)
           | inr past ↦ absurd (omega (arith, past.0, before, within))
         ];
       }
 
   -- where the least value is 0, the first certificate that has it shows it
-  pub IsZeroRate-first : (number : ℕ) (cert : Cert) → IsFirstOfValue certs 0 number → slice_get certs number ≡ Some cert → IsZeroRate net number cert.side
-  IsZeroRate-first number cert is there = record {
-    first = IsFirstWith-first_of_value 0 number is;
+  pub IsZeroRate-first : (number : ℕ) (cert : Cert) → IsFirstOf (λ value. value ≤ 0) certs number → slice_get certs number ≡ Some cert → IsZeroRate net number cert.side
+  IsZeroRate-first number cert is there =
+      let first = IsFirstWith-first_of (λ value. value ≤ 0) number cert is there in
+      let none : cert.value ≡ 0 = omega (arith, first.holds) in
+      record {
+        first = subst (IsFirstWith net (λ size. size ≡ 0) number) none
+            (IsFirstWith-same net (λ size. size ≤ 0) (λ size. size ≡ 0) number cert.value (λ number size within has below. omega arith) (λ size same. omega arith) first);
+        least_side = IsLeastSide-certificate number cert there;
+      }
+
+  -- where a rate above it is wanted, the first that is below the wanted one
+  pub IsRateUnmet-first : (number least : ℕ) (cert : Cert) → IsLeastValue certs least → 1 ≤ least → least < rate_used net least → IsFirstOf (λ value. value ≤ rate_used net least - 1) certs number
+      → slice_get certs number ≡ Some cert → IsRateUnmet net number cert.side cert.value
+  IsRateUnmet-first number least cert value some above is there = record {
+    wanted = rate_used net least;
+    is_wanted = some_wanted net.wanted least above;
+    rate = least;
+    is_rate = IsRate-least_value net certs least are value;
+    some_rate = some;
+    unmet = above;
+    first = IsFirstWith-same net (λ size. size ≤ rate_used net least - 1) (λ size. size < rate_used net least) number cert.value (λ number size within has below. omega arith) (λ size below. omega arith)
+        (IsFirstWith-first_of (λ value. value ≤ rate_used net least - 1) number cert is there);
     least_side = IsLeastSide-certificate number cert there;
   }
 
-  -- and so it is where that is above 32
-  pub IsRateOver-first : (number least : ℕ) → 32 < least → IsLeastValue certs least → IsFirstOfValue certs least number → IsRateOver net number least
-  IsRateOver-first number least over value is = record {
-    over = over;
-    rate = IsRate-least_value net certs least are value;
-    first = IsFirstWith-first_of_value least number is;
-  }
+  -- where the rate of its codes is above 32, the first that has the least value
+  pub IsRateOver-first : (number least : ℕ) → 32 < rate_used net least → rate_used net least ≤ least → IsLeastValue certs least → IsFirstOf (λ value. value ≤ least) certs number → IsRateOver net number least
+  IsRateOver-first number least over within value is =
+      let cert = is.has.0 in
+      let rate = IsRate-least_value net certs least are value in
+      let first = IsFirstWith-first_of (λ value. value ≤ least) number cert is is.has.1 in
+      let same : cert.value ≡ least = omega (arith, first.holds, value.least number cert is.has.1) in
+      record {
+        none_wanted = none_wanted net.wanted least net.rate over;
+        over = omega arith;
+        rate = rate;
+        first = subst (IsFirstWith net (λ size. size ≡ least) number) same
+            (IsFirstWith-same net (λ size. size ≤ least) (λ size. size ≡ least) number cert.value (λ number size within has below. omega (arith, rate.least number size within has)) (λ size same. omega arith) first);
+      }

@@ -76,9 +76,9 @@ module _ {X : Type 0} {F : FieldWords X} {E : EqualityWords X} (L : LawsOf F) (n
       }
 
   -- no link is visited
-  pub visited_none : 1 ≤ rate → rate ≤ 32 → demand_count net ≤ 65536 → IsTrue (are_in_order [] net.links) → net.field ≡ choice_of (marked_kind F.MARK)
+  pub visited_none : 1 ≤ rate → rate ≤ 32 → demand_count net ≤ 65536 → IsTrue (are_in_order [] net.links) → net.field ≡ choice_of (marked_kind F.MARK) → net.wanted ≡ None
       → (code : PartialCode X F E) → code.rate ≡ rate → code.operands.items ≡ [] → code.vectors.items ≡ vectors → code.bases.items ≡ bases → IsBegun net code
-  visited_none some low few order named code same_rate operands_are vectors_are bases_are routes are =
+  visited_none some low few order named unwanted code same_rate operands_are vectors_are bases_are routes are =
       IsVisited-of rate [] vectors bases code same_rate operands_are vectors_are bases_are
-      (record { draft = IsDraft-none net rate (marked_kind F.MARK) some low few order named; few_visits = omega arith; of_hops = λ link below. absurd (omega arith) })
+      (record { draft = IsDraft-none net rate (marked_kind F.MARK) some low few order named unwanted; few_visits = omega arith; of_hops = λ link below. absurd (omega arith) })
       vectors_none count (stands_first routes (subst (λ rate. AreRoutes net rate routes) same_rate are))

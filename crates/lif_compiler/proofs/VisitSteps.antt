@@ -2,7 +2,7 @@
 use Rattle.std.specs.Prelude.{◌≡◌, ◌≢◌, ◌<◌, ◌++◌, ℕ, true, false, All, List, Some, drop, length, replicate, slice_get, take}
 use Rattle.std.specs.declared.cmp.PartialEq.{Ghosts as EqualityWords}
 use Rattle.std.proofs.Common.{sym, ap, ◌∙◌, subst}
-use Rattle.list_laws.proofs.Writes.{written_back}
+use Rattle.item_list.proofs.Writes.{written_back}
 use Rattle.field_vectors.specs.Elements.{dot_of}
 use Rattle.field_vectors.specs.Grid.{Grid, IsMatrix, row_of}
 use Rattle.gf_tables.specs.declared.field.Field.{Ghosts as FieldWords}

@@ -139,3 +139,11 @@ links_within links most demands rate old new few rose =
     let one = demands * (demands * rate + demands + rate * rate) in
     let all = mul-le links one most one few (omega arith) in
     record { not_below = rose.not_below; not_above = omega (arith, rose.not_above, all) }
+
+-- and so may a higher rate
+pub rate_within : (links demands rate most old new : ℕ) → rate ≤ most → RoseByAtMost (choice_bound links demands rate) old new → RoseByAtMost (choice_bound links demands most) old new
+rate_within links demands rate most old new low rose =
+    let products = mul-le demands rate demands most (omega arith) low in
+    let squares = mul-le rate rate most most low low in
+    let all = mul-le (4 * links * demands) (demands * rate + demands + rate * rate) (4 * links * demands) (demands * most + demands + most * most) (omega arith) (omega (arith, products, squares)) in
+    record { not_below = rose.not_below; not_above = omega (arith, rose.not_above, all) }

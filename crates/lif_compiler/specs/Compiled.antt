@@ -1,5 +1,5 @@
--- What the compiler makes of a network: a code of the network's rate, which no other code of it
--- exceeds, and certificates of that rate.
+-- What the compiler makes of a network: a code of the wanted rate, or else of the network's, which no code of it
+-- exceeds, and certificates of the network's rate.
 use Rattle.std.specs.Prelude.{◌≡◌, ◌<◌, ◌≤◌, ◌+◌, ◌==◌, ℕ, List, Bool, true, false, length, slice_get, slice_index, All, Some, if◌then◌else◌}
 use Rattle.gf_tables.specs.Product.{mark_of, size_of}
 use Rattle.gf_tables.specs.declared.kind.FieldKind.{FieldKind}
@@ -9,6 +9,7 @@ use Rattle.net_model.specs.Renumbering.{HasEachOnce, IsRenumbered, old_number}
 use Rattle.net_model.specs.Walks.{IsAcyclic}
 use Rattle.net_model.specs.declared.net.FieldChoice.{FieldChoice}
 use Rattle.net_model.specs.declared.net.Net.{Net}
+use Rattle.failure_patterns.specs.Rate.{rate_used}
 use Rattle.cut_witness.specs.Certificate.{AreCertificates, IsLeastValue}
 use Rattle.cut_witness.specs.declared.cert.Cert.{Cert}
 use Rattle.node_program.specs.Code.{choice_of}
@@ -66,9 +67,9 @@ pub record IsCodeOf (net : Net) (code : Code) : Type 0 where
   pub choice : FieldChoice
   pub network : IsRenumbered order choice net code.net
 
--- An accepted code of the network, with its links in order; its rate is the least value of the
--- certificates of all demands, and no accepted code of the network has a higher one; its operands
--- come from their paths.
+-- An accepted code of the network, with its links in order. The least value is that of the certificates of all
+-- demands, and no accepted code of the network has a rate above it, wanted or not. The code's rate is the wanted one,
+-- where there is one, and else the least value. Its operands come from the certificates' paths.
 pub record IsCompiled (net : Net) (field : FieldKind) (code : Code)
     (certs : List Cert) : Type 0 where
   pub acyclic : IsAcyclic net.links
@@ -78,8 +79,9 @@ pub record IsCompiled (net : Net) (field : FieldKind) (code : Code)
   pub over : code.field ≡ field
   pub least : ℕ
   pub is_least : IsLeastValue certs least
-  pub rate : code.rate ≡ least
+  pub rate : code.rate ≡ rate_used net least
+  pub within : code.rate ≤ least
   pub accepted : IsAccepted code
-  pub greatest : (other : Code) → IsCodeOf net other → IsAccepted other → other.rate ≤ code.rate
+  pub greatest : (other : Code) → IsCodeOf net other → IsAccepted other → other.rate ≤ least
   pub of_paths : (link : ℕ) → link < length net.links
       → All (IsOfPaths (order_of net.links) certs code link) (operands_at code.operands link)

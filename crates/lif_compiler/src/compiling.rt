@@ -1,7 +1,7 @@
-//! The compiler: a network to a code of its rate, the least cut of a demand.
-ghost use Rattle.std.specs.Prelude.{◌≡◌, ◌≤◌, ℕ, [], IfErr, IfOk, IsTrue, length};
+//! The compiler: a network to a code of the wanted rate, or else of its own, the least cut of a demand.
+ghost use Rattle.std.specs.Prelude.{◌≡◌, ◌≤◌, ℕ, [], IfErr, IfOk, IsTrue, OnErr, length};
 ghost use Rattle.counted_steps.specs.Steps.{RoseByAtMost};
-ghost use Rattle.cut_witness.specs.Certificate.{AreCertificates, IsLeastValue};
+ghost use Rattle.cut_witness.specs.Certificate.{AreCertificates};
 ghost use Rattle.failure_patterns.specs.Rate.{IsRate};
 ghost use Rattle.gf_tables.specs.Kind.{IsOfKind};
 ghost use Rattle.link_chains.specs.Wiring.{IsWiring};
@@ -13,6 +13,7 @@ ghost use Rattle.node_program.specs.Code.{are_in_order, choice_of};
 ghost use Rattle.topo_order.specs.Order.{order_of};
 ghost use Rattle.lif_compiler.specs.Compiled.{IsCompiled, marked_kind};
 ghost use Rattle.lif_compiler.specs.Hops.{Routes};
+ghost use Rattle.lif_compiler.specs.Rating.{IsRateUsed};
 ghost use Rattle.lif_compiler.specs.Refused.{IsRefusal};
 ghost use Rattle.lif_compiler.specs.Visits.{AreVisitable, IsFilledBy};
 ghost use Rattle.lif_compiler.specs.Work.{choice_bound};
@@ -37,7 +38,7 @@ use std::thread::Threads;
 use topo_order::order_along;
 
 // The operands of all links and the decoders of all demands of a code, by the hops over each link. The links are in
-// order.
+// order, and no rate is wanted.
 fn fill<F: Field, L: Ledger>(
     alloc: Global,
     net: &Net,
@@ -51,6 +52,7 @@ fn fill<F: Field, L: Ledger>(
     requires few_demands { demand_count net.now ≤ F.SIZE }
     requires order { IsTrue (are_in_order [] net.now.links) }
     requires named { net.now.field ≡ choice_of (marked_kind F.MARK) }
+    requires unwanted { net.now.wanted ≡ None }
     requires ready { (routes : Routes) × AreVisitable net.now rate routes hops.now }
     ensures filled { IfOk result (λ parts.
         IsFilledBy net.now (marked_kind F.MARK) rate hops.now parts.0 parts.1) }
@@ -72,7 +74,7 @@ fn in_order<F: Field>(alloc: Global, net: &Net, order: &[u32]) -> Result<Net, Al
     Ok(net.renumbered(alloc, order, choice_of(kind_of::<F>()))?)
 }
 
-// A code of a network without a cycle, from the certificates of its demands, of which the least value is the rate.
+// A code of a network without a cycle, of the rate of its codes, from the certificates of its demands.
 fn build<F: Field, L: Ledger>(
     alloc: Global,
     net: &Net,
@@ -86,7 +88,7 @@ fn build<F: Field, L: Ledger>(
     requires acyclic { IsAcyclic net.now.links }
     requires few_demands { demand_count net.now ≤ F.SIZE }
     requires certified { AreCertificates net.now certs.now }
-    requires least { IsLeastValue certs.now rate }
+    requires used { IsRateUsed net.now certs.now rate }
     requires some_rate { 1 ≤ rate }
     requires low_rate { rate ≤ highest_rate }
     ensures compiled { IfOk result (λ code.
@@ -101,12 +103,14 @@ fn build<F: Field, L: Ledger>(
 }
 
 /// An accepted code over the field `F`, one of the two that codes are over, with the certificates of the network's
-/// demands. The code's network is the given one with its links in order, and its rate is the least value of the
-/// certificates: the least cut of a demand. No accepted code of the network has a higher rate, over either field.
+/// demands. The code's network is the given one with its links in order, and no wanted rate. The code's rate is the
+/// wanted one, where there is one, and else the rate of the network: the least value of the certificates, which is the
+/// least cut of a demand. No accepted code of the network has a higher rate than that, over either field.
 /// There is such a code for every network without a cycle that has at most as many demands as the field has elements,
-/// and whose rate is 1 to 32; else the refusal says which of this doesn't hold (Jaggi et al. 2005, for demands with
-/// failed links). Each product and each inverse counts a step where coefficients are chosen; there are at most
-/// 4 m N (N h + N + h h), for m links, N demands and the rate h.
+/// whose rate is at least 1, and whose codes' rate is at most that and at most 32; else the refusal says which of this
+/// doesn't hold (Jaggi et al. 2005, for demands with failed links). Each product and each inverse counts a step where
+/// coefficients are chosen; there are at most 4 m N (N h + N + h h), for m links, N demands and the rate h of the code,
+/// or of the network where there is none.
 pub fn compile<F: Field, G: Gate + Sync, L: Ledger, R: Threads + Sync>(
     rt: &R,
     alloc: Global,
@@ -118,8 +122,11 @@ pub fn compile<F: Field, G: Gate + Sync, L: Ledger, R: Threads + Sync>(
     ensures compiled { IfOk result (λ made.
         IsCompiled net.now (marked_kind F.MARK) made.0 made.1.items) }
     ensures refused { IfErr result (IsRefusal net.now F.SIZE) }
-    ensures ticks { (rate : ℕ) → IsRate net.now rate → RoseByAtMost
-        (choice_bound (length net.now.links) (demand_count net.now) rate) steps.old steps.new }
+    ensures ticks { IfOk result (λ made. RoseByAtMost
+        (choice_bound (length net.now.links) (demand_count net.now) made.0.rate)
+        steps.old steps.new) }
+    ensures refused_ticks { OnErr result ((rate : ℕ) → IsRate net.now rate → RoseByAtMost
+        (choice_bound (length net.now.links) (demand_count net.now) rate) steps.old steps.new) }
 {
     let wiring = wiring_of(alloc, net)?;
     let order = order_along(alloc, net, &wiring)?;
@@ -143,8 +150,11 @@ pub fn compile_along<F: Field, G: Gate + Sync, L: Ledger, R: Threads + Sync>(
     ensures compiled { IfOk result (λ made.
         IsCompiled net.now (marked_kind F.MARK) made.0 made.1.items) }
     ensures refused { IfErr result (IsRefusal net.now F.SIZE) }
-    ensures ticks { (rate : ℕ) → IsRate net.now rate → RoseByAtMost
-        (choice_bound (length net.now.links) (demand_count net.now) rate) steps.old steps.new }
+    ensures ticks { IfOk result (λ made. RoseByAtMost
+        (choice_bound (length net.now.links) (demand_count net.now) made.0.rate)
+        steps.old steps.new) }
+    ensures refused_ticks { OnErr result ((rate : ℕ) → IsRate net.now rate → RoseByAtMost
+        (choice_bound (length net.now.links) (demand_count net.now) rate) steps.old steps.new) }
 {
     let count = demands(net);
     if count > u64::from(F::SIZE) {

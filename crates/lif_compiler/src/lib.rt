@@ -1,7 +1,7 @@
 //! The Linear Information Flow compiler (Jaggi et al. 2005).
 //!
 //! There is one call, `compile`, and `compile_along` where the chains and the order of the links are at hand. Read
-//! `specs/Compiled.antt`, what a compiled code is, and `specs/Refused.antt`, the four conditions that may not hold.
+//! `specs/Compiled.antt`, what a compiled code is, and `specs/Refused.antt`, the five conditions that may not hold.
 //! The invariant of the loop over the links is in `specs/Visits.antt`: the frontier of each demand carries a basis.
 //! proofs/VisitLaws say how a basis outlives a visit.
 #![tactic(auto)]

@@ -23,7 +23,16 @@ pub enum CompileRefusal {
         /// Its least side, which only failed links leave.
         side: Side,
     },
-    /// The rate of the network is above 32.
+    /// The wanted rate is above the rate of the network, which isn't 0.
+    RateUnmet {
+        /// The first demand whose least cut is below the wanted rate.
+        demand: u32,
+        /// Its least side.
+        side: Side,
+        /// The size of that cut.
+        least: u32,
+    },
+    /// The rate of the network is above 32, and none is wanted.
     RateOver {
         /// The first demand whose least cut is the rate.
         demand: u32,

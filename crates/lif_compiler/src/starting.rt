@@ -63,7 +63,7 @@ fn unit_bases<F: Field>(alloc: Global, count: usize, rate: u32) -> Result<Vec<Ba
 }
 
 impl<F: Field> PartialCode<F> {
-    /// A code of this rate, before any link is visited. The links are in order.
+    /// A code of this rate, before any link is visited. The links are in order, and no rate is wanted.
     pub fn start(alloc: Global, net: &Net, rate: u32) -> Result<PartialCode<F>, AllocError>
         requires field { IsOfKind (marked_kind F.MARK) F.SIZE F.BYTES F.MARK F.product }
         requires some_rate { 1 ≤ rate }
@@ -71,6 +71,7 @@ impl<F: Field> PartialCode<F> {
         requires few_demands { demand_count net.now ≤ pair_demands }
         requires order { IsTrue (are_in_order [] net.now.links) }
         requires named { net.now.field ≡ choice_of (marked_kind F.MARK) }
+        requires unwanted { net.now.wanted ≡ None }
         ensures rate { IfOk result (λ code. code.rate ≡ rate) }
         ensures none { IfOk result (λ code. code.operands.items ≡ []) }
         ensures matrices { IfOk result (λ code. All HasMatrices code.bases.items) }

@@ -9,5 +9,6 @@ returns g c = record {
   source = c.in_ok-renumbered.ensures.source;
   sinks = c.in_ok-renumbered.ensures.sinks;
   patterns = c.in_ok-renumbered.ensures.patterns;
+  wanted = c.in_ok-renumbered.ensures.wanted;
   field = c.in_ok-renumbered.ensures.field ∙ c.choice_of.ensures ∙ ap choice_of c.kind_of.ensures;
 }

@@ -15,4 +15,4 @@ returns-clause-visited g c =
     let laws : LawsOf F = record { field = L.field; numbering = L.numbering; of_kind = c.requires.field } in
     visited_none laws net c.args.rate vectors bases
     (c.in_ok-vectors.ensures ∙ ap₂ (λ (patterns links : ℕ). replicate patterns (grid_of links c.args.rate F.zero)) c.len.ensures c.len-links.ensures) (c.in_ok-bases.ensures.count ∙ c.demands.ensures)
-    c.in_ok-bases.ensures.frontiers c.in_ok-bases.ensures.vectors c.requires.some_rate c.requires.low_rate c.requires.few_demands c.requires.order c.requires.named _ refl c.in_ok-operands.ensures.items refl refl
+    c.in_ok-bases.ensures.frontiers c.in_ok-bases.ensures.vectors c.requires.some_rate c.requires.low_rate c.requires.few_demands c.requires.order c.requires.named c.requires.unwanted _ refl c.in_ok-operands.ensures.items refl refl

@@ -1,5 +1,5 @@
 use Rattle.std.proofs.Common.{◌≡◌, ◌∙◌, All, length, arith, ap, refl, sym, subst}
-use Rattle.list_laws.proofs.Writes.{written_back}
+use Rattle.item_list.proofs.Writes.{written_back}
 use Rattle.lif_compiler.specs.Bases.{HasMatrices, HasWidth}
 use Rattle.lif_compiler.specs.Operands.{befores}
 use Rattle.lif_compiler.specs.PartialCodes.{HaveProducts}
