@@ -1,7 +1,7 @@
 -- Codes as inputs: bytes are those of one accepted code, or are refused in one way.
 use Rattle.std.specs.Prelude.{◌≡◌, ◌<◌, ℕ, List, IsTrue}
 use Rattle.std.proofs.Common.{refl, sym, ap, subst, ◌∙◌}
-use Rattle.list_laws.proofs.Numbers.{neither_below}
+use Rattle.item_list.proofs.Numbers.{neither_below}
 use Rattle.code_checker.specs.Checking.{FailsFirst, DiffersFirst, entry_at, demand_product}
 use Rattle.code_checker.proofs.CheckingLaws.{FailsFirst-refuses}
 use Rattle.code_file.specs.Items.{bytes_of}

@@ -1,12 +1,7 @@
 -- Exits by `?`.
-use Rattle.std.specs.Prelude.{◌≡◌, Result, Ok, Err, IfErr, IfOk, OnErr}
+use Rattle.std.specs.Prelude.{◌≡◌, Result, Ok, Err, IfErr, IfOk}
 use Rattle.std.specs.Result.{IsErrAnd}
 use Rattle.std.proofs.Common.{sym, subst}
-
--- what holds at an exit, said of the error there
-pub on_err : {T E P : Type 0} (r : Result T E) → P → OnErr r P
-on_err (Ok x) p = tt
-on_err (Err e) p = p
 
 -- what holds of the error that an exit is made with
 pub if_err : {T E : Type 0} (P : E → Type 0) (r : Result T E) (made : E) → IsErrAnd r (λ error. error ≡ made) → P made → IfErr r P

@@ -10,7 +10,5 @@ pub mod PathLaws
 pub mod PerformingLaws
 pub mod SameCode
 pub mod SameNet
-pub mod Digits
 pub mod FileReadingLaws
 pub mod SayingLaws
-pub mod RefusedNames

@@ -1,7 +1,7 @@
 -- The numbers of the statuses.
 use Rattle.std.specs.Prelude.{ℕ}
 use Rattle.top_base.specs.declared.status.Status.{Status}
-use Rattle.top_base.specs.declared.status.Status.TheVariants.{Done, Usage, NetRefused, ZeroRate, TooManyDemands, RateOver, CodeRefused, CheckFailed, UnknownPattern, ReadFault, WriteFault, TooLong, OutOfMemory, SamePath, LinkFault}
+use Rattle.top_base.specs.declared.status.Status.TheVariants.{Done, Usage, NetRefused, ZeroRate, TooManyDemands, RateOver, CodeRefused, CheckFailed, UnknownPattern, ReadFault, WriteFault, TooLong, OutOfMemory, SamePath, LinkFault, RateUnmet}
 
 abbrev pub code_of : Status → ℕ
 code_of Done = 0
@@ -19,3 +19,4 @@ code_of TooLong = 12
 code_of OutOfMemory = 13
 code_of SamePath = 14
 code_of LinkFault = 15
+code_of (RateUnmet demand side least) = 16

@@ -9,11 +9,11 @@ use Rattle.failure_patterns.specs.Demands.{demand_of}
 use Rattle.name_texts.specs.Names.{demand_text, link_name, links_text, on_lines, side_text}
 use Rattle.net_model.specs.Demands.{demand_count}
 use Rattle.net_model.specs.declared.net.Net.{Net}
-use Rattle.net_reader.specs.Text.{node_names_of}
+use Rattle.net_reader.specs.Text.{link_names_of, node_names_of}
 use Rattle.net_reader.specs.declared.refusal.ReadRefusal.{ReadRefusal}
 use Rattle.net_reader.specs.RefusalNames as net
 use Rattle.net_reader.specs.RefusalNames.{what_name}
-use Rattle.net_reader.specs.declared.refusal.ReadRefusal.TheVariants.{SinkIsSource, TooMany}
+use Rattle.net_reader.specs.declared.refusal.ReadRefusal.TheVariants.{PatternNamed, SinkIsSource, TooMany, TooManyPatterns}
 use Rattle.node_program.specs.declared.code.Code.{Code}
 use Rattle.top_base.specs.Words.{Demo}
 
@@ -35,11 +35,13 @@ out_of_memory_line = codes "out of memory\n"
 abbrev pub link_fault_line : List ℕ
 link_fault_line = codes "link fault\n"
 
--- what stands behind the name of a refusal of a network text: of what there are too many, or the name
--- of the node, where it is of a sink that is the source
+-- what stands behind the name of a refusal of a network text: of what there are too many, how many patterns there are, or the
+-- name of the node or the link that it is of
 abbrev pub detail_text : List ℕ → ReadRefusal → List ℕ
 detail_text name (TooMany line what) = codes " " ++ what_name what
 detail_text name (SinkIsSource sink) = codes " " ++ name
+detail_text name (PatternNamed link) = codes " " ++ name
+detail_text name (TooManyPatterns count) = codes " " ++ decimal count
 detail_text name why = []
 
 -- a refusal of a network text: its line, where it is of one, and its name
@@ -48,9 +50,10 @@ net_refusal_text name why =
     option_map_or (λ line. codes "line " ++ decimal line ++ codes ": ") (net.refusal_line why) []
     ++ net.refusal_name why ++ detail_text name why
 
--- the name of that node in a text
+-- the name of that node or link in a text
 abbrev pub refused_name : List ℕ → ReadRefusal → List ℕ
 refused_name text (SinkIsSource sink) = unwrap_or (slice_get (node_names_of text) sink) []
+refused_name text (PatternNamed link) = unwrap_or (slice_get (link_names_of text) link) []
 refused_name text why = []
 
 abbrev pub net_refused_line : List ℕ → ReadRefusal → List ℕ
@@ -77,9 +80,15 @@ check_failed_line net demand row column found =
     codes "check failed: demand " ++ demand_text net (demand_of net demand) ++ codes " row " ++ decimal row ++ codes " column " ++ decimal column
     ++ codes " found " ++ decimal found ++ codes "\n"
 
--- the line of a network whose rate is 0, by a demand without a path, and of one whose rate is above 32
+-- the line of a network whose rate is 0, by a demand without a path, of one whose rate is below the wanted one, and of one whose
+-- rate is above 32
 abbrev pub zero_rate_line : Net → ℕ → List Bool → List ℕ
 zero_rate_line net demand side = codes "rate 0: demand " ++ demand_text net (demand_of net demand) ++ codes " side" ++ side_text net side ++ codes "\n"
+
+abbrev pub rate_unmet_line : Net → ℕ → List Bool → ℕ → List ℕ
+rate_unmet_line net demand side least =
+    codes "rate " ++ decimal (unwrap_or net.wanted 0) ++ codes " unmet: demand " ++ demand_text net (demand_of net demand) ++ codes " cut " ++ decimal least
+    ++ codes " side" ++ side_text net side ++ codes "\n"
 
 abbrev pub rate_over_line : Net → ℕ → ℕ → List ℕ
 rate_over_line net demand least = codes "rate over 32: demand " ++ demand_text net (demand_of net demand) ++ codes " cut " ++ decimal least ++ codes "\n"

@@ -1,20 +1,9 @@
 -- The words that the program is called with.
-use Rattle.std.specs.Prelude.{ℕ, ◌+◌, ◌-◌, ◌*◌, ◌^◌, ◌&&◌, nat_le, nat_lt, if◌then◌else◌, fold, List, [], ◌∷◌, length, Option, Some, None, codes}
-use Rattle.std.specs.Char.{is_ascii_digit}
-use Rattle.std.specs.List.{list_all}
+use Rattle.std.specs.Prelude.{ℕ, ◌&&◌, nat_le, if◌then◌else◌, List, [], ◌∷◌, Option, Some, None, codes}
 use Rattle.std.specs.Option.{option_map}
 use Rattle.std.specs.Str.{bytes_eq}
 use Rattle.net_maker.specs.Fits.{fits}
-
--- the value of decimal digits
-abbrev pub value_of_digits : List ℕ → ℕ
-value_of_digits digits = fold (λ value digit. value * 10 + (digit - 48)) 0 digits
-
--- one or more digits, with a value below 2^64
-abbrev pub number_of : List ℕ → Option ℕ
-number_of word =
-    if nat_lt 0 (length word) && list_all is_ascii_digit word && nat_lt (value_of_digits word) (2 ^ 64)
-    then Some (value_of_digits word) else None
+use Rattle.net_reader.specs.Digits.{number_of}
 
 -- what a command `compile` is given
 pub record Compile : Type 0 where

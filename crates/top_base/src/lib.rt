@@ -20,7 +20,7 @@ mod words;
 pub use accepting::read_accepted;
 pub use demo_words::{DemoWords, SOURCE_LIMIT};
 pub use lines::Line;
-pub use long_texts::{order_text, zero_rate_line};
+pub use long_texts::{order_text, rate_unmet_line, zero_rate_line};
 pub use networks::{Ordered, read_ordered};
 pub use outcome::{Outcome, conclude};
 pub use reading::{FileRefusal, read_next, read_whole};

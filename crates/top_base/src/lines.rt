@@ -81,17 +81,35 @@ fn begin(words: &[u8]) -> ShortText
     text
 }
 
-// What stands behind the name of a refusal, if anything does: of what there are too many, or the name
-// of the node, where a sink is the source.
-fn detail(why: ReadRefusal, name: &[u8]) -> Option<&[u8]>
-    requires { length name.now ≤ longest_name }
-    ensures text { detail_text name.now why ≡ option_map_or (λ detail. 32 ∷ detail.now) result [] }
-    ensures short { IfSome result (λ detail. length detail.now ≤ longest_name) }
+// Adds a space and a word to a text that has room for them.
+fn push_word(text: &mut ShortText, word: &[u8])
+    requires word { length word.now ≤ longest_name }
+    requires room { length text.old.items + 33 ≤ ROOM }
+    ensures text { text.new.items ≡ text.old.items ++ codes " " ++ word.now }
+    ensures grown { length text.new.items ≤ length text.old.items + 33 }
+{
+    push(text, b" ");
+    push(text, word);
+}
+
+// Adds what stands behind the name of a refusal, if anything does: of what there are too many, how many patterns there are, or
+// the name of the node or the link that it is of.
+fn push_detail(text: &mut ShortText, why: ReadRefusal, name: &[u8])
+    requires name { length name.now ≤ longest_name }
+    requires room { length text.old.items + 33 ≤ ROOM }
+    ensures text { text.new.items ≡ text.old.items ++ detail_text name.now why }
+    ensures grown { length text.new.items ≤ length text.old.items + 33 }
 {
     match why {
-        ReadRefusal::TooMany { what, .. } => Some(what.name().as_bytes()),
-        ReadRefusal::SinkIsSource { .. } => Some(name),
-        _ => None,
+        ReadRefusal::TooMany { what, .. } => push_word(text, what.name().as_bytes()),
+        ReadRefusal::SinkIsSource { .. } | ReadRefusal::PatternNamed { .. } => {
+            push_word(text, name)
+        }
+        ReadRefusal::TooManyPatterns { count } => {
+            push(text, b" ");
+            push_number(text, count);
+        }
+        _ => {}
     }
 }
 
@@ -208,7 +226,7 @@ impl<'a> Line<'a> {
         Line::of(begin(b"link fault\n"))
     }
 
-    /// The text of a network is refused; the name is that of the node, where a sink is the source.
+    /// The text of a network is refused; the name is that of the node or the link that the refusal is of.
     pub fn net_refused(why: ReadRefusal, name: &[u8]) -> Line<'a>
         requires { length name.now ≤ longest_name }
         ensures { result ≡ net_refused_line name.now why }
@@ -220,10 +238,7 @@ impl<'a> Line<'a> {
             push(&mut text, b": ");
         }
         push(&mut text, why.name().as_bytes());
-        if let Some(detail) = detail(why, name) {
-            push(&mut text, b" ");
-            push(&mut text, detail);
-        }
+        push_detail(&mut text, why, name);
         push(&mut text, b"\n");
         Line::of(text)
     }

@@ -1,10 +1,11 @@
 //! Lines of many names, in memory that is taken once.
 ghost use Rattle.std.specs.Prelude.{◌≡◌, ◌<◌, All, IfOk, length};
 ghost use Rattle.net_model.specs.Demands.{demand_count};
-ghost use Rattle.top_base.specs.Lines.{cycle_line, order_text, zero_rate_line};
+ghost use Rattle.top_base.specs.Lines.{cycle_line, order_text, rate_unmet_line, zero_rate_line};
 
 use crate::lines::Line;
 use failure_patterns::demand_at;
+use itoa::Buffer;
 use name_texts::{NAME_ROOM, push_demand, push_lines, push_links, push_side};
 use net_model::Net;
 use std::alloc::{AllocError, Global};
@@ -50,6 +51,33 @@ pub fn zero_rate_line<'a>(
     let mut text = Vec::with_capacity(alloc, room_for(side.len()))?;
     text.extend_from_slice(b"rate 0: demand ")?;
     push_demand(&mut text, net, demand_at(net, u64::from(demand)))?;
+    text.extend_from_slice(b" side")?;
+    push_side(&mut text, net, side)?;
+    text.push(b'\n')?;
+    Ok(Line::long(text))
+}
+
+/// The wanted rate is above that of a network: a demand has a least cut below it, with this least side.
+pub fn rate_unmet_line<'a>(
+    alloc: Global,
+    net: &Net,
+    demand: u32,
+    side: &[bool],
+    least: u32,
+) -> Result<Line<'a>, AllocError>
+    requires demand { demand < demand_count net.now }
+    requires side { length side.now ≡ length net.now.nodes }
+    ensures { IfOk result (λ line. line ≡ rate_unmet_line net.now demand side.now least) }
+{
+    let mut wanted = Buffer::new();
+    let mut cut = Buffer::new();
+    let mut text = Vec::with_capacity(alloc, room_for(side.len()).saturating_add(64))?;
+    text.extend_from_slice(b"rate ")?;
+    text.extend_from_slice(wanted.format(net.wanted.unwrap_or(0)).as_bytes())?;
+    text.extend_from_slice(b" unmet: demand ")?;
+    push_demand(&mut text, net, demand_at(net, u64::from(demand)))?;
+    text.extend_from_slice(b" cut ")?;
+    text.extend_from_slice(cut.format(least).as_bytes())?;
     text.extend_from_slice(b" side")?;
     push_side(&mut text, net, side)?;
     text.push(b'\n')?;

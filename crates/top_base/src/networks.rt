@@ -1,7 +1,8 @@
 //! A network that is read from its text and put in order.
-ghost use Rattle.std.specs.Prelude.{◌≡◌, ◌≢◌, ◌≤◌, ℕ, List, Ok, Err, IfOk, IfErr, length};
+ghost use Rattle.std.specs.Prelude.{◌≡◌, ◌≢◌, ◌≤◌, ℕ, List, [], Ok, Err, IfOk, IfErr, length, unwrap_or};
 ghost use Rattle.lif_outside.specs.Calls.{MakesCalls};
 ghost use Rattle.link_chains.specs.Wiring.{IsWiring};
+ghost use Rattle.net_model.specs.Limits.{longest_name};
 ghost use Rattle.net_reader.specs.Text.{net_limit, network_of, parts_of};
 ghost use Rattle.topo_order.specs.Order.{IsShownCycle, order_of};
 ghost use Rattle.top_base.specs.Lines.{refused_name};
@@ -14,8 +15,8 @@ use crate::reading::read_whole;
 use crate::status::{NetWhy, Status};
 use lif_outside::Store;
 use link_chains::{Wiring, wiring_of};
-use net_model::{LinkList, Net};
-use net_reader::{NET_LIMIT, ReadRefusal, node_name, read_net};
+use net_model::{LinkList, Name, Net};
+use net_reader::{NET_LIMIT, ReadRefusal, link_name, node_name, read_net};
 use std::alloc::{AllocError, Global};
 use topo_order::{OrderRefusal, order_along};
 
@@ -27,21 +28,29 @@ pub struct Ordered {
     pub order: Vec<u32>,
 }
 
-// The name of the node that is source and sink, where a text is refused for it.
-fn refused_name(alloc: Global, text: &[u8], why: ReadRefusal) -> Result<&[u8], AllocError>
-    ensures name { IfOk result (λ name. name.now ≡ refused_name text.now why) }
+// The name of the node or the link that a text is refused for, if it is for one.
+fn refused_name(alloc: Global, text: &[u8], why: ReadRefusal) -> Result<Option<Name>, AllocError>
+    ensures { IfOk result (λ name. unwrap_or name [] ≡ refused_name text.now why) }
 {
     match why {
-        ReadRefusal::SinkIsSource { sink } => match node_name(alloc, text, sink)? {
-            Some(name) => Ok(name),
-            None => Ok(b""),
-        },
-        _ => Ok(b""),
+        ReadRefusal::SinkIsSource { sink } => node_name(alloc, text, sink),
+        ReadRefusal::PatternNamed { link } => link_name(alloc, text, link),
+        _ => Ok(None),
+    }
+}
+
+// The bytes of a name, none where there is none.
+fn bytes_of(name: &Option<Name>) -> &[u8]
+    ensures bytes { result.now ≡ unwrap_or name.now [] }
+    ensures short { length result.now ≤ longest_name }
+{
+    match name {
+        Some(name) => name.bytes(),
+        None => b"",
     }
 }
 
 // What a text that stands for no network makes of the command.
-#[tactic(auto, using(crate::proofs::RefusedNames::short))]
 fn unread<'a>(alloc: Global, text: &[u8], why: ReadRefusal) -> Outcome<'a>
     requires { why ≢ ReadRefusal.OutOfMemory → network_of text.now ≡ Err why }
     ensures { RefusesNetOrLosesIt text.now result }
@@ -52,7 +61,7 @@ fn unread<'a>(alloc: Global, text: &[u8], why: ReadRefusal) -> Outcome<'a>
     match refused_name(alloc, text, why) {
         Ok(name) => Outcome {
             status: Status::NetRefused(NetWhy::Text(why)),
-            line: Line::net_refused(why, name),
+            line: Line::net_refused(why, bytes_of(&name)),
         },
         Err(_) => Outcome::out_of_memory(),
     }

@@ -1,7 +1,8 @@
 //! Whole files, read within a limit.
-ghost use Rattle.std.specs.Prelude.{◌≡◌, ◌≤◌, ◌<◌, ◌+◌, ◌^◌, [], length, true, IfOk, IfErr, IsErrOf, vec_len, vec_capacity};
+ghost use Rattle.std.specs.Prelude.{◌≡◌, ◌≤◌, ◌<◌, ◌+◌, [], length, true, IfOk, IfErr, IsErrOf, vec_len, vec_capacity};
 ghost use Rattle.lif_outside.specs.Calls.{MakesCalls};
 ghost use Rattle.lif_outside.specs.FileCalls.{ReadsWhole};
+ghost use Rattle.lif_outside.specs.Limits.{last_place};
 ghost use Rattle.top_base.specs.FileReading.{ReadsMore, ReadsNext, StopsReading};
 
 use lif_outside::{Failed, Store};
@@ -29,7 +30,7 @@ pub fn read_next<S: Store>(
     at: u64,
     chunk: &mut [u8],
 ) -> Result<usize, Failed>
-    requires limit { limit < 2 ^ 41 }
+    requires limit { limit < last_place }
     requires within { at ≤ limit }
     requires chunk { 0 < length chunk.old }
     ensures reads { MakesCalls S.Store store.old store.new
@@ -50,7 +51,7 @@ fn read_more<S: Store>(
     chunk: &mut [u8],
     front: &mut Vec<u8>,
 ) -> Result<bool, FileRefusal>
-    requires limit { limit < 2 ^ 41 }
+    requires limit { limit < last_place }
     requires within { vec_len front.old ≤ limit }
     requires chunk { 0 < length chunk.old }
     ensures reads { MakesCalls S.Store store.old store.new
@@ -79,7 +80,7 @@ pub fn read_whole<S: Store>(
     empty: Vec<u8>,
 ) -> Result<Vec<u8>, FileRefusal>
     requires empty { empty.items ≡ [] }
-    requires limit { limit < 2 ^ 41 }
+    requires limit { limit < last_place }
     ensures whole { IfOk result
         (λ bytes. MakesCalls S.Store store.old store.new (ReadsWhole path.now limit bytes.items)) }
     ensures refused { IfErr result

@@ -33,7 +33,7 @@ pub enum Status {
         /// How many it has.
         count: u64,
     },
-    /// The rate of the network is above 32.
+    /// The rate of the network is above 32, and none is wanted.
     RateOver {
         /// The first demand whose least cut is the rate.
         demand: u32,
@@ -67,6 +67,15 @@ pub enum Status {
     SamePath,
     /// The links failed.
     LinkFault,
+    /// The wanted rate is above the rate of the network, which isn't 0.
+    RateUnmet {
+        /// The first demand whose least cut is below the wanted rate.
+        demand: u32,
+        /// Its least side.
+        side: Side,
+        /// The size of that cut.
+        least: u32,
+    },
 }
 
 impl Status {
@@ -93,6 +102,7 @@ impl Status {
             Status::OutOfMemory => 13,
             Status::SamePath => 14,
             Status::LinkFault => 15,
+            Status::RateUnmet { .. } => 16,
         }
     }
 }

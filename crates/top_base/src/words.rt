@@ -1,13 +1,12 @@
 //! The words that the program is called with.
-ghost use Rattle.std.specs.Prelude.{◌≡◌, ◌<◌, ◌^◌, Some, map, string_bytes};
-ghost use Rattle.std.specs.Char.{is_ascii_digit};
-ghost use Rattle.std.specs.List.{list_all};
-ghost use Rattle.std.specs.Option.{SomeIff, option_map};
-ghost use Rattle.top_base.specs.Words.{check_of, command_of, compile_of, cuts_of, demo_of, demo_with, number_of, order_of, send_of, value_of_digits};
+ghost use Rattle.std.specs.Prelude.{◌≡◌, Some, map, string_bytes};
+ghost use Rattle.std.specs.Option.{option_map};
+ghost use Rattle.top_base.specs.Words.{check_of, command_of, compile_of, cuts_of, demo_of, demo_with, order_of, send_of};
 ghost use Rattle.top_base.specs.Given.{command_in};
 
 use crate::demo_words::{DemoWords, SOURCE_LIMIT};
 use net_maker::demo_fits;
+use net_reader::number_of;
 
 /// What a command `compile` is given.
 #[derive(Clone, Copy)]
@@ -121,7 +120,7 @@ fn send_of(given: &[String]) -> Option<Command<'_>>
     let [code, pattern, seed, source, prefix] = given else {
         return None;
     };
-    let Some(seed) = number_of(seed.as_str()) else {
+    let Some(seed) = number_of(seed.as_bytes()) else {
         return None;
     };
     Some(Command::Send(SendWords {
@@ -140,9 +139,9 @@ fn demo_of(given: &[String]) -> Option<Command<'_>>
     let [n, k, bytes] = given else {
         return None;
     };
-    let n = number_of(n.as_str())?;
-    let k = number_of(k.as_str())?;
-    let bytes = number_of(bytes.as_str())?;
+    let n = number_of(n.as_bytes())?;
+    let k = number_of(k.as_bytes())?;
+    let bytes = number_of(bytes.as_bytes())?;
     demo_with(n, k, bytes)
 }
 
@@ -156,38 +155,4 @@ fn demo_with<'a>(n: u64, k: u64, bytes: u64) -> Option<Command<'a>>
         return None;
     }
     Some(Command::Demo(DemoWords { n, k, bytes }))
-}
-
-// The number that a word is: one or more digits of ASCII, with a value below 2^64.
-fn number_of(word: &str) -> Option<u64>
-    ensures { result ≡ number_of word.now }
-{
-    let digits = word.as_bytes();
-    if digits.is_empty() || !are_digits(digits) {
-        return None;
-    }
-    value_of_digits(digits)
-}
-
-fn are_digits(word: &[u8]) -> bool
-    ensures { result ≡ list_all is_ascii_digit word.now }
-{
-    word.iter().all(|byte| byte.is_ascii_digit())
-}
-
-fn value_of_digits(digits: &[u8]) -> Option<u64>
-    ensures { SomeIff result (value_of_digits digits.now < 2 ^ 64) (value_of_digits digits.now) }
-{
-    let mut value = 0u64;
-    for digit in digits {
-        let unit = u64::from(digit.saturating_sub(b'0'));
-        let Some(tens) = value.checked_mul(10) else {
-            return None;
-        };
-        let Some(more) = tens.checked_add(unit) else {
-            return None;
-        };
-        value = more;
-    }
-    Some(value)
 }

@@ -1,5 +1,5 @@
 -- A combination network has a code: nothing but want of memory keeps it from being compiled.
-use Rattle.std.specs.Prelude.{◌≡◌, ◌⊎◌, ◌≤◌, ℕ, true, nat_le, List, None, Some, if◌then◌else◌}
+use Rattle.std.specs.Prelude.{◌≡◌, ◌⊎◌, ◌≤◌, ℕ, true, nat_le, List, Option, None, Some, unwrap_or, if◌then◌else◌}
 use Rattle.std.proofs.Common.{refl, sym, ap, subst, ◌∙◌, inl, inr, arith}
 use Rattle.std.proofs.lemmas.Bool.{cases_Bool, le-leb, leb-true}
 use Rattle.cut_witness.proofs.CertificateLaws.{IsRate-least_value}
@@ -7,11 +7,11 @@ use Rattle.cut_witness.specs.declared.cert.Cert.{Cert}
 use Rattle.failure_patterns.proofs.RateLaws.{IsRate-unique}
 use Rattle.failure_patterns.specs.UsedField.{used_field}
 use Rattle.gf_tables.specs.declared.kind.FieldKind.{FieldKind}
-use Rattle.lif_compiler.proofs.RefusedLaws.{IsZeroRate-only}
+use Rattle.lif_compiler.proofs.RefusedLaws.{IsRateUnmet-only, IsZeroRate-only}
 use Rattle.lif_compiler.specs.Compiled.{IsCompiled}
 use Rattle.lif_compiler.specs.Refused.{IsRefusal}
 use Rattle.lif_compiler.specs.declared.refusal.CompileRefusal.{CompileRefusal}
-use Rattle.lif_compiler.specs.declared.refusal.CompileRefusal.TheVariants.{Cyclic, TooManyDemands, ZeroRate, RateOver, OutOfMemory}
+use Rattle.lif_compiler.specs.declared.refusal.CompileRefusal.TheVariants.{Cyclic, TooManyDemands, ZeroRate, RateUnmet, RateOver, OutOfMemory}
 use Rattle.net_maker.proofs.CombinationLaws.{combination-acyclic, combination-demands, combination-rate}
 use Rattle.net_maker.specs.Combination.{IsCombination}
 use Rattle.net_maker.specs.Fits.{Fits}
@@ -27,12 +27,14 @@ pub only-memory : (net : Net) (size rate : ℕ) → HasRate net rate → demand_
 only-memory net size rate has few (Cyclic links) shown = absurd (has.acyclic links shown.is_cycle)
 only-memory net size rate has few (TooManyDemands count) crowded = absurd (omega (arith, few, crowded.1))
 only-memory net size rate has few (ZeroRate demand side) zero = absurd (IsZeroRate-only net rate demand side has.is_rate (omega (arith, has.some_rate)) zero.1)
+only-memory net size rate has few (RateUnmet demand side least) unmet = absurd (IsRateUnmet-only net demand least side has.no_wanted unmet.1)
 only-memory net size rate has few (RateOver demand least) over = absurd (omega (arith, has.low_rate, over.1.over, IsRate-unique net rate least has.is_rate over.1.rate))
 only-memory net size rate has few OutOfMemory lost = refl
 
 module _ (n k : ℕ) (fits : Fits n k) (net : Net) (is : IsCombination n k net) where
   pub combination-good : HasRate net k
   combination-good = record {
+    no_wanted = is.wanted;
     acyclic = combination-acyclic n k fits net is;
     is_rate = combination-rate n k fits net is;
     some_rate = fits.some;
@@ -64,5 +66,5 @@ module _ (n k : ℕ) (fits : Fits n k) (net : Net) (is : IsCombination n k net) 
     served = subst (IsServedBy net) (sym compiled.over) served;
     certs = certs;
     compiled = subst (λ kind. IsCompiled net kind code certs) (sym compiled.over) compiled;
-    rate = compiled.rate ∙ IsRate-unique net compiled.least k (IsRate-least_value net certs compiled.least compiled.certified compiled.is_least) (combination-rate n k fits net is);
+    rate = compiled.rate ∙ ap (λ (wanted : Option ℕ). unwrap_or wanted compiled.least) is.wanted ∙ IsRate-unique net compiled.least k (IsRate-least_value net certs compiled.least compiled.certified compiled.is_least) (combination-rate n k fits net is);
   }

@@ -1,9 +1,8 @@
 -- What has to be known of the commands.
 use Rattle.std.specs.Prelude.{◌≡◌, ◌≢◌, ℕ, List, IsTrue}
-use Rattle.std.proofs.Common.{refl, sym, ap, subst, ◌∙◌, ⊎_elim}
+use Rattle.std.proofs.Common.{refl, sym, ap, ◌∙◌, ⊎_elim, arith}
 use Rattle.std.proofs.lemmas.Bool.{false≢true}
 use Rattle.cut_witness.proofs.CertificateLaws.{IsRate-least_value}
-use Rattle.failure_patterns.specs.Rate.{IsRate}
 use Rattle.lif_outside.specs.Calls.{Calls}
 use Rattle.lif_outside.specs.FileCalls.{Written}
 use Rattle.lif_outside.specs.Writes.{paths_written}
@@ -16,7 +15,7 @@ use Rattle.top_base.specs.Accepting.{IsCodeOf, RefusesCode}
 use Rattle.top_base.proofs.AcceptingLaws.{code_input}
 use Rattle.top_base.proofs.InspectingLaws.{EndsWell, inspects_known, inspects_used}
 use Rattle.top_base.specs.Inspecting.{OwesDone}
-use Rattle.top_base.specs.Lines.{accepted_line, order_text}
+use Rattle.top_base.specs.Lines.{accepted_line, compiled_line, order_text}
 use Rattle.top_base.proofs.MakingLaws.{MakesWell, makes_known, makes_used}
 use Rattle.top_base.proofs.NetworkLaws.{net_input}
 use Rattle.top_base.specs.Networks.{IsNetOf, RefusesNet}
@@ -25,7 +24,7 @@ use Rattle.top_base.proofs.PerformingLaws.{IsKnown}
 use Rattle.top_base.specs.Words.{Compile}
 use Rattle.top_base.specs.declared.outcome.Outcome.{Outcome}
 use Rattle.top_base.specs.declared.status.Status.{Status}
-use Rattle.top_base.specs.declared.status.Status.TheVariants.{Done, RateOver, TooManyDemands, Usage, ZeroRate}
+use Rattle.top_base.specs.declared.status.Status.TheVariants.{Done, RateOver, RateUnmet, TooManyDemands, Usage, ZeroRate}
 use Rattle.top_tools.specs.Check.{IsChecked, check_command}
 use Rattle.top_tools.specs.Compile.Command.{compile_command}
 use Rattle.top_tools.specs.Compile.Given.{outputs_of}
@@ -102,17 +101,19 @@ module _ (given : Compile) where
   good net files line made = record {
     field = made.field;
     served = made.served;
-    rate = made.code.rate;
-    is_rate = subst (IsRate net) (sym made.compiled.rate) (IsRate-least_value net made.certs made.compiled.least made.compiled.certified made.compiled.is_least);
-    some_rate = made.code.code.draft.some_rate;
-    low_rate = made.code.code.draft.low_rate;
-    line_is = made.line_is;
+    rate = made.compiled.least;
+    is_rate = IsRate-least_value net made.certs made.compiled.least made.compiled.certified made.compiled.is_least;
+    some_rate = omega (arith, made.code.code.draft.some_rate, made.compiled.within);
+    met = omega (arith, made.compiled.rate, made.compiled.within);
+    low_rate = omega (arith, made.compiled.rate, made.code.code.draft.low_rate);
+    line_is = made.line_is ∙ ap (λ rate. compiled_line rate made.field (demand_count net)) made.compiled.rate;
   }
 
   -- networks that aren't compiled are refused with a status of their own
   of_inputs : (net : Net) (status : Status) (line : List ℕ) → RefusesMaking net status line → IsTrue (is_of_inputs status)
   of_inputs net (TooManyDemands count) line refused = refl
   of_inputs net (ZeroRate demand side) line refused = refl
+  of_inputs net (RateUnmet demand side least) line refused = refl
   of_inputs net (RateOver demand least) line refused = refl
   of_inputs net status line refused = absurd refused
 

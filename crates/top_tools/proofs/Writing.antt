@@ -9,15 +9,6 @@ use Rattle.lif_outside.specs.Sequences.{Are}
 use Rattle.lif_outside.specs.Writes.{writes_of}
 use Rattle.lif_outside.specs.declared.Failed.{Failed}
 
--- what follows where a call was done, and where it failed
-pub ok_then : {T E P Q : Type 0} (result : Result T E) → OnOk result P → (P → Q) → OnOk result Q
-ok_then (Ok x) holds to = to holds
-ok_then (Err error) holds to = tt
-
-pub err_then : {T E P Q : Type 0} (result : Result T E) → OnErr result P → (P → Q) → OnErr result Q
-err_then (Ok x) holds to = tt
-err_then (Err error) holds to = to holds
-
 module _ {S : Type 0} {calls : List Event → S → S → Type 0} (more : (first later : List Event) (a b c : S) → calls first a b → calls later b c → calls (first ++ later) a c)
     (a mid b : S) (path bytes : List ℕ) (makes : calls (created path ∷ []) a mid) where
   -- a file that was created, and its append

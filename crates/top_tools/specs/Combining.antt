@@ -1,5 +1,5 @@
 -- What is made of a combination network.
-use Rattle.std.specs.Prelude.{◌≡◌, ◌≤◌, ℕ, List}
+use Rattle.std.specs.Prelude.{◌≡◌, ◌≤◌, ℕ, List, None}
 use Rattle.cut_witness.specs.declared.cert.Cert.{Cert}
 use Rattle.failure_patterns.specs.Rate.{IsRate}
 use Rattle.lif_compiler.specs.Compiled.{IsCompiled}
@@ -10,8 +10,9 @@ use Rattle.net_model.specs.declared.net.Net.{Net}
 use Rattle.node_program.specs.declared.code.Code.{Code}
 use Rattle.top_tools.specs.Compile.Made.{IsServedBy}
 
--- a network without a cycle that has this rate, for which a code is made
+-- a network without a cycle that has this rate, and of which no other is wanted, for which a code is made
 pub record HasRate (net : Net) (rate : ℕ) : Type 0 where
+  pub no_wanted : net.wanted ≡ None
   pub acyclic : IsAcyclic net.links
   pub is_rate : IsRate net rate
   pub some_rate : 1 ≤ rate

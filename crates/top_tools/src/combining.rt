@@ -52,6 +52,7 @@ fn lost(why: CompileRefusal) -> AllocError
         CompileRefusal::Cyclic { .. }
         | CompileRefusal::TooManyDemands { .. }
         | CompileRefusal::ZeroRate { .. }
+        | CompileRefusal::RateUnmet { .. }
         | CompileRefusal::RateOver { .. } => unreachable!(),
     }
 }

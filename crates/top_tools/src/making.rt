@@ -13,7 +13,7 @@ use crate::cutting::crowded;
 use crate::reporting::report_of;
 use code_file::write_code;
 use counted_steps::Steps;
-use cut_witness::Cert;
+use cut_witness::{Cert, rate};
 use failure_patterns::used_field;
 use gf_tables::{Field, Gf8, Gf16};
 use lif_compiler::{CompileRefusal, compile_along};
@@ -25,7 +25,7 @@ use std::alloc::{AllocError, Global};
 use std::marker::Brand;
 use std::sync::ledger::{Blank, Ledger};
 use std::thread::Threads;
-use top_base::{Line, Outcome, Status, zero_rate_line};
+use top_base::{Line, Outcome, Status, rate_unmet_line, zero_rate_line};
 
 /// A code's file and a report, and the line that is said of them.
 #[derive(Drop)]
@@ -38,7 +38,7 @@ pub struct Made<'a> {
     pub line: Line<'a>,
 }
 
-// What is written and said of a code of a network, and of certificates of its rate.
+// What is written and said of a code of a network, and of certificates of the network's rate.
 fn of_code<'a, R: Threads + Sync>(
     rt: &R,
     alloc: Global,
@@ -52,7 +52,7 @@ fn of_code<'a, R: Threads + Sync>(
 {
     Ok(Made {
         code: write_code(alloc, code)?,
-        report: report_of(rt, alloc, net, code.rate, certs, WORKERS)?,
+        report: report_of(rt, alloc, net, rate(certs), certs, WORKERS)?,
         line: Line::compiled(code),
     })
 }
@@ -72,6 +72,21 @@ fn unmade<'a>(alloc: Global, net: &Net, why: CompileRefusal) -> Outcome<'a>
                 Err(_) => Outcome::out_of_memory(),
             }
         }
+        CompileRefusal::RateUnmet {
+            demand,
+            side,
+            least,
+        } => match rate_unmet_line(alloc, net, demand, side.as_slice(), least) {
+            Ok(line) => Outcome {
+                status: Status::RateUnmet {
+                    demand,
+                    side,
+                    least,
+                },
+                line,
+            },
+            Err(_) => Outcome::out_of_memory(),
+        },
         CompileRefusal::RateOver { demand, least } => Outcome {
             status: Status::RateOver { demand, least },
             line: Line::rate_over(net, demand, least),

@@ -1,8 +1,8 @@
 use Rattle.std.proofs.Common.{◌≡◌, ◌++◌, ◌∷◌, [], ℕ, List, Option, None, Some, IfNone, IfSome, sym, subst}
 use denote.Ref.{Bor}
+use Rattle.item_list.proofs.Results.{on_err}
 use Rattle.lif_outside.specs.Calls.{ByCalls}
 use Rattle.lif_outside.specs.Puts.{Put, SaysAll, SaysPart}
-use Rattle.top_base.proofs.Exits.{on_err}
 use Rattle.top_base.proofs.SayingLaws.{put_all, put_part, part_of_front, all_then_all, all_then_part}
 use Rattle.top_base.proofs.outcome.say_line.Goals as goal
 

@@ -1,10 +1,10 @@
 use Rattle.std.proofs.Common.{◌∷◌, []}
+use Rattle.item_list.proofs.Results.{on_err}
 use Rattle.lif_outside.proofs.CallLaws.{calls_of}
 use Rattle.lif_outside.specs.Events.{appended, created}
 use Rattle.lif_outside.specs.FileCalls.{StopsWithin}
 use Rattle.lif_outside.proofs.SequenceLaws.{stops_here}
 use Rattle.lif_outside.specs.Writes.{writes_of}
-use Rattle.top_base.proofs.Exits.{on_err}
 use Rattle.top_tools.proofs.Writing.{append_if_err, append_if_ok}
 use Rattle.top_tools.proofs.compiling.write_file.Goals as goal
 

@@ -1,10 +1,10 @@
 use Rattle.std.proofs.Common.{◌++◌, ◌∷◌, [], ap, subst, sym, ◌∙◌}
+use Rattle.std.proofs.lemmas.Result.{on_err_weaker, on_ok_weaker}
+use Rattle.item_list.proofs.Results.{on_err}
 use Rattle.lif_outside.proofs.CallLaws.{calls_then, calls_weaker}
 use Rattle.lif_outside.specs.FileCalls.{StopsWithin}
 use Rattle.lif_outside.proofs.SequenceLaws.{stops_behind, stops_first}
 use Rattle.lif_outside.specs.Writes.{writes_of}
-use Rattle.top_base.proofs.Exits.{on_err}
-use Rattle.top_tools.proofs.Writing.{err_then, ok_then}
 use Rattle.top_tools.proofs.compiling.write_files.Goals as goal
 
 pub returns-in_err-write_file-clause-stopped : goal.returns-in_err-write_file-clause-stopped
@@ -18,14 +18,14 @@ pub returns-clause-written : goal.returns-clause-written
 returns-clause-written g c =
     let words = c.args.words.now in
     let code = writes_of ((words.code.now, c.args.code.now) ∷ []) in
-    ok_then c.write_file-2.result c.write_file-2.ensures.written (λ last.
-    calls_then g.met.S.Store.more_calls _ _ _ c.in_ok-write_file.ensures.written last (λ first later one other. ap (λ calls. calls ++ later) one ∙ ap (λ calls. code ++ calls) other))
+    on_ok_weaker c.write_file-2.result (λ last.
+    calls_then g.met.S.Store.more_calls _ _ _ c.in_ok-write_file.ensures.written last (λ first later one other. ap (λ calls. calls ++ later) one ∙ ap (λ calls. code ++ calls) other)) c.write_file-2.ensures.written
 
 pub returns-clause-stopped : goal.returns-clause-stopped
 returns-clause-stopped g c =
     let words = c.args.words.now in
     let code = writes_of ((words.code.now, c.args.code.now) ∷ []) in
     let report = writes_of ((words.report.now, c.args.report.now) ∷ []) in
-    err_then c.write_file-2.result c.write_file-2.ensures.stopped (λ last.
+    on_err_weaker c.write_file-2.result (λ last.
     calls_then g.met.S.Store.more_calls _ _ (StopsWithin (code ++ report)) c.in_ok-write_file.ensures.written last
-    (λ first later one other. subst (λ calls. StopsWithin (code ++ report) (calls ++ later)) (sym one) (stops_behind code report later other)))
+    (λ first later one other. subst (λ calls. StopsWithin (code ++ report) (calls ++ later)) (sym one) (stops_behind code report later other))) c.write_file-2.ensures.stopped

@@ -1,5 +1,7 @@
-use Rattle.std.proofs.Common.{ap, ◌∙◌}
+use Rattle.std.proofs.Common.{◌≡◌, ap, ◌∙◌}
 use Rattle.code_file.specs.Items.{bytes_of}
+use Rattle.cut_witness.proofs.CertificateLaws.{IsRate-least_value}
+use Rattle.failure_patterns.proofs.RateLaws.{IsRate-unique}
 use Rattle.node_program.specs.Code.{choice_of}
 use Rattle.report_text.specs.Report.{report_of}
 use Rattle.top_base.specs.Lines.{compiled_line}
@@ -14,12 +16,16 @@ returns g c = λ given.
     let code = c.args.code.now in
     let report = c.in_ok-report_of.field-0.items in
     let certs = c.args.certs.now in
+    let compiled = c.requires.compiled in
+    let least : c.rate.result ≡ compiled.least =
+    IsRate-unique net c.rate.result compiled.least (IsRate-least_value net certs c.rate.result compiled.certified c.rate.ensures)
+    (IsRate-least_value net certs compiled.least compiled.certified compiled.is_least) in
     record {
       field = code.field;
       served = c.requires.served;
       code = code;
       certs = certs;
-      compiled = c.requires.compiled;
-      files_are = ap (λ bytes. files_of given bytes report) c.in_ok-write_code.ensures ∙ ap (files_of given (bytes_of code)) (c.in_ok-report_of.ensures ∙ ap (λ rate. report_of net rate certs) c.requires.compiled.rate);
-      line_is = c.compiled.ensures ∙ ap (compiled_line code.rate code.field) (same_count (order_of net.links) (choice_of code.field) net code.net c.requires.compiled.network);
+      compiled = compiled;
+      files_are = ap (λ bytes. files_of given bytes report) c.in_ok-write_code.ensures ∙ ap (files_of given (bytes_of code)) (c.in_ok-report_of.ensures ∙ ap (λ rate. report_of net rate certs) least);
+      line_is = c.compiled.ensures ∙ ap (compiled_line code.rate code.field) (same_count (order_of net.links) (choice_of code.field) net code.net compiled.network);
     }

@@ -1,6 +1,0 @@
-use Rattle.std.proofs.Common.{◌≡◌, ◌<◌, ◌^◌, take}
-use Rattle.top_base.specs.Words.{value_of_digits}
-use Rattle.top_base.proofs.words.value_of_digits.Given as goal
-
-abbrev pub invariant-loop-digit : goal.invariant-loop-digit
-invariant-loop-digit l = record { so_far : l.value ≡ value_of_digits (take l.digit-index l.digits); fits : l.value < 2 ^ 64 }
