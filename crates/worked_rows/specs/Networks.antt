@@ -1,5 +1,5 @@
 -- What the texts of the examples stand for.
-use Rattle.std.specs.Prelude.{ℕ, List, [], ◌∷◌, ◌++◌, codes}
+use Rattle.std.specs.Prelude.{ℕ, List, [], ◌∷◌, ◌++◌, None, Some, codes}
 use Rattle.net_model.specs.declared.Link.{Link}
 use Rattle.net_model.specs.declared.Pattern.{Pattern}
 use Rattle.net_model.specs.declared.net.FieldChoice.TheVariants as choice
@@ -25,6 +25,7 @@ two_links = record {
   sinks = 1 ∷ [];
   patterns = pattern (codes "none") [] ∷ pattern (codes "f1") (0 ∷ []) ∷ pattern (codes "f2") (1 ∷ []) ∷ [];
   field = choice.Any;
+  wanted = None;
 }
 
 -- the same with a link back, and with a pattern of both first links; both have the name of a node
@@ -46,4 +47,19 @@ three_cores = record {
   sinks = 1 ∷ 2 ∷ [];
   patterns = pattern (codes "none") [] ∷ pattern (codes "no-c1") (0 ∷ []) ∷ pattern (codes "no-c2") (1 ∷ []) ∷ pattern (codes "no-c3") (2 ∷ []) ∷ [];
   field = choice.Any;
+  wanted = None;
+}
+
+-- a bundle of two links and a link beside it, with a pattern of the bundle and one of each link, and a wanted rate
+abbrev pub three_links : Parts
+three_links = record {
+  nodes = codes "s" ∷ codes "t" ∷ [];
+  links = link (codes "l.1") 0 1 ∷ link (codes "l.2") 0 1 ∷ link (codes "m") 0 1 ∷ [];
+  source = 0;
+  sinks = 1 ∷ [];
+  patterns =
+      pattern (codes "none") [] ∷ pattern (codes "f") (0 ∷ 1 ∷ [])
+      ∷ pattern (codes "l.1") (0 ∷ []) ∷ pattern (codes "l.2") (1 ∷ []) ∷ pattern (codes "m") (2 ∷ []) ∷ [];
+  field = choice.Any;
+  wanted = Some 2;
 }

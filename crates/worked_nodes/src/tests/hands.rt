@@ -9,7 +9,7 @@ use code_checker::{CheckRefusal, Checked};
 use generation_frame::{Accepted, PIECES, Packet, ROW};
 use gf_tables::Field;
 use net_model::{Demand, LinkList};
-use node_plans::{Plan, Wiring};
+use node_plans::{LiveWiring, Plan};
 use node_program::Code;
 use relay_node::Node;
 use sink_decoder::Decoder;
@@ -113,7 +113,7 @@ fn planned(alloc: Global, code: &Code, pattern: u32, node: u32) -> Result<Plan, 
     requires node { node < length code.now.net.nodes }
     ensures { IfOk result (λ plan. plan ≡ plan_of code.now pattern node) }
 {
-    let wiring = Wiring::of(alloc, code, pattern)?;
+    let wiring = LiveWiring::of(alloc, code, pattern)?;
     wiring.plan(alloc, code, pattern, node)
 }
 

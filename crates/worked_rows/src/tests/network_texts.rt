@@ -1,11 +1,12 @@
-//! Texts of networks that are refused, and the names of the nodes of a text.
-use net_model::Net;
+//! Texts of networks that are refused, and the names of the nodes and links of a text.
+use net_model::{Name, Net};
 use net_reader::ReadRefusal::{
     BadByte, BadLine, BadName, DuplicateLink, DuplicatePattern, DuplicateSink, NoSink, NoSource,
-    OutOfMemory, RepeatedLink, SecondField, SecondSource, SelfLoop, SinkIsSource, UnknownLink,
+    OutOfMemory, PatternNamed, RepeatedLink, SecondFailEach, SecondField, SecondRate, SecondSource,
+    SelfLoop, SinkIsSource, TooMany, TooManyPatterns, UnknownLink,
 };
-use net_reader::{ReadRefusal, node_name, read_net};
-use std::alloc::Global;
+use net_reader::{ReadRefusal, What, link_name, node_name, read_net};
+use std::alloc::{AllocError, Global};
 
 /// The network of a text, unless the text is long.
 pub(crate) fn net_of(alloc: Global, text: &[u8]) -> Result<Net, ReadRefusal> {
@@ -46,6 +47,12 @@ const ILL_FORMED: &[Refused] = &[
     (b"link\n", BadLine { line: 1 }),
     (b"link l s\n", BadLine { line: 1 }),
     (b"link l s t u\n", BadLine { line: 1 }),
+    (b"link l s t x0\n", BadLine { line: 1 }),
+    (b"link l s t x8193\n", BadLine { line: 1 }),
+    (b"link l s t x2 3\n", BadLine { line: 1 }),
+    (b"rate 33\n", BadLine { line: 1 }),
+    (b"rate +1\n", BadLine { line: 1 }),
+    (b"fail-each l\n", BadLine { line: 1 }),
     (b"pattern\n", BadLine { line: 1 }),
     (b"pattern p\n", BadLine { line: 1 }),
     (b"source a/b\n", BadName { line: 1 }),
@@ -87,6 +94,21 @@ const SENSELESS: &[Refused] = &[
     ),
     (b"field 8\nfield 8\n", SecondField { line: 2 }),
     (b"field 16\n\nfield 8\n", SecondField { line: 3 }),
+    (b"rate 2\nrate 02\n", SecondRate { line: 2 }),
+    (b"fail-each\nfail-each\n", SecondFailEach { line: 2 }),
+    (b"link l.1 s t\nlink l s t x2\n", DuplicateLink { line: 2 }),
+    (b"link l s t x2\nlink l s t\n", DuplicateLink { line: 2 }),
+    (
+        b"link k s t x2\npattern p k k.2\n",
+        RepeatedLink { line: 2 },
+    ),
+    (
+        b"link k s t x8192\nlink l s t\n",
+        TooMany {
+            line: 2,
+            what: What::Links,
+        },
+    ),
     (b"", NoSource),
     (b"\n\r\n# source s", NoSource),
     (b"sink t\nlink l s t\n", NoSource),
@@ -98,6 +120,14 @@ const SENSELESS: &[Refused] = &[
         SinkIsSource { sink: 2 },
     ),
     (SINK_IS_SOURCE, SinkIsSource { sink: 0 }),
+    (
+        b"source s\nsink t\nfail-each\nlink k s t\nlink l s t\npattern l k\n",
+        PatternNamed { link: 1 },
+    ),
+    (
+        b"source s\nsink t\nfail-each\nlink l s t x4096\n",
+        TooManyPatterns { count: 4096 },
+    ),
 ];
 
 // The first bad line counts, and of its refusals the first.
@@ -201,28 +231,50 @@ fn later_lines_are_refused(rt: HostRuntime) {
 // The last line makes the source a sink.
 const SINK_IS_SOURCE: &[u8] = b"source s\nsink t\nlink l s t\nsink s\n";
 
-// A text, a number, and the name of the node of that number.
+// A good text with a bundle.
+const BUNDLED: &[u8] = b"source s\nsink t\nlink l s t\nlink k s t x2\n";
+
+// A text, a number, and the name of the node or the link of that number.
 type Named = (&'static [u8], u32, Option<&'static [u8]>);
 
-const NAMED: &[Named] = &[
+const NODES: &[Named] = &[
     (SINK_IS_SOURCE, 0, Some(b"s")),
     (SINK_IS_SOURCE, 1, Some(b"t")),
     (SINK_IS_SOURCE, 2, None),
     (b"source s\nsink\n", 0, None),
 ];
 
-// Whether the node of a number has a name in a text, or none.
-fn has_name(alloc: Global, text: &[u8], node: u32, want: Option<&[u8]>) -> bool {
-    match node_name(alloc, text, node) {
-        Ok(name) => name == want,
-        Err(_) => false,
+const LINKS: &[Named] = &[
+    (BUNDLED, 0, Some(b"l")),
+    (BUNDLED, 1, Some(b"k.1")),
+    (BUNDLED, 2, Some(b"k.2")),
+    (BUNDLED, 3, None),
+    (b"link l s t\nlink\n", 0, None),
+];
+
+// Whether this name was found, or none.
+fn is_found(found: Result<Option<Name>, AllocError>, want: Option<&[u8]>) -> bool {
+    match (found, want) {
+        (Ok(Some(name)), Some(want)) => name.bytes() == want,
+        (Ok(None), None) => true,
+        _ => false,
     }
 }
 
 // The first row whose node has another name.
-fn wrong_name(alloc: Global) -> Option<usize> {
-    for (row, &(text, node, want)) in NAMED.iter().enumerate() {
-        if !has_name(alloc, text, node, want) {
+fn wrong_node(alloc: Global) -> Option<usize> {
+    for (row, &(text, node, want)) in NODES.iter().enumerate() {
+        if !is_found(node_name(alloc, text, node), want) {
+            return Some(row);
+        }
+    }
+    None
+}
+
+// The first row whose link has another name.
+fn wrong_link(alloc: Global) -> Option<usize> {
+    for (row, &(text, link, want)) in LINKS.iter().enumerate() {
+        if !is_found(link_name(alloc, text, link), want) {
             return Some(row);
         }
     }
@@ -231,5 +283,10 @@ fn wrong_name(alloc: Global) -> Option<usize> {
 
 #[test]
 fn nodes_have_names(rt: HostRuntime) {
-    assert_eq!(rt; wrong_name(rt.alloc()), None);
+    assert_eq!(rt; wrong_node(rt.alloc()), None);
+}
+
+#[test]
+fn links_have_names(rt: HostRuntime) {
+    assert_eq!(rt; wrong_link(rt.alloc()), None);
 }

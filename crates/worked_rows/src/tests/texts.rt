@@ -1,11 +1,11 @@
 //! The networks of texts, or their refusals, as the definitions give them.
 ghost use Rattle.std.specs.Prelude.{◌≡◌, ◌++◌, List, ℕ, [], ◌∷◌, codes, Ok, Err};
 ghost use Rattle.net_reader.specs.Text.{network_of, parts_of};
-ghost use Rattle.net_reader.specs.declared.refusal.ReadRefusal.TheVariants.{BadByte, BadLine, BadName, DuplicateLink, DuplicatePattern, DuplicateSink, SecondSource, SelfLoop, UnknownLink, RepeatedLink, SecondField, NoSource, NoSink, SinkIsSource};
+ghost use Rattle.net_reader.specs.declared.refusal.ReadRefusal.TheVariants.{BadByte, BadLine, BadName, DuplicateLink, DuplicatePattern, DuplicateSink, SecondSource, SelfLoop, UnknownLink, RepeatedLink, SecondField, NoSource, NoSink, SinkIsSource, SecondRate, SecondFailEach, PatternNamed};
 ghost use Rattle.test_support.specs.OneLink.{one_link, wide_one_link};
 ghost use Rattle.test_support.specs.Butterfly.{butterfly};
 ghost use Rattle.test_support.specs.CutButterfly.{cut_butterfly};
-ghost use Rattle.worked_rows.specs.Networks.{of_any_field, two_links, both_links, three_cores};
+ghost use Rattle.worked_rows.specs.Networks.{of_any_field, two_links, both_links, three_cores, three_links};
 
 use test_support::texts::{BUTTERFLY_TEXT, ONE_LINK_TEXT, THREE_CORES_TEXT, TWO_LINKS_TEXT};
 
@@ -39,6 +39,29 @@ fn both_links_are_read()
 // Comments and line ends of two bytes.
 fn three_cores_are_read()
     ensures { network_of THREE_CORES_TEXT.now ≡ Ok three_cores }
+{}
+
+// A bundle and a link beside it, a pattern by the bundle's name, each link alone, and a wanted rate.
+fn bundle_is_read()
+    ensures { network_of
+        (codes "rate 02\nfail-each\nsource s\nsink t\nlink l s t x2\nlink m s t\npattern f l\n")
+        ≡ Ok three_links }
+{}
+
+// The refusals of one link with lines of these forms.
+fn refused_forms()
+    ensures no_rate { network_of (ONE_LINK_TEXT.now ++ codes "rate 33\n") ≡ Err (BadLine 4) }
+    ensures no_bundle { network_of (ONE_LINK_TEXT.now ++ codes "link k s t x0\n") ≡ Err (BadLine 4) }
+    ensures made_name_taken { network_of (ONE_LINK_TEXT.now ++ codes "link l.1 s t\nlink l s t x2\n")
+        ≡ Err (DuplicateLink 5) }
+    ensures twice_by_bundle { network_of (ONE_LINK_TEXT.now ++ codes "link l.1 s t\nlink k s t x2\npattern f k k.2\n")
+        ≡ Err (RepeatedLink 6) }
+    ensures more_rates { network_of (ONE_LINK_TEXT.now ++ codes "rate 1\nrate 1\n")
+        ≡ Err (SecondRate 5) }
+    ensures said_twice { network_of (ONE_LINK_TEXT.now ++ codes "fail-each\nfail-each\n")
+        ≡ Err (SecondFailEach 5) }
+    ensures named_as_pattern { network_of (ONE_LINK_TEXT.now ++ codes "pattern l l\nfail-each\n")
+        ≡ Err (PatternNamed 0) }
 {}
 
 // The refusal of one link with one more line, or with two.

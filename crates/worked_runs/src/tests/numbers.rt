@@ -5,9 +5,10 @@ use net_reader::ReadRefusal;
 use std::alloc::Global;
 
 // Each status with its number.
-fn numbers(alloc: Global) -> [(Status, u8); 17] {
+fn numbers(alloc: Global) -> [(Status, u8); 18] {
     let cycle = LinkList::of(Vec::new(alloc));
     let side = Side::of(Vec::new(alloc));
+    let unmet = Side::of(Vec::new(alloc));
     [
         (Status::Done, 0),
         (Status::Usage, 2),
@@ -43,6 +44,14 @@ fn numbers(alloc: Global) -> [(Status, u8); 17] {
         (Status::OutOfMemory, 13),
         (Status::SamePath, 14),
         (Status::LinkFault, 15),
+        (
+            Status::RateUnmet {
+                demand: 1,
+                side: unmet,
+                least: 2,
+            },
+            16,
+        ),
     ]
 }
 

@@ -1,5 +1,6 @@
 //! What no clause says: that all moves while there is room, and that all that was written is flushed.
-ghost use Rattle.std.specs.Prelude.{◌≡◌, ◌≤◌, ◌^◌, length, take, drop, IfOk};
+ghost use Rattle.std.specs.Prelude.{◌≡◌, ◌≤◌, length, take, drop, IfOk};
+ghost use Rattle.lif_outside.specs.Limits.{last_place};
 
 use std::io;
 use std::io::{Cursor, ErrorKind, Read, Write};
@@ -144,7 +145,7 @@ fn a_flush_that_fails_is_told(rt: HostRuntime) {
 
 // Reads from memory, which tells its place and its bytes: those from the place on come.
 fn read_in_memory(held: &[u8], at: u64, into: &mut [u8]) -> io::Result<usize>
-    requires { at ≤ 2 ^ 41 }
+    requires { at ≤ last_place }
     ensures { IfOk result (λ n. take n into.new ≡ take (length into.old) (drop at held.now)) }
 {
     let mut file = Handle::opened(Cursor::new(held), false);
