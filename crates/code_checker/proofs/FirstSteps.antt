@@ -5,7 +5,7 @@ use Rattle.std.proofs.Math.Nat.{mul-le-mul_right}
 use Rattle.std.proofs.lemmas.Bool.{cases_lt}
 use Rattle.std.proofs.lemmas.Nat.{div-add-mod', mod-mul-add}
 use Rattle.failure_patterns.proofs.DemandLaws.{pattern_place_within}
-use Rattle.list_laws.proofs.Places.{place_within, row_end}
+use Rattle.item_list.proofs.Places.{place_within, row_end}
 use Rattle.linear_algebra.specs.Matrices.{identity}
 use Rattle.net_model.specs.Demands.{demand_count, pattern_of_demand}
 use Rattle.node_program.specs.declared.code.Code.{Code}

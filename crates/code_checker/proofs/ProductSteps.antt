@@ -1,5 +1,5 @@
 -- How the rows of a code's vectors and of its products are made, and compared with the identity.
-use Rattle.std.specs.Prelude.{◌≡◌, ℕ, ◌+◌, ◌*◌, ◌<◌, ◌≤◌, true, false, Option, Some, List, [], ◌∷◌, ◌++◌, All, length, map, take, drop, slice_get, slice_index, unwrap_or, if◌then◌else◌}
+use Rattle.std.specs.Prelude.{◌≡◌, ℕ, ◌+◌, ◌*◌, ◌<◌, ◌≤◌, true, false, Some, List, [], ◌∷◌, ◌++◌, All, length, map, take, drop, slice_get, slice_index, if◌then◌else◌}
 use Rattle.std.proofs.Common.{arith, refl, sym, ap, subst, ◌∙◌, get_or, inl, inr}
 use Rattle.std.proofs.lemmas.Bool.{cases_lt}
 use Rattle.std.proofs.lemmas.List.{ext_get_or, get_or-map, get_or_append_left, get_or_push, length-map, length_push}
@@ -34,14 +34,6 @@ pub decoder_within : (code : Code) (demand : ℕ) → demand < demand_count code
 decoder_within code demand within =
     let found = decoder_of_demand code.code demand within in
     slice_get_within code.decoders demand found.0 found.1
-
--- which has the shape of one
-pub decoder_shape : (code : Code) (demand : ℕ) (decoder : Decoder) → demand < demand_count code.net → slice_get code.decoders demand ≡ Some decoder
-    → IsDecoder code.net code.rate code.field (sink_of_demand code.net demand) decoder
-decoder_shape code demand decoder within at =
-    let found = decoder_of_demand code.code demand within in
-    let At : Decoder → Type 0 = λ decoder. IsDecoder code.net code.rate code.field (sink_of_demand code.net demand) decoder in
-    subst At (ap (λ (o : Option Decoder). unwrap_or o decoder) (sym found.1 ∙ at)) found.2
 
 -- each link of a decoder is one of the network's
 pub decoder_link_within : (code : Code) (demand place : ℕ) (decoder : Decoder) → IsDecoder code.net code.rate code.field (sink_of_demand code.net demand) decoder

@@ -13,7 +13,7 @@ use Rattle.linear_algebra.proofs.RowLaws.{scale_row-zero_row, zero_row-add_rows}
 use Rattle.net_model.specs.Failed.{failed_links, is_failed_in}
 use Rattle.net_model.specs.Walks.{leaves_source}
 use Rattle.node_program.proofs.LiveLaws.{is_live_in-failed}
-use Rattle.list_laws.proofs.Maps.{map-agree}
+use Rattle.item_list.proofs.Maps.{map-agree}
 use Rattle.node_program.proofs.ValueLaws.{IsRow-row_at, IsRow-value, either_row, value-dead, value-equation}
 use Rattle.node_program.proofs.OperandLaws.{operands_of_draft}
 use Rattle.node_program.specs.Operands.{IsOperand}
@@ -142,3 +142,9 @@ module _ (code : Code) (pattern : ℕ) (block : List ℕ) (is : IsBlockOf code b
       ∙ ap (bytes_of_row field) (elements_in-combination field piece times (map row operands) low rows)
       ∙ ap (λ (rs : List (List ℕ)). bytes_of_row field (combination field (piece_width field) times rs)) (sym element_rows)
       ∙ ap (bytes_of_row field) (sym (combination-passing field (piece_width field) (reads_live_in code pattern link) (λ operand. operand.times) element_row operands (All-weaker Is (λ operand. operand.times < size_of field) (λ operand is_operand. is_operand.coefficient) operands all) are zeros))
+
+-- sums of which each operand stands for the same are the same
+pub sum_of-agree : (field : FieldKind) (operands : List Operand) (f g : Operand → List ℕ) → All (λ operand. f operand ≡ g operand) operands → sum_of field operands f ≡ sum_of field operands g
+sum_of-agree field operands f g same =
+    ap (λ (rows : List (List ℕ)). bytes_of_row field (combination field (piece_width field) (map (λ (operand : Operand). operand.times) operands) rows))
+    (map-agree (λ (operand : Operand). elements_of field (f operand)) (λ (operand : Operand). elements_of field (g operand)) (λ operand. f operand ≡ g operand) (λ operand is. ap (elements_of field) is) operands same)

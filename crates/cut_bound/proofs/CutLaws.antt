@@ -8,19 +8,21 @@ use Rattle.std.proofs.lemmas.List.Elements.{All-map}
 use Rattle.gf_tables.specs.declared.kind.FieldKind.{FieldKind}
 use Rattle.linear_algebra.proofs.CombinationLaws.{combination-zero_rows}
 use Rattle.linear_algebra.specs.Rows.{zero_row}
+use Rattle.net_model.proofs.EndLaws.{tail_of-leaves_source}
 use Rattle.net_model.specs.Failed.{failed_links}
 use Rattle.net_model.specs.Flows.{flow_network, FlowNetwork, IsCut}
 use Rattle.net_model.specs.Lists.{is_among}
 use Rattle.net_model.specs.Walks.{leaves_source}
 use Rattle.net_model.specs.declared.Demand.{Demand}
 use Rattle.net_model.specs.declared.net.Net.{Net}
+use Rattle.node_program.proofs.LinkLaws.{head_of-leads_into}
 use Rattle.node_program.specs.Code.{IsDraft, leads_into}
 use Rattle.node_program.specs.Value.{width_of, row_at, operands_at, value}
 use Rattle.node_program.proofs.OperandLaws.{operands_of_draft}
 use Rattle.node_program.proofs.ValueLaws.{value-equation, coefficients-elements}
 use Rattle.node_program.specs.declared.Operand.{Operand}
 use Rattle.cut_bound.proofs.WayLaws.{IsWay, IsWay-first, IsWay-more, IsPath-way}
-use Rattle.cut_bound.proofs.ReadLaws.{head_of-leads_into, tail_of-leaves_source, inner_operands, IsInner}
+use Rattle.cut_bound.proofs.ReadLaws.{inner_operands, IsInner}
 
 -- each way to the link has one of the cut
 abbrev IsBehind : FlowNetwork → List ℕ → ℕ → Type 0

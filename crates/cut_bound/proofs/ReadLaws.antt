@@ -1,41 +1,19 @@
 -- What the operands of a link read, by the ends of the links.
+use Rattle.std.proofs.lemmas.Option.{slice_get_within}
 use Rattle.std.specs.Prelude.{◌≡◌, ℕ, zero, suc, ◌<◌, true, false, ◌&&◌, ◌==◌, nat_lt, Some, List, [], ◌∷◌, length, slice_get}
 use Rattle.std.specs.List.{All, list_all}
-use Rattle.std.specs.Option.{option_map_or}
-use Rattle.std.proofs.Common.{arith, refl, sym, ◌∙◌}
-use Rattle.std.proofs.lemmas.Bool.{false≢true, and_parts, eqb-true}
+use Rattle.std.proofs.Common.{refl, sym, ◌∙◌}
+use Rattle.std.proofs.lemmas.Bool.{false≢true, and_parts}
 use Rattle.std.proofs.lemmas.List.Elements.{All-nil, All-cons, All-weaker}
 use Rattle.gf_tables.specs.Product.{size_of}
 use Rattle.gf_tables.specs.declared.kind.FieldKind.{FieldKind}
 use Rattle.net_model.specs.Walks.{head_of, tail_of, leaves_source}
 use Rattle.net_model.specs.declared.Link.{Link}
 use Rattle.net_model.specs.declared.net.Net.{Net}
+use Rattle.node_program.proofs.LinkLaws.{head_of-leads_into}
 use Rattle.node_program.specs.Code.{IsDraft, leads_into, is_source_of, are_operands_of}
 use Rattle.node_program.specs.Value.{operands_at}
 use Rattle.node_program.specs.declared.Operand.{Operand}
-
--- a link that leads into a node has it for its head
-pub head_of-leads_into : (links : List Link) (node link : ℕ) → leads_into links node link ≡ true → head_of links link ≡ node
-head_of-leads_into [] node link into = absurd (false≢true into)
-head_of-leads_into (first ∷ links) node zero into = eqb-true first.head node into
-head_of-leads_into (first ∷ links) node (suc link) into = head_of-leads_into links node link into
-
--- a link at a place stands there
-within_links : (links : List Link) (link : ℕ) (at : Link) → slice_get links link ≡ Some at → link < length links
-within_links [] link at found = cc
-within_links (first ∷ links) zero at found = omega arith
-within_links (first ∷ links) (suc link) at found = omega (arith, within_links links link at found)
-
--- a link that leads out of a node is one of the links, and has it for its tail
-tail_of-out : (links : List Link) (node link : ℕ) → option_map_or (λ l. l.tail == node) (slice_get links link) false ≡ true
-    → (link < length links) × (tail_of links link ≡ node)
-tail_of-out [] node link out = absurd (false≢true out)
-tail_of-out (first ∷ links) node zero out = (omega arith, eqb-true first.tail node out)
-tail_of-out (first ∷ links) node (suc link) out = let later = tail_of-out links node link out in (omega arith, later.1)
-
--- a link that leaves the source is one of the links, and the source is its tail
-pub tail_of-leaves_source : (net : Net) (link : ℕ) → leaves_source net link ≡ true → (link < length net.links) × (tail_of net.links link ≡ net.source)
-tail_of-leaves_source net link leaves = tail_of-out net.links net.source link leaves
 
 -- a link that stands at a place, and an operand that names what it may read
 record IsRead (net : Net) (rate : ℕ) (links : List Link) (link : ℕ) (operand : Operand) : Type 0 where
@@ -78,7 +56,7 @@ IsInner-read net rate link operand inner is =
     let into : leads_into net.links is.at.tail operand.from ≡ true = rw here at is.reads in
     let tail : tail_of net.links link ≡ is.at.tail = rw is.found refl in
     record {
-      within = within_links net.links link is.at is.found;
+      within = slice_get_within net.links link is.at is.found;
       on = tail ∙ sym (head_of-leads_into net.links is.at.tail operand.from into);
     }
 

@@ -2,7 +2,7 @@
 use Rattle.std.specs.Prelude.{◌≡◌, ℕ, ◌+◌, Bool, true, false, cond, List, [], ◌∷◌, ◌++◌, filter}
 use Rattle.std.specs.List.{range_with_len}
 use Rattle.std.proofs.Common.{sym, ◌∙◌, ap, append-nil}
-use Rattle.list_laws.proofs.Ranges.{filter-range_more}
+use Rattle.item_list.proofs.Ranges.{filter-range_more}
 
 -- it passes
 pub passes_more : (test : ℕ → Bool) (number : ℕ) (passed : List ℕ) → test number ≡ true → passed ≡ filter test (range_with_len 0 number) → passed ++ number ∷ [] ≡ filter test (range_with_len 0 (number + 1))

@@ -7,7 +7,8 @@ use Rattle.std.proofs.Common.{refl, sym, ap, ◌∙◌, arith, get_or, inl, inr,
 use Rattle.std.proofs.lemmas.Bool.{and_from, and_left, and_parts, and_right, cases_eq, cases_lt, eq-eqb, eqb-true, le-ltb, lt-ltb, ltb-true, ne_eqb}
 use Rattle.std.proofs.lemmas.List.{get_or-map, get_or-set_other, get_or-set_same, get_or_past, length-map, length-set, map-set, with_items_is}
 use Rattle.std.proofs.lemmas.List.Elements.{All-get_or, All-map, All-weaker}
-use Rattle.std.proofs.lemmas.Nat.{div_below, mod-mul-add, mod_below, mul-le, pow_below, pow_pos, row_fits, same_from_place, shl_whole, shr_split}
+use Rattle.std.proofs.lemmas.Nat.{div_below, mod-mul-add, mod_below, mul-le, pow_below, pow_pos, same_from_place, shl_whole, shr_split}
+use Rattle.item_list.proofs.Places.{row_end}
 use Rattle.net_model.specs.Limits.{most_links}
 use Rattle.generation_frame.specs.Blocks.{most_blocks, pieces}
 use Rattle.generation_frame.specs.Frames.{accepted}
@@ -45,10 +46,6 @@ rooms count room few low = mul-le count room most_blocks most_links few low
 pub shifted : (count shift width : ℕ) → count ≤ most_blocks → shift ≤ 13 → 16 ≤ width → (count * 2 ^ shift) % 2 ^ width ≡ count * 2 ^ shift
 shifted count shift width few low wide = shl_whole count 3 shift width (omega (arith, few)) (omega (arith, low, wide))
 
--- a generation that is there has its room
-pub room_fits : (generation generations room : ℕ) → generation < generations → generation * room + room ≤ generations * room
-room_fits generation generations room inside = row_fits generation room generations room inside (omega arith)
-
 -- a piece of a sum is due where its bit is set
 due_from : (sum count bit : ℕ) → sum < count → bit ≡ 1 → (nat_lt sum count && bit == 1) ≡ true
 due_from sum count bit inside is = and_from _ _ (lt-ltb sum count inside) (eq-eqb bit 1 is)
@@ -84,7 +81,7 @@ pub none_due : (inputs : ℕ) (sums : List (List ℕ)) (tables : List Table) (ro
     → (g s p : ℕ) → g < generations → p < pieces → is_due old g s p ≡ false
 none_due inputs sums tables room due generations limit enough same none old seen_so g s p before low =
     subst (λ (old : Waiting). is_due old g s p ≡ false) seen_so (not_due s (length sums) _ (λ inside.
-    none (due_number (g * room + s) p) (omega (arith, room_fits g generations room before, inside, enough, low, same))))
+    none (due_number (g * room + s) p) (omega (arith, row_end g generations room before, inside, enough, low, same))))
 
 -- where nothing has come of any generation, nothing has
 pub HasNothing-fresh : (inputs : ℕ) (sums groups : List (List ℕ)) (tables : List Table) (room : ℕ) (due : Members) → All (IsFresh inputs groups) tables → HasNone due
@@ -173,7 +170,7 @@ module _ (inputs : ℕ) (sums groups : List (List ℕ)) (starts : List ℕ) (rea
         ∙ (waiting.counted generation seen.0 (omega (arith, inside, within))).complete sum piece in_sums low has);
     due = due_from sum (length sums) _ in_sums has;
     before = λ g s p earlier low'. not_due s (length sums) _ (λ inside'.
-        least.least (due_number (g * room + s) p) (omega (arith, is, room_fits g generation room earlier, inside', waiting.enough, low')));
+        least.least (due_number (g * room + s) p) (omega (arith, is, row_end g generation room earlier, inside', waiting.enough, low')));
     least = λ s p low' due. at_most s p low' (due_parts s (length sums) _ due).1;
     taken = not_due sum (length sums) _ (λ inside'. ap (bit_of due'.words) is ∙ lost.here);
     others = λ g s p low' differs. elim (cases_lt s (length sums)) [

@@ -6,7 +6,7 @@ use Rattle.std.proofs.Math.Seq.{take-set-lt}
 use Rattle.std.proofs.lemmas.List.{length-append, length-take-le, length-drop, get_or-take, get_or-drop, take_at, drop_at, take-set-le, drop-set-lt, drop-set-add, drop-drop, take-append-drop, take-replicate, drop-replicate}
 use Rattle.std.proofs.lemmas.List.Elements.{All-take, All-drop, All-nil, All-cons, All-append}
 use Rattle.std.specs.List.{All}
-use Rattle.list_laws.proofs.Places.{row_end}
+use Rattle.item_list.proofs.Places.{row_end}
 use Rattle.field_vectors.specs.Cut.{cut, grid_in, AreEntries, with_part}
 use Rattle.field_vectors.specs.Grid.{IsMatrix}
 

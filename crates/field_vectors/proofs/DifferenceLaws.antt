@@ -4,7 +4,7 @@ use Rattle.std.proofs.Common.{arith, ap, ◌∙◌}
 use Rattle.std.specs.List.{range_with_len}
 use Rattle.std.proofs.lemmas.List.{length-map, get_or-map}
 use Rattle.std.proofs.lemmas.List.FromFn.{fill_by_all}
-use Rattle.list_laws.proofs.Maps.{same_made}
+use Rattle.item_list.proofs.Maps.{same_made}
 use Rattle.field_vectors.specs.Difference.{product_entry, identity_entry}
 use Rattle.field_vectors.specs.Elements.{dot_of, column_of, row_product, product_of, unit_of, identity_of}
 use Rattle.field_vectors.specs.Grid.{Grid, row_of}

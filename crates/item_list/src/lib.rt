@@ -2,6 +2,11 @@
 //!
 //! Begin with `ItemList::of`, which takes a vector; `at`, `len` and `as_slice` read it. A contract that names a
 //! list says `List`, and takes no note of the vector: the type is seen as its items. There are no specs of its own.
+//!
+//! Laws on lists and counts in the library's words alone, for crates that share them, stand in proofs/: `Tests` on
+//! items that pass tests, `Maps` on functions that agree, `Ranges` on the numbers of a range, `Writes` on lists that
+//! are written over, `Places` on rows that stand one after another, `Positions` on the places of numbers, `Numbers`
+//! on two numbers, `Results` on what holds at an exit.
 #![tactic(auto)]
 
 ghost use Rattle.std.specs.Prelude.{◌≡◌, ◌<◌, ℕ, List, length, slice_get, Some, slice_set, ◌==◌};

@@ -2,14 +2,13 @@
 use Rattle.std.specs.Prelude.{◌≡◌, ◌≢◌, ◌<◌, ◌≤◌, ◌⊎◌, ◌+◌, ◌-◌, ◌*◌, ◌/◌, ◌%◌, ◌^◌, ◌==◌, ℕ, Bool, true, cond, suc, List, length, slice_index_or, bit_and, bit_or, min, max}
 use Rattle.std.specs.Int.{bit_at}
 use Rattle.std.specs.List.{list_all, range_with_len}
-use Rattle.std.proofs.Common.{refl, sym, ap, subst, ◌∙◌, arith, inl, inr, zero-add}
+use Rattle.std.proofs.Common.{refl, sym, ap, subst, ◌∙◌, arith, inl, inr}
 use Rattle.std.proofs.Math.Nat.{pow-le-pow_right, pow-suc}
 use Rattle.std.proofs.Math.Pow.{pow-lt}
 use Rattle.std.proofs.lemmas.Bool.{cases_eq, cases_lt, eq-eqb, eqb-true, ne_eqb}
-use Rattle.std.proofs.lemmas.List.FromFn.{get_or-range_with_len, length-range_with_len}
-use Rattle.std.proofs.lemmas.List.Sums.{AllPass-from_list_all}
 use Rattle.std.proofs.lemmas.Nat.{pow_pos}
 use Rattle.std.proofs.lemmas.Nat.Bits.{bit_at-lt, bit_at-zero, bit_at_and, bit_at_mask_above, bit_at_mask_below, bit_at_mask_inside, bit_at_or, same_from_bits}
+use Rattle.item_list.proofs.Ranges.{at_below}
 use Rattle.least_set.specs.Members.{AreEighths, IsEighth, SetsBits, SetsEighths, bit_of}
 use Rattle.least_set.proofs.WordLaws.{some_from_bit}
 
@@ -50,16 +49,9 @@ is_eighth piece i = bit_at (eighths piece) i == cond (i % 8 == piece) 1 0
 all_eighths : list_all (λ piece. list_all (is_eighth piece) (range_with_len 0 64)) (range_with_len 0 8) ≡ true
 all_eighths = refl
 
--- what is so of all numbers below a bound
-each_below : (test : ℕ → Bool) (bound n : ℕ) → list_all test (range_with_len 0 bound) ≡ true → n < bound → test n ≡ true
-each_below test bound n all within =
-    let At : ℕ → Type 0 = λ x. test x ≡ true in
-    let inside : n < length (range_with_len 0 bound) = rw length-range_with_len within in
-    subst At (get_or-range_with_len 0 bound n 0 within ∙ zero-add n) (AllPass-from_list_all test (range_with_len 0 bound) all n 0 inside)
-
 pub eighth_bit : (piece i : ℕ) → piece < 8 → i < 64 → bit_at (eighths piece) i ≡ cond (i % 8 == piece) 1 0
 eighth_bit piece i low inside =
-    eqb-true _ _ (each_below (is_eighth piece) 64 i (each_below (λ p. list_all (is_eighth p) (range_with_len 0 64)) 8 piece all_eighths low) inside)
+    eqb-true _ _ (at_below (is_eighth piece) 64 i (at_below (λ p. list_all (is_eighth p) (range_with_len 0 64)) 8 piece all_eighths low) inside)
 
 -- one of two bits, and both of them
 either_set : (a b : ℕ) → a < 2 → b ≡ 1 → max a b ≡ 1

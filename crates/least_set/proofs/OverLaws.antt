@@ -3,16 +3,12 @@ use Rattle.std.specs.Prelude.{◌≡◌, ◌≢◌, ◌<◌, ◌≤◌, ◌*◌,
 use Rattle.std.specs.Int.{bit_at, w64}
 use Rattle.std.proofs.Common.{refl, sym, ap, subst, ◌∙◌, arith, inl, inr}
 use Rattle.std.proofs.lemmas.Bool.{cases_Bool, cases_lt, eqb-false, eqb-true}
-use Rattle.std.proofs.lemmas.List.{append-nil, get_or-replicate, length-replicate, take_all}
+use Rattle.std.proofs.lemmas.List.{get_or-replicate, length-replicate}
 use Rattle.std.proofs.lemmas.Nat.Bits.{bit_at_set_other, bit_at_set_same}
-use Rattle.std.proofs.Math.ListN.{drop_of_length-le, get_or-eq_default}
+use Rattle.std.proofs.Math.ListN.{get_or-eq_default}
+use Rattle.item_list.proofs.Writes.{written_back}
 use Rattle.least_set.specs.Members.{bit_of, most, SameElsewhere, SetsBit, HasLeast, IsFirstBit, IsLeast, IsOver, Tells}
 use Rattle.least_set.proofs.WordLaws.{no_bit, some_from_bit}
-
--- a list that was changed in place, and is as long as it was
-pub put_back : (count : ℕ) (old new : List ℕ) → count ≡ length old → length new ≡ length old → take count (new ++ drop (length new) old) ≡ new
-put_back count old new is same =
-    ap (λ rest. take count (new ++ rest)) (drop_of_length-le old {i = length new} (omega (arith, same))) ∙ ap (take count) (append-nil new) ∙ take_all count new (omega (arith, is, same))
 
 -- words of zeros
 pub zeros : (count word : ℕ) → slice_index_or (replicate {A = ℕ} count 0) word 0 ≡ 0
@@ -180,5 +176,5 @@ pub in_place : (count : ℕ) (words words' : List ℕ) (count_over : ℕ) (over_
     → count ≡ length words → length words' ≡ length words → count_over ≡ length over_words → length over_words' ≡ length over_words → IsOver words' over_words' over_all
     → IsOver (take count (words' ++ drop (length words') words)) (take count_over (over_words' ++ drop (length over_words') over_words)) over_all
 in_place count words words' count_over over_words over_words' over_all is long is_over long_over over =
-    subst (λ ws. IsOver ws (take count_over (over_words' ++ drop (length over_words') over_words)) over_all) (sym (put_back count words words' is long))
-    (subst (λ ws. IsOver words' ws over_all) (sym (put_back count_over over_words over_words' is_over long_over)) over)
+    subst (λ ws. IsOver ws (take count_over (over_words' ++ drop (length over_words') over_words)) over_all) (sym (written_back words words' count is long))
+    (subst (λ ws. IsOver words' ws over_all) (sym (written_back over_words over_words' count_over is_over long_over)) over)

@@ -8,10 +8,11 @@ use Rattle.std.proofs.lemmas.Bool.{false≢true}
 use Rattle.std.proofs.lemmas.List.{append-nil, append_assoc, length-append, length-take, drop-drop, take-append-drop, take_all}
 use Rattle.std.proofs.lemmas.List.Elements.{Contains-push}
 use Rattle.std.proofs.lemmas.Slice.Eq.{bytes_eq-Decides}
+use Rattle.item_list.proofs.Tests.{AllByRecursion-append}
 use Rattle.lif_outside.specs.Events.{Event, read, read_failed, created, create_failed, appended, append_failed, HappensAt, HappenAt}
 use Rattle.lif_outside.specs.EventLaws.{KeepsPath, happen-split, happens_here, happen_keeping}
 use Rattle.lif_outside.specs.Sequences.{IsFrontOf}
-use Rattle.lif_outside.proofs.SequenceLaws.{all_append, front_none}
+use Rattle.lif_outside.proofs.SequenceLaws.{front_none}
 use Rattle.lif_outside.specs.FileCalls.{AreReadsFrom, bytes_read, ReadsWhole, ReadsToFault, ReadsPastLimit, AreAppendsTo, bytes_appended}
 
 -- one read more
@@ -188,11 +189,11 @@ bytes_appended-append path (append_failed other came ∷ first) later = bytes_ap
 -- a file that was read keeps every path
 pub whole_keeps : (path place : List ℕ) (limit : ℕ) (bytes : List ℕ) (events : List Event) → ReadsWhole path limit bytes events → AllByRecursion (KeepsPath place) events
 whole_keeps path place limit bytes events whole =
-    subst (AllByRecursion (KeepsPath place)) (sym whole.ended) (all_append (KeepsPath place) whole.front _ (reads_keep 0 path place whole.front whole.reads) (tt, tt))
+    subst (AllByRecursion (KeepsPath place)) (sym whole.ended) (AllByRecursion-append (KeepsPath place) whole.front _ (reads_keep 0 path place whole.front whole.reads) (tt, tt))
 
 pub fault_keeps : (path place : List ℕ) (limit : ℕ) (events : List Event) → ReadsToFault path limit events → AllByRecursion (KeepsPath place) events
 fault_keeps path place limit events fault =
-    subst (AllByRecursion (KeepsPath place)) (sym fault.failed) (all_append (KeepsPath place) fault.front _ (reads_keep 0 path place fault.front fault.reads) (tt, tt))
+    subst (AllByRecursion (KeepsPath place)) (sym fault.failed) (AllByRecursion-append (KeepsPath place) fault.front _ (reads_keep 0 path place fault.front fault.reads) (tt, tt))
 
 -- a read that failed is among the calls
 pub fault_there : (path : List ℕ) (limit : ℕ) (events : List Event) → (fault : ReadsToFault path limit events) → Contains events (read_failed path (length (bytes_read fault.front)) fault.room)

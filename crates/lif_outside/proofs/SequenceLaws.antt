@@ -4,12 +4,8 @@ use Rattle.std.specs.List.{AllByRecursion}
 use Rattle.std.proofs.Common.{refl, sym, ap, ◌∙◌, subst}
 use Rattle.std.proofs.lemmas.List.{append-nil, append_assoc}
 use Rattle.std.proofs.lemmas.List.Elements.{Contains-push}
+use Rattle.item_list.proofs.Tests.{AllByRecursion-append}
 use Rattle.lif_outside.specs.Sequences.{IsFrontOf, Stops}
-
--- what holds of two lists of calls holds of both, and what holds of both of each
-pub all_append : {E : Type 0} (P : E → Type 0) (first later : List E) → AllByRecursion P first → AllByRecursion P later → AllByRecursion P (first ++ later)
-all_append P [] later h k = k
-all_append P (event ∷ first) later h k = (h.0, all_append P first later h.1 k)
 
 pub all_split : {E : Type 0} (P : E → Type 0) (first later : List E) → AllByRecursion P (first ++ later) → AllByRecursion P first × AllByRecursion P later
 all_split P [] later h = (tt, h)
@@ -53,7 +49,7 @@ module _ {E : Type 0} {failed : E → E} where
   pub stops_all : (P : E → Type 0) → ((event : E) → P event → P (failed event)) → (these events : List E) → Stops failed these events → AllByRecursion P these → AllByRecursion P events
   stops_all P fails these events stop all =
       let parts = all_split P stop.front (stop.next ∷ stop.rest) (subst (AllByRecursion P) stop.these_are all) in
-      subst (AllByRecursion P) (sym stop.events_are) (all_append P stop.front _ parts.0 (fails stop.next parts.1.0, tt))
+      subst (AllByRecursion P) (sym stop.events_are) (AllByRecursion-append P stop.front _ parts.0 (fails stop.next parts.1.0, tt))
 
   -- calls that stop within none
   pub stops_none : (events : List E) → Stops failed [] events → ⊥

@@ -119,7 +119,7 @@ reads_all : (events : List Event) → AreReads events → reads_in events ≡ ev
 reads_all [] all = refl
 reads_all (event ∷ events) all = ap (λ test. cond test (event ∷ reads_in events) (reads_in events)) all.0 ∙ ap (λ rest. event ∷ rest) (reads_all events all.1)
 
-reads_none : (events : List Event) → AreWrites events → reads_in events ≡ []
+pub reads_none : (events : List Event) → AreWrites events → reads_in events ≡ []
 reads_none [] all = refl
 reads_none (event ∷ events) all = ap (λ test. cond test (event ∷ reads_in events) (reads_in events)) all.0 ∙ reads_none events all.1
 
@@ -127,15 +127,15 @@ writes_none : (events : List Event) → AreReads events → writes_in events ≡
 writes_none [] all = refl
 writes_none (event ∷ events) all = ap (λ test. cond (not test) (event ∷ writes_in events) (writes_in events)) all.0 ∙ writes_none events all.1
 
-writes_all : (events : List Event) → AreWrites events → writes_in events ≡ events
+pub writes_all : (events : List Event) → AreWrites events → writes_in events ≡ events
 writes_all [] all = refl
 writes_all (event ∷ events) all = ap (λ test. cond (not test) (event ∷ writes_in events) (writes_in events)) all.0 ∙ ap (λ rest. event ∷ rest) (writes_all events all.1)
 
 -- those among two lists of calls
-reads-append : (first later : List Event) → reads_in (first ++ later) ≡ reads_in first ++ reads_in later
+pub reads-append : (first later : List Event) → reads_in (first ++ later) ≡ reads_in first ++ reads_in later
 reads-append first later = filter-append is_read first later
 
-writes-append : (first later : List Event) → writes_in (first ++ later) ≡ writes_in first ++ writes_in later
+pub writes-append : (first later : List Event) → writes_in (first ++ later) ≡ writes_in first ++ writes_in later
 writes-append first later = filter-append is_write first later
 
 -- a call among the calls of two lists is among the first, or among the later ones

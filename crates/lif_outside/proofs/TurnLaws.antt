@@ -1,10 +1,9 @@
 -- What follows of creates and appends at several paths in turn, and of calls that stop within them.
-use Rattle.std.specs.Prelude.{◌≡◌, ◌≢◌, ◌⊎◌, ◌+◌, ℕ, List, [], ◌∷◌, ◌++◌, Option, Some, unwrap_or, min, length, map, take, Bool, true, false, if◌then◌else◌, Contains}
-use Rattle.std.specs.List.{AllByRecursion, concat}
-use Rattle.std.specs.Str.{bytes_eq}
+use Rattle.std.specs.Prelude.{◌≡◌, ◌≢◌, ◌⊎◌, ◌+◌, ℕ, List, [], ◌∷◌, ◌++◌, Option, Some, unwrap_or, min, length, map, take, true, false, if◌then◌else◌, Contains}
+use Rattle.std.specs.List.{AllByRecursion}
 use Rattle.std.proofs.Common.{refl, sym, ap, ◌∙◌, subst, arith, inl, inr, ⊎_elim}
 use Rattle.std.proofs.Math.Seq.{take-append_seam}
-use Rattle.std.proofs.lemmas.List.{append-nil, map-append}
+use Rattle.std.proofs.lemmas.List.{map-append}
 use Rattle.std.proofs.lemmas.List.Concat.{flat_map-append}
 use Rattle.std.proofs.lemmas.List.Elements.{Contains-append_right, Contains-append_cases}
 use Rattle.std.proofs.lemmas.Slice.Eq.{bytes_eq-Decides}
@@ -12,9 +11,9 @@ use Rattle.lif_outside.specs.AccountLaws.{contains_none, contains_one}
 use Rattle.lif_outside.specs.Events.{Event, read, created, create_failed, appended, append_failed, HappensAt, HappenAt}
 use Rattle.lif_outside.specs.EventLaws.{KeepsPath, happen-split, happens_here, happens_elsewhere, path_cases}
 use Rattle.lif_outside.proofs.FaultLaws.{HaveFailed, failed-append, appends_unfailed}
-use Rattle.lif_outside.specs.Files.{HoldsPrefix, IsSameOrEmpty, AreDistinct}
+use Rattle.lif_outside.specs.Files.{HoldsPrefix, IsSameOrEmpty}
 use Rattle.lif_outside.proofs.PutLaws.{take-behind}
-use Rattle.lif_outside.specs.FileCalls.{StopsWithin, Written, failed_of, creates_of, appends_of, appends_to, turn_of, AreAppendsTo, bytes_appended}
+use Rattle.lif_outside.specs.FileCalls.{StopsWithin, Written, failed_of, creates_of, appends_of, AreAppendsTo, bytes_appended}
 use Rattle.lif_outside.specs.Sequences.{IsFrontOf}
 use Rattle.lif_outside.proofs.SequenceLaws.{all_split, stops_all, stops_there}
 use Rattle.lif_outside.proofs.FileCallLaws.{appends_held, bytes_appended-append}
@@ -27,22 +26,19 @@ creates_of-append paths others = map-append created paths others
 pub appends_of-append : (turns others : List (List Written)) → appends_of (turns ++ others) ≡ appends_of turns ++ appends_of others
 appends_of-append turns others = flat_map-append (λ turn. map (λ (part : Written). appended part.0 part.1) turn) turns others
 
-pub appends_to-append : (paths pieces others : List (List ℕ)) → appends_to paths (pieces ++ others) ≡ appends_to paths pieces ++ appends_to paths others
-appends_to-append paths pieces others = ap appends_of (map-append (turn_of paths) pieces others) ∙ appends_of-append (map (turn_of paths) pieces) (map (turn_of paths) others)
-
 -- creates that stop at a path
 pub creates_of-stops : (front : List (List ℕ)) (path : List ℕ) (rest : List (List ℕ)) → StopsWithin (creates_of (front ++ path ∷ rest)) (creates_of front ++ create_failed path ∷ [])
 creates_of-stops front path rest = record { front = creates_of front; next = created path; rest = creates_of rest; these_are = creates_of-append front (path ∷ rest); events_are = refl }
 
 -- of a path and more paths, the first, those behind it, and no other
-pub first_there : (path : List ℕ) (paths : List (List ℕ)) → Contains (path ∷ paths) path
-first_there path paths = (0, omega arith, refl)
+pub first_there : {X : Type 0} (first : X) (rest : List X) → Contains (first ∷ rest) first
+first_there first rest = (0, omega arith, refl)
 
 pub behind_there : (path : List ℕ) (paths : List (List ℕ)) (place : List ℕ) → Contains paths place → Contains (path ∷ paths) place
 behind_there path paths place there = Contains-append_right (path ∷ []) paths place there
 
-there_cases : (path : List ℕ) (paths : List (List ℕ)) (place : List ℕ) → Contains (path ∷ paths) place → (path ≡ place) ⊎ Contains paths place
-there_cases path paths place there = ⊎_elim (λ one. inl (contains_one path place one)) inr (Contains-append_cases (path ∷ []) paths place there)
+pub there_cases : {X : Type 0} (first : X) (rest : List X) (x : X) → Contains (first ∷ rest) x → (first ≡ x) ⊎ Contains rest x
+there_cases first rest x there = ⊎_elim (λ one. inl (contains_one first x one)) inr (Contains-append_cases (first ∷ []) rest x there)
 
 -- a path that is none of these isn't the first, and none of those behind it
 pub apart_first : (path : List ℕ) (paths : List (List ℕ)) (place : List ℕ) → ¬ Contains (path ∷ paths) place → path ≢ place
@@ -50,10 +46,6 @@ apart_first path paths place apart same = apart (subst (Contains (path ∷ paths
 
 pub apart_behind : (path : List ℕ) (paths : List (List ℕ)) (place : List ℕ) → ¬ Contains (path ∷ paths) place → ¬ Contains paths place
 apart_behind path paths place apart there = apart (behind_there path paths place there)
-
--- the calls of a turn in which each path gets the same bytes
-abbrev pub turn_calls : List (List ℕ) → List ℕ → List Event
-turn_calls paths bytes = map (λ (part : Written). appended part.0 part.1) (turn_of paths bytes)
 
 -- creates keep every other path
 pub creates_of-keep : (paths : List (List ℕ)) (place : List ℕ) → ¬ Contains paths place → AllByRecursion (KeepsPath place) (creates_of paths)
@@ -113,39 +105,6 @@ creates_leave place (event ∷ events) a b all h = leaves_then a h.0 b (create_l
 -- creates that stopped leave each path as it was or empty
 pub creates_of-stopped : (paths : List (List ℕ)) (place : List ℕ) (events : List Event) (a b : Option (List ℕ)) → StopsWithin (creates_of paths) events → HappenAt place events a b → IsSameOrEmpty a b
 creates_of-stopped paths place events a b stop h = creates_leave place events a b (stops_all IsCreate failed_create (creates_of paths) events stop (creates_all paths)) h
-
--- what one turn of a piece adds at a path: nothing, or the piece
-unequal : (one other : List ℕ) → one ≢ other → bytes_eq one other ≡ false
-unequal one other apart = by_test (bytes_eq one other) refl
-  where
-    by_test : (test : Bool) → bytes_eq one other ≡ test → bytes_eq one other ≡ false
-    by_test true e = absurd (apart ((bytes_eq-Decides one other).0 e))
-    by_test false e = e
-
-turn_elsewhere : (paths : List (List ℕ)) (place bytes : List ℕ) → ¬ Contains paths place → bytes_appended place (turn_calls paths bytes) ≡ []
-turn_elsewhere [] place bytes apart = refl
-turn_elsewhere (path ∷ paths) place bytes apart =
-    ap (λ test. (if test then bytes else []) ++ bytes_appended place (turn_calls paths bytes)) (unequal path place (apart_first path paths place apart))
-    ∙ turn_elsewhere paths place bytes (apart_behind path paths place apart)
-
-turn_here : (paths : List (List ℕ)) (place bytes : List ℕ) → AreDistinct paths → Contains paths place → bytes_appended place (turn_calls paths bytes) ≡ bytes
-turn_here [] place bytes distinct there = absurd (contains_none place there)
-turn_here (path ∷ paths) place bytes distinct there =
-    let rest = bytes_appended place (turn_calls paths bytes) in
-    ⊎_elim
-    (λ same. ap (λ test. (if test then bytes else []) ++ rest) ((bytes_eq-Decides path place).1 same)
-    ∙ ap (λ more. bytes ++ more) (turn_elsewhere paths place bytes (λ again. distinct.0 (subst (Contains paths) (sym same) again))) ∙ append-nil bytes)
-    (λ behind. ap (λ test. (if test then bytes else []) ++ rest) (unequal path place (λ same. distinct.0 (subst (Contains paths) (sym same) behind)))
-    ∙ turn_here paths place bytes distinct.1 behind)
-    (there_cases path paths place there)
-
--- each of the paths gets all pieces
-pub bytes_appended-appends_to : (paths pieces : List (List ℕ)) (place : List ℕ) → AreDistinct paths → Contains paths place → bytes_appended place (appends_to paths pieces) ≡ concat pieces
-bytes_appended-appends_to paths [] place distinct there = refl
-bytes_appended-appends_to paths (piece ∷ pieces) place distinct there =
-    bytes_appended-append place (turn_calls paths piece) (appends_to paths pieces)
-    ∙ ap (λ first. first ++ bytes_appended place (appends_to paths pieces)) (turn_here paths place piece distinct there)
-    ∙ ap (λ rest. piece ++ rest) (bytes_appended-appends_to paths pieces place distinct there)
 
 -- appends in two parts
 pub appends-split : (paths : List (List ℕ)) (first later : List Event) → AreAppendsTo paths (first ++ later) → AreAppendsTo paths first × AreAppendsTo paths later

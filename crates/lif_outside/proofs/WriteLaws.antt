@@ -3,8 +3,8 @@ use Rattle.std.specs.Prelude.{◌≡◌, ◌≢◌, ◌⊎◌, ℕ, List, [], �
 use Rattle.std.specs.List.{AllByRecursion}
 use Rattle.std.proofs.Common.{refl, sym, ap, ◌∙◌, subst, arith, inl, inr, ⊎_elim}
 use Rattle.std.proofs.lemmas.List.{get_or-map, length-map, take_all}
-use Rattle.std.proofs.lemmas.List.Elements.{All-contains_itself, All-weaker, Contains-append_cases, Contains-append_left, Contains-append_right}
-use Rattle.lif_outside.specs.AccountLaws.{contains_none, contains_one}
+use Rattle.std.proofs.lemmas.List.Elements.{All-contains_itself, All-weaker, Contains-append_right}
+use Rattle.lif_outside.specs.AccountLaws.{contains_none}
 use Rattle.lif_outside.specs.Calls.{Deeds, Outside}
 use Rattle.lif_outside.specs.Counts.{Rose}
 use Rattle.lif_outside.proofs.DeedLaws.{Accounted}
@@ -14,12 +14,8 @@ use Rattle.lif_outside.proofs.FaultLaws.{HaveFailed}
 use Rattle.lif_outside.specs.Files.{Files, AreDistinct, Holds, HoldsPrefix}
 use Rattle.lif_outside.specs.FileCalls.{StopsWithin, Written, failed_of}
 use Rattle.lif_outside.proofs.SequenceLaws.{stops_none}
-use Rattle.lif_outside.proofs.TurnLaws.{first_there, behind_there, apart_first, apart_behind, stops_keep}
+use Rattle.lif_outside.proofs.TurnLaws.{first_there, behind_there, apart_first, apart_behind, stops_keep, there_cases}
 use Rattle.lif_outside.specs.Writes.{WritesFiles, WritesPart, paths_written, writes_of}
-
--- a file of these is the first, or one behind it
-file_cases : (first : Written) (files : List Written) (file : Written) → Contains (first ∷ files) file → (first ≡ file) ⊎ Contains files file
-file_cases first files file there = ⊎_elim (λ one. inl (contains_one first file one)) inr (Contains-append_cases (first ∷ []) files file there)
 
 -- its path is one of theirs
 path_there : (files : List Written) (file : Written) → Contains files file → Contains (paths_written files) file.0
@@ -46,7 +42,7 @@ held_at (first ∷ files) distinct file there a b h = ⊎_elim
     (λ a b h. whole first.0 first.1 a h.0 h.2.0 b h.1 h.2.1 (happen_keeping first.0 (writes_of files) h.2.0 b (writes_of-keep files first.0 distinct.0) h.2.2))
     a b h)
     (λ behind. held_at files distinct.1 file behind h.2.0 b h.2.2)
-    (file_cases first files file there)
+    (there_cases first files file there)
 
 -- what holds of each file of a list
 of_each : (files : List Written) (P : Written → Type 0) → ((file : Written) → Contains files file → P file) → All P files
@@ -119,7 +115,7 @@ part_at [] events distinct stop file there a b h = absurd (contains_none file th
 part_at (first ∷ files) events distinct stop file there a b h = ⊎_elim
     (λ same. subst (λ (one : Written). (a b : Option (List ℕ)) → HappenAt one.0 events a b → IsPartOf one.1 a b) same (here (stopped first files events stop)) a b h)
     (λ behind. elsewhere behind (λ rest within mid. part_at files rest distinct.1 within file behind mid b) (stopped first files events stop) a h)
-    (file_cases first files file there)
+    (there_cases first files file there)
   where
     here : Stopped first files events → (a b : Option (List ℕ)) → HappenAt first.0 events a b → IsPartOf first.1 a b
     here (at_create is) a b h = uncreated first.0 first.0 first.1 a b (subst (λ es. HappenAt first.0 es a b) is h)
@@ -162,9 +158,6 @@ failed_among : (path : List ℕ) (first events : List Event) → FailedAt path e
 failed_among path first events (of_create there) = of_create (Contains-append_right first events (create_failed path) there)
 failed_among path first events (of_append bytes there) = of_append bytes (Contains-append_right first events (append_failed path bytes) there)
 
-one_there : (event : Event) (behind : List Event) → Contains (event ∷ behind) event
-one_there event behind = Contains-append_left (event ∷ []) behind event (0, omega arith, refl)
-
 -- the path of one of the files is such, where the calls stop
 failed_path : (files : List Written) (events : List Event) → StopsWithin (writes_of files) events → (path : List ℕ) × Contains (paths_written files) path × FailedAt path events
 failed_path [] events stop = absurd (stops_none events stop)
@@ -172,10 +165,10 @@ failed_path (file ∷ files) events stop = by_case (λ rest within. failed_path 
   where
     by_case : ((rest : List Event) → StopsWithin (writes_of files) rest → (path : List ℕ) × Contains (paths_written files) path × FailedAt path rest)
         → Stopped file files events → (path : List ℕ) × Contains (paths_written (file ∷ files)) path × FailedAt path events
-    by_case others (at_create is) = (file.0, first_there file.0 (paths_written files), subst (FailedAt file.0) (sym is) (of_create (one_there (create_failed file.0) [])))
+    by_case others (at_create is) = (file.0, first_there file.0 (paths_written files), subst (FailedAt file.0) (sym is) (of_create (first_there (create_failed file.0) [])))
     by_case others (at_append is) =
         let failed = append_failed file.0 file.1 in
-        (file.0, first_there file.0 (paths_written files), subst (FailedAt file.0) (sym is) (failed_among file.0 (created file.0 ∷ []) (failed ∷ []) (of_append file.1 (one_there failed []))))
+        (file.0, first_there file.0 (paths_written files), subst (FailedAt file.0) (sym is) (failed_among file.0 (created file.0 ∷ []) (failed ∷ []) (of_append file.1 (first_there failed []))))
     by_case others (later rest is within) =
         let behind = others rest within in
         (behind.0, behind_there file.0 (paths_written files) behind.0 behind.1, subst (FailedAt behind.0) (sym is) (failed_among behind.0 (created file.0 ∷ appended file.0 file.1 ∷ []) rest behind.2))

@@ -71,14 +71,6 @@ Written = List ℕ × List ℕ
 abbrev pub appends_of : List (List Written) → List Event
 appends_of turns = flat_map (λ turn. map (λ (part : Written). appended part.0 part.1) turn) turns
 
--- the turn in which each of these paths gets the same bytes
-abbrev pub turn_of : List (List ℕ) → List ℕ → List Written
-turn_of paths bytes = map (λ path. (path, bytes)) paths
-
--- each of these paths gets each of these pieces, piece by piece
-abbrev pub appends_to : List (List ℕ) → List (List ℕ) → List Event
-appends_to paths pieces = appends_of (map (turn_of paths) pieces)
-
 -- the calls are appends to some of these paths, all done
 abbrev pub AreAppendsTo : List (List ℕ) → List Event → Type 0
 AreAppendsTo paths [] = Unit {0}

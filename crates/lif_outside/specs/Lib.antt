@@ -2,6 +2,7 @@ pub mod Counts
 pub mod CountLaws
 pub mod Told
 pub mod ToldLaws
+pub mod Limits
 pub mod Files
 pub mod Events
 pub mod EventLaws

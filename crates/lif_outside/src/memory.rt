@@ -1,10 +1,11 @@
 //! A store and a sink in memory. They tell their content, and fail where they are told to.
-ghost use Rattle.std.specs.Prelude.{◌≡◌, ◌⊎◌, ◌↔◌, ◌≤◌, ◌<◌, ◌-◌, ◌^◌, ◌∷◌, [], ℕ, List, min, length, drop, option_map, unwrap_or, Contains, IfOk, IfSome, OnOk, OnErr, IsErr, IsSome};
+ghost use Rattle.std.specs.Prelude.{◌≡◌, ◌⊎◌, ◌↔◌, ◌≤◌, ◌<◌, ◌-◌, ◌∷◌, [], ℕ, List, min, length, drop, option_map, unwrap_or, Contains, IfOk, IfSome, OnOk, OnErr, IsErr, IsSome};
 ghost use Rattle.lif_outside.specs.AccountLaws.{accounts_none, accounts_then, puts_none, puts_then};
 ghost use Rattle.lif_outside.specs.Accounts.{StoreAccounts, SinkAccounts};
 ghost use Rattle.lif_outside.specs.Counts.{one_more};
 ghost use Rattle.lif_outside.specs.Events.{read_event, create_event, append_event};
 ghost use Rattle.lif_outside.specs.Files.{SameFiles};
+ghost use Rattle.lif_outside.specs.Limits.{last_place};
 ghost use Rattle.lif_outside.specs.Puts.{put_event};
 
 pub mod parts;
@@ -139,7 +140,7 @@ impl Store for MemStore {
     ghost accounts = { λ _ _ _ h. h };
 
     fn read(&mut self, path: &str, at: u64, into: &mut [u8]) -> Result<usize, Failed>
-        requires { at ≤ 2 ^ 41 }
+        requires { at ≤ last_place }
         ensures count { IfOk result (λ n. n ≤ length into.old) }
         ensures rest { IfOk result (λ n. drop n into.new ≡ drop n into.old) }
         ensures call { calls_in

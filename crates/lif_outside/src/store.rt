@@ -1,8 +1,9 @@
 //! A store of files, as the program sees it.
-ghost use Rattle.std.specs.Prelude.{◌≡◌, ◌≤◌, ◌^◌, ◌++◌, ◌∷◌, [], ℕ, List, Option, length, drop, IfOk};
+ghost use Rattle.std.specs.Prelude.{◌≡◌, ◌≤◌, ◌++◌, ◌∷◌, [], ℕ, List, Option, length, drop, IfOk};
 ghost use Rattle.lif_outside.specs.Accounts.{StoreAccounts};
 ghost use Rattle.lif_outside.specs.Events.{Event, read_event, create_event, append_event};
 ghost use Rattle.lif_outside.specs.Files.{Files};
+ghost use Rattle.lif_outside.specs.Limits.{last_place};
 
 use crate::Failed;
 
@@ -28,7 +29,7 @@ pub trait Store {
     /// Reads bytes of a file, from a place on, to the front of a buffer, and answers how many. It reads
     /// at least one where there is room and the file isn't at its end. A missing file is a fault.
     fn read(&mut self, path: &str, at: u64, into: &mut [u8]) -> Result<usize, Failed>
-        requires { at ≤ 2 ^ 41 }
+        requires { at ≤ last_place }
         ensures count { IfOk result (λ n. n ≤ length into.old) }
         ensures rest { IfOk result (λ n. drop n into.new ≡ drop n into.old) }
         ensures call { calls

@@ -7,8 +7,9 @@ use Rattle.std.specs.Int.Bits.{xor_zero_l, xor_zero_r}
 use Rattle.std.specs.List.{range_with_len}
 use Rattle.gf_tables.proofs.KindField.{kind_field, product_zero}
 use Rattle.gf_tables.specs.Product.{product, size_of}
+use Rattle.gf_tables.specs.ShiftLaws.{xor_interchange}
 use Rattle.gf_tables.specs.declared.kind.FieldKind.{FieldKind}
-use Rattle.linear_algebra.proofs.FieldLaws.{xor-exchange, product-zero, product-xor}
+use Rattle.linear_algebra.proofs.FieldLaws.{product-zero, product-xor}
 use Rattle.linear_algebra.proofs.RowLaws.{AreElements-head, AreElements-tail, unit_row-before}
 use Rattle.linear_algebra.specs.Rows.{add_rows, scale_row, zero_row, unit_row, dot, AreElements, IsRow}
 
@@ -71,7 +72,7 @@ dot-add_rows_left field (x ∷ xs) (y ∷ ys) (z ∷ zs) h k l same =
       product-xor field x y z (AreElements-head field x xs h) (AreElements-head field y ys k) (AreElements-head field z zs l),
       dot-add_rows_left field xs ys zs (AreElements-tail field x xs h) (AreElements-tail field y ys k) (AreElements-tail field z zs l) (omega arith),
     )
-    (xor-exchange (product field x z) (product field y z) (dot field xs zs) (dot field ys zs))
+    (xor_interchange (product field x z) (product field y z) (dot field xs zs) (dot field ys zs))
 
 -- a row times the row with 1 at one place and zeros elsewhere, from a place on
 dot-unit_row_from : (field : FieldKind) (a i k : ℕ) (xs : List ℕ) → a + k ≡ i → k < length xs → AreElements field xs

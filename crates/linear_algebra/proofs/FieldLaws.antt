@@ -1,17 +1,9 @@
 -- Laws of sums and products of element numbers, beside those of the field itself.
 use Rattle.std.specs.Prelude.{◌≡◌, ◌<◌, ℕ, bit_xor}
-use Rattle.std.proofs.Common.{refl, sym, ◌∙◌}
-use Rattle.std.specs.Int.Bits.{xor_assoc}
-use Rattle.std.proofs.lemmas.Nat.{xor_comm}
+use Rattle.std.proofs.Common.{refl, ◌∙◌}
 use Rattle.gf_tables.proofs.KindField.{kind_field, product_zero}
 use Rattle.gf_tables.specs.Product.{product, size_of}
 use Rattle.gf_tables.specs.declared.kind.FieldKind.{FieldKind}
-
--- a sum of two sums, with the inner summands exchanged
-pub xor-exchange : (a b c d : ℕ) → bit_xor (bit_xor a b) (bit_xor c d) ≡ bit_xor (bit_xor a c) (bit_xor b d)
-xor-exchange a b c d =
-    xor_assoc a b (bit_xor c d)
-    ∙ rw (← xor_assoc b c d, xor_comm b c, xor_assoc c b d) (sym (xor_assoc a c (bit_xor b d)))
 
 -- an element times 0
 pub product-zero : (field : FieldKind) (a : ℕ) → a < size_of field → product field a 0 ≡ 0

@@ -1,6 +1,7 @@
 //! A store that makes its calls on another store, and keeps a log of them.
-ghost use Rattle.std.specs.Prelude.{◌≡◌, ◌≤◌, ◌^◌, ◌∷◌, [], map, length, drop, true, IfOk, IsOk};
+ghost use Rattle.std.specs.Prelude.{◌≡◌, ◌≤◌, ◌∷◌, [], map, length, drop, true, IfOk, IsOk};
 ghost use Rattle.lif_outside.specs.Events.{read_event, create_event, append_event};
+ghost use Rattle.lif_outside.specs.Limits.{last_place};
 
 use crate::Event;
 use lif_outside::{Failed, Store};
@@ -94,7 +95,7 @@ impl<S: Store> Store for Logged<S> {
         S.files S.read_faults S.write_faults S.made S.calls S.accounts };
 
     fn read(&mut self, path: &str, at: u64, into: &mut [u8]) -> Result<usize, Failed>
-        requires { at ≤ 2 ^ 41 }
+        requires { at ≤ last_place }
         ensures count { IfOk result (λ n. n ≤ length into.old) }
         ensures rest { IfOk result (λ n. drop n into.new ≡ drop n into.old) }
         ensures call { LogsCalls S.calls

@@ -3,7 +3,7 @@ use Rattle.std.specs.Prelude.{◌≡◌, ◌<◌, ℕ, Some, length, slice_get, 
 use Rattle.std.proofs.Common.{subst}
 use Rattle.std.proofs.lemmas.Bool.{and_parts, ltb-true}
 use Rattle.std.proofs.lemmas.Option.{get_or_from_slice_get}
-use Rattle.list_laws.proofs.Tests.{passes_at}
+use Rattle.item_list.proofs.Tests.{passes_at}
 use Rattle.net_model.specs.Network.{is_sink_among}
 use Rattle.net_model.specs.declared.net.Net.{Net}
 

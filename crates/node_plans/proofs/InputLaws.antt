@@ -1,18 +1,20 @@
 -- What the operands of a code's links name: rows below the rate at the source, and else links into the link's tail.
-use Rattle.std.specs.Prelude.{◌≡◌, ℕ, zero, suc, ◌<◌, ◌==◌, ◌&&◌, Bool, true, false, nat_lt, if◌then◌else◌, Option, Some, None, List, [], ◌∷◌, All, length, map, slice_get}
+use Rattle.std.specs.Prelude.{◌≡◌, ℕ, zero, suc, ◌<◌, ◌==◌, ◌&&◌, Bool, true, false, nat_lt, if◌then◌else◌, Option, Some, List, [], ◌∷◌, All, length, map, slice_get}
 use Rattle.std.specs.Option.{option_map_or}
 use Rattle.std.proofs.Common.{sym, ◌∙◌, ap, subst, get_or}
-use Rattle.std.proofs.lemmas.Bool.{and_parts, eqb-true, false≢true, ltb-true}
+use Rattle.std.proofs.lemmas.Bool.{and_parts, false≢true, ltb-true}
 use Rattle.std.proofs.lemmas.List.Elements.{All-filter, filter_passes}
 use Rattle.std.proofs.lemmas.List.Sums.{AllPass-from_list_all}
 use Rattle.std.proofs.lemmas.Option.{none-some, same_Some, slice_get-get_or}
 use Rattle.gf_tables.specs.Product.{size_of}
 use Rattle.gf_tables.specs.declared.kind.FieldKind.{FieldKind}
+use Rattle.net_model.proofs.EndLaws.{leaves_source-tail}
 use Rattle.net_model.proofs.ListLaws.{is_rising-filter}
 use Rattle.net_model.specs.Lists.{is_rising}
 use Rattle.net_model.specs.Walks.{head_of, leaves_source, tail_of}
 use Rattle.net_model.specs.declared.Link.{Link}
 use Rattle.net_model.specs.declared.net.Net.{Net}
+use Rattle.node_program.proofs.LinkLaws.{head_of-leads_into}
 use Rattle.node_program.specs.Code.{are_operands, are_operands_of, is_source_of, leads_into}
 use Rattle.node_program.specs.CodeValue.{is_live_in, reads_live_in}
 use Rattle.node_program.specs.Value.{operands_at}
@@ -20,7 +22,6 @@ use Rattle.node_program.specs.declared.Operand.{Operand}
 use Rattle.node_program.specs.declared.code.Code.{Code}
 use Rattle.coded_traffic.specs.Traffic.{live_operands}
 use Rattle.node_plans.proofs.ListLaws.{map-filter}
-use Rattle.node_plans.proofs.OrderLaws.{leaves_source-tail}
 
 -- what a node may read: at the source a row below the rate, and else a live link into it
 pub record IsInput (code : Code) (pattern node from : ℕ) : Type 0 where
@@ -37,14 +38,6 @@ operands_fit net rate field (first ∷ links) (own ∷ operands) zero l are foun
     subst (λ l. are_operands net rate field l own ≡ true) (same_Some first l found) (and_parts _ _ are).0
 operands_fit net rate field (first ∷ links) (own ∷ operands) (suc link) l are found =
     operands_fit net rate field links operands link l (and_parts _ _ are).1 found
-
--- a link that leads into a node has it for its head
-leads-head : (links : List Link) (node link : ℕ) → leads_into links node link ≡ true → head_of links link ≡ node
-leads-head links node link into = by (slice_get links link) into
-  where
-    by : (found : Option Link) → option_map_or (λ l. l.head == node) found false ≡ true → option_map_or (λ l. l.head) found 0 ≡ node
-    by None into = absurd (false≢true into)
-    by (Some l) into = eqb-true l.head node into
 
 module _ (code : Code) (pattern link : ℕ) (within : link < length code.net.links) where
   abbrev own : List Operand
@@ -79,7 +72,7 @@ module _ (code : Code) (pattern link : ℕ) (within : link < length code.net.lin
         record {
           row = λ is. ltb-true operand.from code.rate (rw is at from);
           live = λ is. rw (leaves ∙ is) at reads;
-          leads = λ is. leads-head code.net.links node operand.from (rw is at from);
+          leads = λ is. head_of-leads_into code.net.links node operand.from (rw is at from);
         }
 
     -- each live operand of a link out of a node names what the node may read

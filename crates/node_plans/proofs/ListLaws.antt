@@ -1,8 +1,8 @@
 -- Laws of lists: what passes a test, and numbers of a range that do.
-use Rattle.std.specs.Prelude.{◌≡◌, ℕ, zero, suc, ◌+◌, ◌<◌, ◌≤◌, ◌==◌, ◌||◌, Bool, true, false, cond, nat_lt, List, [], ◌∷◌, All, filter, length, map}
-use Rattle.std.specs.List.{list_all, list_any, position_or_len, range_with_len}
+use Rattle.std.specs.Prelude.{◌≡◌, ℕ, zero, suc, ◌+◌, ◌<◌, ◌≤◌, ◌==◌, Bool, true, false, cond, nat_lt, List, [], ◌∷◌, All, filter, length, map}
+use Rattle.std.specs.List.{list_all, position_or_len, range_with_len}
 use Rattle.std.proofs.Common.{refl, ◌∙◌, ap, arith}
-use Rattle.std.proofs.lemmas.Bool.{and_from, and_parts, eq-eqb, false≢true, lt-ltb, ltb-true, ne_eqb}
+use Rattle.std.proofs.lemmas.Bool.{and_from, and_parts, eq-eqb, lt-ltb, ltb-true, ne_eqb}
 use Rattle.std.proofs.lemmas.List.Elements.{All-filter, All-head, All-tail, filter_passes}
 use Rattle.std.proofs.lemmas.List.FromFn.{get_or-range_with_len, length-range_with_len}
 use Rattle.std.proofs.lemmas.List.Sums.{count_by-le-length, length-filter}
@@ -19,15 +19,6 @@ pub filter-agree : {X : Type 0} (p q : X → Bool) (P : X → Type 0) → ((x : 
 filter-agree p q P agree [] all = refl
 filter-agree p q P agree (x ∷ xs) all =
     rw (agree x (All-head P x xs all), filter-agree p q P agree xs (All-tail P x xs all)) refl
-
--- where some item passes, one is left
-pub length-filter-some : {X : Type 0} (test : X → Bool) (xs : List X) → list_any test xs ≡ true → 0 < length (filter test xs)
-length-filter-some test [] some = absurd (false≢true some)
-length-filter-some test (x ∷ xs) some = by (test x) some (length-filter-some test xs)
-  where
-    by : (b : Bool) → (b || list_any test xs) ≡ true → (list_any test xs ≡ true → 0 < length (filter test xs)) → 0 < length (cond b (x ∷ filter test xs) (filter test xs))
-    by true here rest = omega arith
-    by false later rest = rest later
 
 -- no more are left than there were
 pub length-filter-le : {X : Type 0} (test : X → Bool) (xs : List X) → length (filter test xs) ≤ length xs

@@ -6,7 +6,7 @@ use Rattle.std.proofs.Common.{refl, sym, ◌∙◌, ap, subst, arith, get_or, in
 use Rattle.std.proofs.lemmas.Bool.{cases_eq, eq-eqb, ne_eqb}
 use Rattle.std.proofs.lemmas.List.{append-nil, get_or-map, get_or-set_other, get_or-set_same, length-map, length-set, map-set}
 use Rattle.std.proofs.lemmas.List.FromFn.{length-range_with_len}
-use Rattle.list_laws.proofs.Ranges.{filter-range_more}
+use Rattle.item_list.proofs.Ranges.{filter-range_more}
 use Rattle.node_plans.proofs.ListLaws.{length-filter-le}
 use Rattle.node_plans.specs.Listed.{AreEnds, ending_at, is_live_by, items_of}
 

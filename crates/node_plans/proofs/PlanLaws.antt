@@ -8,9 +8,11 @@ use Rattle.std.proofs.lemmas.List.Elements.{All-filter, All-map, All-weaker}
 use Rattle.std.proofs.lemmas.List.FromFn.{length-range_with_len}
 use Rattle.gf_tables.specs.Product.{size_of}
 use Rattle.due_sums.specs.Waiting.{AreSums}
+use Rattle.item_list.proofs.Tests.{length-filter-some}
 use Rattle.net_model.proofs.RenumberedParts.{is_rising-filter_range}
 use Rattle.net_model.specs.Lists.{is_rising}
 use Rattle.net_model.specs.Walks.{head_of, tail_of}
+use Rattle.node_program.proofs.LiveLaws.{live-below, live-reads}
 use Rattle.node_program.proofs.OperandLaws.{operands_of_draft}
 use Rattle.node_program.specs.CodeValue.{is_live_in, reads_live_in}
 use Rattle.node_program.specs.Operands.{IsOperand}
@@ -19,9 +21,9 @@ use Rattle.node_program.specs.declared.Operand.{Operand}
 use Rattle.node_program.specs.declared.code.Code.{Code}
 use Rattle.coded_traffic.specs.Traffic.{live_operands}
 use Rattle.node_plans.proofs.InputLaws.{IsInput, live_operands-inputs, live_operands-rise}
-use Rattle.list_laws.proofs.Positions.{Contains-place_in, place_in-found}
-use Rattle.node_plans.proofs.ListLaws.{filter-none, filter_range-each, is_rising-map, length-filter-le, length-filter-some, passing-before, position-filter_range}
-use Rattle.node_plans.proofs.OrderLaws.{live-below, live-reads, source-no_ins}
+use Rattle.item_list.proofs.Positions.{Contains-place_in, place_in-found}
+use Rattle.node_plans.proofs.ListLaws.{filter-none, filter_range-each, is_rising-map, length-filter-le, passing-before, position-filter_range}
+use Rattle.node_plans.proofs.OrderLaws.{source-no_ins}
 use Rattle.node_plans.specs.Plans.{IsPlan, input_count, input_place, ins_of, operands_of, out_place, outs_of, plan_of, sums_of}
 
 -- the place of a live link among the live links at its head or at its tail

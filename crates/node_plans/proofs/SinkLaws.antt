@@ -8,7 +8,7 @@ use Rattle.std.proofs.lemmas.List.Folds.{position_or_len_push}
 use Rattle.std.proofs.lemmas.List.Sums.{position_or_len_is, prefix_len-le-length}
 use Rattle.std.proofs.lemmas.Map.Keys.{apart_from_distinct}
 use Rattle.failure_patterns.proofs.DemandLaws.{few_sinks}
-use Rattle.list_laws.proofs.Tests.{passes_at}
+use Rattle.item_list.proofs.Tests.{passes_at}
 use Rattle.net_model.proofs.ListLaws.{IsDistinct-from_are_distinct}
 use Rattle.net_model.specs.Network.{is_sink_among}
 use Rattle.node_program.specs.declared.code.Code.{Code}

@@ -7,17 +7,17 @@ use Rattle.std.proofs.lemmas.Bool.{cases_Bool}
 use Rattle.std.proofs.lemmas.List.Elements.{All-contains}
 use Rattle.std.proofs.lemmas.Option.{get_or_from_slice_get}
 use Rattle.net_model.specs.Walks.{head_of, leaves_source, tail_of}
+use Rattle.node_program.proofs.LiveLaws.{live-below}
 use Rattle.node_program.proofs.OperandLaws.{operands_of_draft}
-use Rattle.list_laws.proofs.Maps.{map-agree}
+use Rattle.item_list.proofs.Maps.{map-agree}
 use Rattle.node_program.specs.CodeValue.{is_live_in, reads_live_in}
 use Rattle.node_program.specs.Operands.{IsOperand}
 use Rattle.node_program.specs.Value.{operands_at}
 use Rattle.node_program.specs.declared.code.Code.{Code}
 use Rattle.coded_traffic.specs.Traffic.{live_operands}
-use Rattle.list_laws.proofs.Positions.{Contains-place_in}
+use Rattle.item_list.proofs.Positions.{Contains-place_in}
 use Rattle.node_plans.proofs.ListLaws.{filter-agree, range-below}
 use Rattle.node_plans.proofs.ListedLaws.{items_of-read, length-items_of}
-use Rattle.node_plans.proofs.OrderLaws.{live-below}
 use Rattle.node_plans.proofs.PlanLaws.{ins-each, outs-each, position-ending}
 use Rattle.node_plans.specs.Listed.{AreListed, ending_at, is_live_by, items_of, operands_by}
 use Rattle.node_plans.specs.Plans.{input_count, input_place, ins_of, outs_of, plan_of}

@@ -1,10 +1,10 @@
 //! That threads can take values of every type of this crate, and share them: it is shown by being proved.
-use crate::{PlaceTable, Plan, Wiring};
+use crate::{LiveWiring, PlaceTable, Plan};
 
 fn shared<T: Send + Sync>() {}
 
 fn share_every_type() {
     shared::<Plan>();
     shared::<PlaceTable>();
-    shared::<Wiring>();
+    shared::<LiveWiring>();
 }

@@ -21,7 +21,7 @@ pub type PlaceTable = ItemList<u32>;
 /// among those into its head; and the place of each node among the sinks, where it is one. It is made
 /// once for all nodes.
 #[derive(Drop)]
-pub struct Wiring {
+pub struct LiveWiring {
     live: LiveLinks,
     ins: Vec<Vec<u32>>,
     outs: Vec<Vec<u32>>,
@@ -29,7 +29,7 @@ pub struct Wiring {
     sinks: Vec<Option<u32>>,
 }
 
-impl Model for Wiring {
+impl Model for LiveWiring {
     ghost use Rattle.node_plans.specs.Wired.{Wired};
 
     ghost Value = { Wired };
@@ -46,13 +46,13 @@ impl Model for Wiring {
     } };
 }
 
-impl Wiring {
+impl LiveWiring {
     ghost use Rattle.node_plans.specs.Plans.{IsPlan, input_count, plan_of, sums_of};
     ghost use Rattle.node_plans.specs.Wired.{HasPlaces, IsWiringOf};
 
     /// The wiring of a code under a pattern. Nodes, links, operands, sinks and the links of the pattern
     /// are gone over once.
-    pub fn of(alloc: Global, code: &Code, pattern: u32) -> Result<Wiring, AllocError>
+    pub fn of(alloc: Global, code: &Code, pattern: u32) -> Result<LiveWiring, AllocError>
         requires { pattern < length code.now.net.patterns }
         ensures { IfOk result (IsWiringOf code.now pattern) }
     {
@@ -60,7 +60,7 @@ impl Wiring {
         let Listed { ins, outs, places } = list_links(alloc, code, live.as_slice())?;
         let places = Arc::new(alloc, ItemList::of(places))?;
         let sinks = sink_places(alloc, code)?;
-        Ok(Wiring {
+        Ok(LiveWiring {
             live,
             ins,
             outs,

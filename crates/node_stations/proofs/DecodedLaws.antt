@@ -16,7 +16,7 @@ use Rattle.held_rows.specs.Held.{Held}
 use Rattle.linear_algebra.specs.Elements.{bytes_of_row, elements_of}
 use Rattle.linear_algebra.specs.Matrices.{matrix_times}
 use Rattle.linear_algebra.specs.Rows.{zero_row}
-use Rattle.list_laws.proofs.Maps.{map-agree, same_made}
+use Rattle.item_list.proofs.Maps.{map-agree, same_made}
 use Rattle.net_model.specs.Demands.{pattern_of_demand}
 use Rattle.net_model.specs.Lists.{is_rising}
 use Rattle.node_program.specs.CodeValue.{is_live_in}

@@ -2,28 +2,17 @@
 use Rattle.std.specs.Prelude.{◌≡◌, ◌≢◌, ◌≤◌, ◌+◌, ◌||◌, ◌++◌, ℕ, Bool, true, false, cond, Contains, List, ◌∷◌}
 use Rattle.std.proofs.Common.{refl, sym, ap, subst, ◌∙◌, arith}
 use Rattle.std.proofs.lemmas.Bool.{false_from_ne_true, false≢true}
-use Rattle.std.proofs.lemmas.List.Folds.{list_any-append}
 use Rattle.std.proofs.lemmas.List.Sums.{sum_by-cons}
 use Rattle.coded_traffic.specs.Traffic.{Key, Window, is_same_key, key_of}
 use Rattle.generation_frame.specs.declared.frame.Packet.{Packet}
 use Rattle.net_model.specs.Walks.{tail_of}
 use Rattle.node_plans.specs.declared.plan.Plan.{Plan}
 use Rattle.node_program.specs.declared.code.Code.{Code}
-use Rattle.relay_core.proofs.PacketLaws.{itself, same_key, times-none}
+use Rattle.relay_core.proofs.PacketLaws.{has_key-append, itself, same_key, times-none}
 use Rattle.relay_core.specs.Core.{has_key, times_of}
 use Rattle.relay_node.proofs.TrafficLaws.{out}
 use Rattle.relay_node.specs.Relay.{Gives, IsBegun, IsOut, IsSameWork, Relay, is_given}
 use Rattle.node_stations.specs.Shown.{ShowsSent, WorksOn}
-
--- whether a key stands among two lists
-pub has_key-append : (key : Key) (xs ys : List Packet) → has_key key (xs ++ ys) ≡ (has_key key xs || has_key key ys)
-has_key-append key xs ys = list_any-append (λ packet. is_same_key (key_of packet) key) xs ys
-
-pub or_turned : (a b c : Bool) → (a || (b || c)) ≡ ((b || a) || c)
-or_turned true true c = refl
-or_turned true false c = refl
-or_turned false true c = refl
-or_turned false false c = refl
 
 pub or_none : (a b : Bool) → (a || b) ≡ false → b ≡ false
 or_none true b none = absurd (false≢true (sym none))

@@ -1,5 +1,5 @@
 -- Packets given and put, one after another.
-use Rattle.std.specs.Prelude.{◌≡◌, ◌≤◌, ◌<◌, ◌+◌, ◌-◌, ◌++◌, ℕ, Bool, false, List, [], ◌∷◌, Result, Ok, Err, OnErr, OnOk, length}
+use Rattle.std.specs.Prelude.{◌≡◌, ◌≤◌, ◌<◌, ◌+◌, ◌-◌, ◌++◌, ℕ, Bool, false, List, [], ◌∷◌, length}
 use Rattle.std.specs.List.{list_any}
 use Rattle.std.proofs.Common.{refl, ap, subst, ◌∙◌, arith}
 use Rattle.std.proofs.lemmas.List.{length-append}
@@ -66,17 +66,3 @@ pub less_room : (faithful : Bool) (packet : Packet) (old new : InFlight) → Fol
 less_room faithful packet old new follows room =
     let adds = puts-fly faithful (packet ∷ []) old new follows in
     omega (arith, adds.flying, adds.room, room)
-
--- what follows of an answer in each case of it
-pub on_ok-then : {T E P Q : Type 0} (r : Result T E) → (P → Q) → OnOk r P → OnOk r Q
-on_ok-then (Ok x) then p = then p
-on_ok-then (Err e) then p = tt
-
-pub on_err-then : {T E P Q : Type 0} (r : Result T E) → (P → Q) → OnErr r P → OnErr r Q
-on_err-then (Ok x) then p = tt
-on_err-then (Err e) then p = then p
-
--- what holds at an exit, said of the error there
-pub on_err : {T E P : Type 0} (r : Result T E) → P → OnErr r P
-on_err (Ok x) p = tt
-on_err (Err e) p = p

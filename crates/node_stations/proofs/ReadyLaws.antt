@@ -8,8 +8,8 @@ use Rattle.coded_traffic.specs.CodeBlocks.{IsBlockOf}
 use Rattle.coded_traffic.specs.Traffic.{Window}
 use Rattle.generation_frame.specs.Blocks.{row_bytes}
 use Rattle.linear_algebra.specs.Elements.{AreBytes}
-use Rattle.list_laws.proofs.Places.{row_end}
-use Rattle.list_laws.proofs.Positions.{place_in-within}
+use Rattle.item_list.proofs.Places.{row_end}
+use Rattle.item_list.proofs.Positions.{place_in-within}
 use Rattle.node_plans.proofs.PlanLaws.{ins_of-source}
 use Rattle.node_plans.specs.Plans.{plan_of}
 use Rattle.node_plans.specs.declared.plan.Plan.{Plan}

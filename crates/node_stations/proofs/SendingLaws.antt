@@ -5,23 +5,25 @@ use Rattle.std.proofs.Common.{refl, sym, ap, subst, ◌∙◌, arith, get_or, in
 use Rattle.std.proofs.lemmas.Bool.{cases_Bool, false_from_ne_true, false≢true, ne_eqb}
 use Rattle.std.proofs.lemmas.List.Elements.{All-cons, All-head, All-nil, All-tail}
 use Rattle.std.proofs.lemmas.List.Sums.{AllPass-from_list_all}
+use Rattle.coded_traffic.proofs.SumLaws.{sum_of-agree}
 use Rattle.coded_traffic.specs.Traffic.{Key, Window, is_same_key, key_of, live_operands, sum_of}
 use Rattle.generation_frame.specs.Blocks.{pieces}
 use Rattle.generation_frame.specs.declared.frame.Packet.{Packet}
 use Rattle.net_model.specs.Walks.{head_of, leaves_source}
-use Rattle.node_plans.proofs.OrderLaws.{live-below}
 use Rattle.node_plans.proofs.PlanLaws.{ins-contains, outs-contains}
 use Rattle.node_plans.specs.Plans.{ins_of, operands_of, outs_of}
 use Rattle.node_plans.specs.declared.plan.Plan.{Plan}
+use Rattle.node_program.proofs.LiveLaws.{live-below}
 use Rattle.node_program.specs.CodeValue.{is_live_in}
 use Rattle.node_program.specs.declared.Operand.{Operand}
 use Rattle.node_program.specs.declared.code.Code.{Code}
 use Rattle.relay_core.proofs.LinkLaws.{live_operands-into}
-use Rattle.relay_core.proofs.PacketLaws.{same_key}
+use Rattle.relay_core.proofs.ListLaws.{or_turned}
+use Rattle.relay_core.proofs.PacketLaws.{has_key-append, same_key}
 use Rattle.relay_core.specs.Core.{AreSent, MaySend, has_key, has_operands, key_on, payload_of, summed, times_of}
-use Rattle.relay_node.proofs.TrafficLaws.{leaves_source-out, live_out, operands_of-plan, out, sum_of-agree}
+use Rattle.relay_node.proofs.TrafficLaws.{leaves_source-out, live_out, operands_of-plan, out}
 use Rattle.relay_node.specs.Relay.{Gives, IsDue, IsOut, Relay, has_input, input_at, is_complete}
-use Rattle.node_stations.proofs.GivingLaws.{has_key-append, or_none, or_turned, shown_after, times_more}
+use Rattle.node_stations.proofs.GivingLaws.{or_none, shown_after, times_more}
 use Rattle.node_stations.specs.Shown.{GivesEach, IsInto, ShowsHeld, ShowsSent}
 
 -- tests that agree on each item agree on all

@@ -9,21 +9,22 @@ use Rattle.std.proofs.lemmas.Simd.{map-map}
 use Rattle.coded_traffic.specs.Traffic.{IsKey, Key, Window, is_same_key, key_of, keys_of, packet_of}
 use Rattle.generation_frame.specs.Blocks.{pieces}
 use Rattle.generation_frame.specs.declared.frame.Packet.{Packet}
-use Rattle.list_laws.proofs.Positions.{place_in, place_in-within}
+use Rattle.item_list.proofs.Positions.{place_in, place_in-within}
+use Rattle.net_model.proofs.EndLaws.{tail_of-leaves_source}
 use Rattle.net_model.specs.Walks.{leaves_source}
-use Rattle.node_plans.proofs.OrderLaws.{live-below, tail_of-source}
 use Rattle.node_plans.proofs.PlanLaws.{IsPlan-plan_of, outs-contains}
 use Rattle.node_plans.specs.Plans.{IsPlan, operands_of, out_place, outs_of}
 use Rattle.node_plans.specs.declared.plan.Plan.{Plan}
+use Rattle.node_program.proofs.LiveLaws.{live-below}
 use Rattle.node_program.specs.declared.Operand.{Operand}
 use Rattle.node_program.specs.declared.code.Code.{Code}
-use Rattle.relay_core.proofs.ListLaws.{all_pass, count-filter, same_counts}
-use Rattle.relay_core.proofs.PacketLaws.{has_key-passing, itself, same_key, times-has, times-none, times_of-map}
+use Rattle.relay_core.proofs.ListLaws.{all_pass, count-filter, or_turned, same_counts}
+use Rattle.relay_core.proofs.PacketLaws.{has_key-append, has_key-passing, itself, same_key, times-has, times-none, times_of-map}
 use Rattle.relay_core.proofs.TrafficLaws.{has_key-packets, is_key-packets, once-packets}
 use Rattle.relay_core.specs.Core.{has_key, opening, packets_of, times_of}
 use Rattle.relay_node.proofs.TrafficLaws.{gives-traffic, leaves_source-out, live_out}
 use Rattle.relay_node.specs.Relay.{Gives, IsBegun, IsDue, IsOut, Relay, TakesTraffic, has_input, is_complete}
-use Rattle.node_stations.proofs.GivingLaws.{begun_before, has_key-append, or_none, or_turned, out_before, shown_after, times_more}
+use Rattle.node_stations.proofs.GivingLaws.{begun_before, or_none, out_before, shown_after, times_more}
 use Rattle.node_stations.specs.Shown.{GivesEach, IsFedAll, ShowsSent}
 
 module _ (code : Code) (pattern : ℕ) (window : Window) where
@@ -166,7 +167,7 @@ module _ (code : Code) (pattern : ℕ) (window : Window) where
           let parts = and_parts _ _ (sym (has_key-passing (leaves_source code.net) key (packets_of code pattern window)) ∙ has) in
           let is_key = is_key-packets code pattern window key parts.1 in
           let leaves : Contains (outs_of code pattern source) key.link =
-          subst (λ n. Contains (outs_of code pattern n) key.link) (tail_of-source code.net key.link parts.0) (outs-contains code pattern key.link is_key.live) in
+          subst (λ n. Contains (outs_of code pattern n) key.link) (tail_of-leaves_source code.net key.link parts.0).1 (outs-contains code pattern key.link is_key.live) in
           let is : IsOut new key =
           record {
             leaves = subst (λ (plan : Plan). Contains plan.outs key.link) (sym given.ready.takes.plan) leaves;

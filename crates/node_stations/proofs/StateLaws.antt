@@ -1,4 +1,5 @@
 -- All nodes show a state of the core after a step, where the node at the link's head does.
+use Rattle.std.proofs.lemmas.Option.{same_Some}
 use Rattle.std.specs.Prelude.{◌≡◌, ◌≢◌, ◌==◌, ◌++◌, ◌∷◌, ℕ, Contains, IsPermutation, List, Some, if◌then◌else◌, slice_get}
 use Rattle.std.proofs.Common.{inl, inr, refl, sym, ap, subst, ◌∙◌}
 use Rattle.std.proofs.lemmas.Bool.{cases_Bool, eqb-false, eqb-true}
@@ -13,10 +14,6 @@ use Rattle.node_stations.proofs.DeliveryLaws.{shows-elsewhere}
 use Rattle.node_stations.proofs.GivingLaws.{sent-elsewhere}
 use Rattle.node_stations.specs.Shown.{IsReplaced, Shows, ShowsHeld, ShowsSent}
 
--- the item found, where two are
-same_found : {X : Type 0} (one other : X) → Some one ≡ Some other → one ≡ other
-same_found one other same = cc
-
 module _ (code : Code) (pattern : ℕ) (window : Window) (delivery : Delivery) (held sent more : List Packet) (node : ℕ) (to_node : head_of code.net.links delivery.pair.link ≡ node)
     (sends : AreSent code pattern node (held_after delivery held) sent more) where
   -- the nodes that it doesn't come to stay as they were
@@ -29,7 +26,7 @@ module _ (code : Code) (pattern : ℕ) (window : Window) (delivery : Delivery) (
           shows = λ other relay at. elim (cases_Bool (other == node)) [
             | inl same ↦
                 let is : other ≡ node = eqb-true other node same in
-                let found : new ≡ relay = same_found new relay (sym replaced.at ∙ ap (slice_get after) (sym is) ∙ at) in
+                let found : new ≡ relay = same_Some new relay (sym replaced.at ∙ ap (slice_get after) (sym is) ∙ at) in
                 subst (λ (r : Relay). ShowsHeld code pattern other window r (held_after delivery held)) found
                 (subst (λ n. ShowsHeld code pattern n window new (held_after delivery held)) (sym is) shows)
             | inr apart ↦
@@ -40,7 +37,7 @@ module _ (code : Code) (pattern : ℕ) (window : Window) (delivery : Delivery) (
           shown = λ other relay at. elim (cases_Bool (other == node)) [
             | inl same ↦
                 let is : other ≡ node = eqb-true other node same in
-                let found : new ≡ relay = same_found new relay (sym replaced.at ∙ ap (slice_get after) (sym is) ∙ at) in
+                let found : new ≡ relay = same_Some new relay (sym replaced.at ∙ ap (slice_get after) (sym is) ∙ at) in
                 subst (λ (r : Relay). ShowsSent r (more ++ sent)) found shown
             | inr apart ↦
                 let differs : other ≢ node = eqb-false other node apart in

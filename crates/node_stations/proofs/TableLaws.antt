@@ -1,5 +1,5 @@
 -- Stations that are made one after another, and that begin one after another.
-use Rattle.std.specs.Prelude.{◌≡◌, ◌≢◌, ◌<◌, ◌≤◌, ◌+◌, ◌++◌, ℕ, zero, suc, List, [], ◌∷◌, Option, Some, None, length, map, slice_get, slice_set}
+use Rattle.std.specs.Prelude.{◌≡◌, ◌<◌, ◌≤◌, ◌+◌, ◌++◌, ℕ, List, [], ◌∷◌, Option, Some, None, length, map, slice_get, slice_set}
 use Rattle.std.specs.Option.{option_map}
 use Rattle.std.proofs.Common.{refl, sym, ap, subst, ◌∙◌, arith, inl, inr, get_or}
 use Rattle.std.proofs.Math.ListN.{get_or-append}
@@ -7,6 +7,7 @@ use Rattle.std.proofs.Math.Seq.{get_or-append_seam}
 use Rattle.std.proofs.lemmas.Bool.{cases_lt}
 use Rattle.std.proofs.lemmas.List.{length-append, length-map, length-set}
 use Rattle.std.proofs.lemmas.Option.{get_or_from_slice_get, none-some, same_Some, slice_get-get_or, slice_get-map, slice_get_read, slice_get_within}
+use Rattle.item_list.proofs.Writes.{slice_get-set_other, slice_get-set_same}
 use Rattle.node_plans.specs.Plans.{place_of}
 use Rattle.node_program.specs.declared.code.Code.{Code}
 use Rattle.relay_node.specs.Relay.{Relay}
@@ -109,19 +110,6 @@ module _ {F : Type 0} (code : Code) (pattern : ℕ) where
         };
       }
 
--- what stands at a place that is set, and at another
-get_set_same : {X : Type 0} (xs : List X) (i : ℕ) (x : X) → i < length xs → slice_get (slice_set xs i x) i ≡ Some x
-get_set_same [] i x within = absurd (omega arith)
-get_set_same (first ∷ xs) zero x within = refl
-get_set_same (first ∷ xs) (suc i) x within = get_set_same xs i x (omega arith)
-
-get_set_other : {X : Type 0} (xs : List X) (i k : ℕ) (x : X) → k ≢ i → slice_get (slice_set xs i x) k ≡ slice_get xs k
-get_set_other [] i k x apart = refl
-get_set_other (first ∷ xs) zero zero x apart = absurd (apart refl)
-get_set_other (first ∷ xs) zero (suc k) x apart = refl
-get_set_other (first ∷ xs) (suc i) zero x apart = refl
-get_set_other (first ∷ xs) (suc i) (suc k) x apart = get_set_other xs i k x (λ same. apart (ap suc same))
-
 -- what is made of the item at a place
 pub made_at : {X Y : Type 0} (f : X → Y) (xs : List X) (i : ℕ) (d : X) → i < length xs → slice_get (map f xs) i ≡ Some (f (get_or xs i d))
 made_at f xs i d within = slice_get-map f xs i ∙ ap (option_map f) (slice_get-get_or xs i d within)
@@ -130,9 +118,9 @@ made_at f xs i d within = slice_get-map f xs i ∙ ap (option_map f) (slice_get-
 pub replaced_at : {X Y : Type 0} (f : X → Y) (xs : List X) (i : ℕ) (x : X) → i < length xs → IsReplaced i (f x) (map f xs) (map f (slice_set xs i x))
 replaced_at f xs i x within = record {
   count = length-map (slice_set xs i x) f ∙ length-set xs i x ∙ sym (length-map xs f);
-  at = slice_get-map f (slice_set xs i x) i ∙ ap (option_map f) (get_set_same xs i x within);
+  at = slice_get-map f (slice_set xs i x) i ∙ ap (option_map f) (slice_get-set_same xs i x within);
   others = λ other apart.
-      slice_get-map f (slice_set xs i x) other ∙ ap (option_map f) (get_set_other xs i other x apart) ∙ sym (slice_get-map f xs other);
+      slice_get-map f (slice_set xs i x) other ∙ ap (option_map f) (slice_get-set_other xs i other x apart) ∙ sym (slice_get-map f xs other);
 }
 
 module _ {F : Type 0} (first count : ℕ) where
@@ -159,15 +147,15 @@ module _ {F : Type 0} (first count : ℕ) where
       record {
         same_count = length-set mid bound after ∙ begun.same_count;
         begun = λ k station below found. elim (cases_lt k bound) [
-          | inl earlier ↦ begun.begun k station earlier (sym (get_set_other mid bound k after (omega (arith, earlier))) ∙ found)
+          | inl earlier ↦ begun.begun k station earlier (sym (slice_get-set_other mid bound k after (omega (arith, earlier))) ∙ found)
           | inr here ↦
               let is : bound ≡ k = omega (arith, here, below) in
-              let stands : Some after ≡ Some station = sym (get_set_same mid bound after within) ∙ ap (slice_get (slice_set mid bound after)) is ∙ found in
+              let stands : Some after ≡ Some station = sym (slice_get-set_same mid bound after within) ∙ ap (slice_get (slice_set mid bound after)) is ∙ found in
               let same : after ≡ station = same_Some after station stands in
               let was : slice_get old bound ≡ Some (get_or mid bound none) = sym (begun.others bound (omega arith)) ∙ slice_get-get_or mid bound none within in
               (get_or mid bound none, ap (slice_get old) (sym is) ∙ was, subst (IsBegunFrom (get_or mid bound none)) same begins)
         ];
-        others = λ k behind. get_set_other mid bound k after (omega (arith, behind)) ∙ begun.others k (omega (arith, behind));
+        others = λ k behind. slice_get-set_other mid bound k after (omega (arith, behind)) ∙ begun.others k (omega (arith, behind));
       }
 
   -- all have

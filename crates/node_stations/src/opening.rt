@@ -7,7 +7,7 @@ use crate::station::Station;
 use code_checker::Checked;
 use field_rows::RowTables;
 use gf_tables::Field;
-use node_plans::Wiring;
+use node_plans::LiveWiring;
 use std::alloc::{AllocError, Global};
 use std::sync::Arc;
 
@@ -27,7 +27,7 @@ pub fn open_stations<F: Field>(
     ensures planned { IfOk result (λ stations.
         ArePlanned code.now pattern (relays_of stations.items) (sinks_of stations.items)) }
 {
-    let wiring = Wiring::of(alloc, code.code(), pattern)?;
+    let wiring = LiveWiring::of(alloc, code.code(), pattern)?;
     let tables = Arc::new(alloc, RowTables::new())?;
     let nodes = code.code().net.nodes.len();
     let mut stations = Vec::with_capacity(alloc, nodes)?;

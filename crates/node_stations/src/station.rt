@@ -16,7 +16,7 @@ use generation_frame::Packet;
 use gf_tables::Field;
 use lif_outside::{Failed, Links};
 use net_model::Demand;
-use node_plans::Wiring;
+use node_plans::LiveWiring;
 use relay_node::Node;
 use sink_decoder::Decoder;
 use std::alloc::{AllocError, Global};
@@ -43,7 +43,7 @@ impl<F: Field> Station<F> {
         code: &Checked,
         pattern: u32,
         node: u32,
-        wiring: &Wiring,
+        wiring: &LiveWiring,
         tables: &Arc<RowTables>,
     ) -> Result<Station<F>, AllocError>
         requires pattern { pattern < length code.now.net.patterns }
@@ -117,7 +117,7 @@ fn open_sink<F: Field>(
     code: &Checked,
     pattern: u32,
     node: u32,
-    wiring: &Wiring,
+    wiring: &LiveWiring,
     tables: &Arc<RowTables>,
 ) -> Result<Option<Decoder<F>>, AllocError>
     requires pattern { pattern < length code.now.net.patterns }

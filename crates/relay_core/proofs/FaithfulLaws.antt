@@ -1,35 +1,22 @@
 -- Where each payload is given as it was sent, all packets are those of the traffic.
-use Rattle.std.specs.Prelude.{◌≡◌, ◌≤◌, ◌<◌, ◌+◌, ◌-◌, ◌++◌, ◌∷◌, ℕ, Bool, true, false, List, [], All, if◌then◌else◌, length, map}
+use Rattle.std.specs.Prelude.{◌≡◌, ◌≤◌, ◌<◌, ◌+◌, ◌-◌, ◌++◌, ◌∷◌, ℕ, Bool, true, false, List, [], All, if◌then◌else◌, length}
 use Rattle.std.proofs.Common.{arith, get_or, inl, inr, refl, sym, ap, subst, ◌∙◌}
 use Rattle.std.proofs.lemmas.Bool.{cases_Bool}
 use Rattle.std.proofs.lemmas.List.Elements.{All-append, All-contains, All-cons, All-get_or, All-tail, All-weaker}
 use Rattle.std.proofs.lemmas.List.Folds.{list_any_at}
 use Rattle.std.proofs.lemmas.List.Sorted.{All-permutation}
-use Rattle.gf_tables.specs.declared.kind.FieldKind.{FieldKind}
-use Rattle.linear_algebra.specs.Elements.{bytes_of_row, elements_of}
-use Rattle.linear_algebra.specs.Rows.{combination}
 use Rattle.generation_frame.specs.declared.frame.Packet.{Packet}
 use Rattle.net_model.proofs.NetworkLaws.{passes_at}
 use Rattle.net_model.specs.Walks.{leaves_source}
-use Rattle.list_laws.proofs.Maps.{map-agree}
-use Rattle.node_program.specs.declared.Operand.{Operand}
 use Rattle.node_program.specs.declared.code.Code.{Code}
-use Rattle.coded_traffic.proofs.SumLaws.{payload-sum}
+use Rattle.coded_traffic.proofs.SumLaws.{payload-sum, sum_of-agree}
 use Rattle.coded_traffic.specs.CodeBlocks.{IsBlockOf}
-use Rattle.coded_traffic.specs.Traffic.{IsKey, Key, Window, block_at, is_same_key, key_of, live_operands, operand_payload, packet_of, payload_in, piece_width, sum_of}
+use Rattle.coded_traffic.specs.Traffic.{IsKey, Key, Window, block_at, is_same_key, key_of, live_operands, operand_payload, packet_of, payload_in}
 use Rattle.relay_core.specs.Core.{Delivery, IsStep, RelayState, has_key, has_operands, key_on, payload_of, summed}
 use Rattle.relay_core.specs.Runs.{AreOfTraffic, IsOfTraffic}
 use Rattle.relay_core.proofs.Kept.{Kept}
 use Rattle.relay_core.proofs.PacketLaws.{itself, payload_of-known}
 use Rattle.relay_core.proofs.StepLaws.{more-is}
-
--- sums of payloads that agree on each operand
-pub sum_of-agree : (field : FieldKind) (operands : List Operand) (payload other : Operand → List ℕ) → All (λ operand. payload operand ≡ other operand) operands
-    → sum_of field operands payload ≡ sum_of field operands other
-sum_of-agree field operands payload other agree =
-    let rows = map-agree (λ operand. elements_of field (payload operand)) (λ operand. elements_of field (other operand)) (λ operand. payload operand ≡ other operand)
-    (λ operand same. ap (elements_of field) same) operands agree in
-    ap (λ (rows : List (List ℕ)). bytes_of_row field (combination field (piece_width field) (map (λ operand. operand.times) operands) rows)) rows
 
 module _ (code : Code) (pattern : ℕ) (window : Window) (blocks : All (IsBlockOf code) window.blocks) where
   abbrev Is : Packet → Type 0

@@ -13,6 +13,13 @@ use Rattle.net_model.proofs.NetworkLaws.{passes_at}
 abbrev pub one_if : Bool → ℕ
 one_if test = cond test 1 0
 
+-- one of three tests, the second before the first
+pub or_turned : (a b c : Bool) → (a || (b || c)) ≡ ((b || a) || c)
+or_turned true true c = refl
+or_turned true false c = refl
+or_turned false true c = refl
+or_turned false false c = refl
+
 -- some items pass a test where their count isn't 0
 any-count : {X : Type 0} (test : X → Bool) (xs : List X) → list_any test xs ≡ nat_lt 0 (count_by test xs)
 any-count test [] = refl

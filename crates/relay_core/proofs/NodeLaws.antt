@@ -2,27 +2,23 @@
 -- link, and nothing where the pair's key was held.
 use Rattle.std.specs.Prelude.{◌≡◌, ℕ, Bool, true, false, Contains, []}
 use Rattle.std.proofs.Common.{arith, inl, inr, sym, ap, ◌∙◌}
-use Rattle.std.proofs.lemmas.Bool.{both_ways, cases_Bool, false≢true, or_cases, or_right}
+use Rattle.std.proofs.lemmas.Bool.{both_ways, cases_Bool, false≢true, or_cases}
 use Rattle.std.proofs.lemmas.List.Elements.{All-contains_itself, All-nil}
 use Rattle.node_program.specs.declared.Operand.{Operand}
 use Rattle.node_program.specs.declared.code.Code.{Code}
-use Rattle.coded_traffic.specs.Traffic.{IsKey, Key, Window, is_same_key, key_of, live_operands}
+use Rattle.coded_traffic.specs.Traffic.{Key, Window, is_same_key, key_of, live_operands}
 use Rattle.relay_core.specs.Core.{AreSent, Delivery, MaySend, RelayState, has_key, has_operands, held_after, key_on, summed}
-use Rattle.relay_core.proofs.Kept.{Kept}
+use Rattle.relay_core.proofs.Kept.{Kept, held-is}
 use Rattle.relay_core.proofs.ListLaws.{both, failing}
 use Rattle.relay_core.proofs.PacketLaws.{has_key-held_after, same_key}
 use Rattle.relay_core.proofs.StepLaws.{operands-are}
 
 module _ (code : Code) (pattern : ℕ) (window : Window) (state : RelayState) (kept : Kept code pattern window state) (node : ℕ) where
-  -- what is held is of the traffic
-  held-is : (key : Key) → has_key key state.held ≡ true → IsKey code pattern window key
-  held-is key has = kept.of_traffic key (kept.sent_is key ∙ or_right (has_key key state.flying) (has_key key state.held) has)
-
   -- by what is held nothing may be sent any more
   pub none-may : (key : Key) → MaySend code pattern node state.held state.sent key → ⊥
   none-may key may =
       both_ways (has_key key state.sent) may.unsent
-      (kept.saturated key (operands-are code pattern window state.held held-is key may.live may.operands) may.not_source may.operands)
+      (kept.saturated key (operands-are code pattern window state.held (held-is code pattern window state kept) key may.live may.operands) may.not_source may.operands)
 
   -- so nothing is sent once a pair is given whose key was held
   pub none-again : (delivery : Delivery) → has_key (key_of delivery.pair) state.held ≡ true

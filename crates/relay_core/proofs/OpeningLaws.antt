@@ -5,6 +5,7 @@ use Rattle.std.proofs.lemmas.Bool.{and_from, and_parts, false≢true}
 use Rattle.std.proofs.lemmas.List.Elements.{All-filter, All-map, All-nil}
 use Rattle.generation_frame.specs.declared.frame.Packet.{Packet}
 use Rattle.net_model.specs.Walks.{leaves_source}
+use Rattle.node_program.proofs.LiveLaws.{live-reads}
 use Rattle.node_program.specs.CodeValue.{reads_live_in}
 use Rattle.node_program.specs.Value.{operands_at}
 use Rattle.node_program.specs.declared.code.Code.{Code}
@@ -12,7 +13,6 @@ use Rattle.coded_traffic.specs.Traffic.{IsKey, Key, Window, is_same_key, key_of,
 use Rattle.relay_core.specs.Core.{has_key, has_operands, key_on, opening, packets_of, times_of}
 use Rattle.relay_core.specs.Runs.{AreOfTraffic, IsOfTraffic}
 use Rattle.relay_core.proofs.Kept.{Kept}
-use Rattle.relay_core.proofs.LinkLaws.{live-some}
 use Rattle.relay_core.proofs.ListLaws.{both_pass, count-filter}
 use Rattle.relay_core.proofs.PacketLaws.{has_key-passing}
 use Rattle.relay_core.proofs.TrafficLaws.{has_key-packets, is_key-packets, once-packets}
@@ -22,7 +22,7 @@ module _ (code : Code) (pattern : ℕ) (window : Window) where
   abbrev first : List Packet
   first = filter (λ packet. leaves_source code.net packet.link) (packets_of code pattern window)
 
-  has_key-first : (key : Key) → has_key key first ≡ (leaves_source code.net key.link && has_key key (packets_of code pattern window))
+  pub has_key-first : (key : Key) → has_key key first ≡ (leaves_source code.net key.link && has_key key (packets_of code pattern window))
   has_key-first key = has_key-passing (leaves_source code.net) key (packets_of code pattern window)
 
   once : (key : Key) → times_of key first ≤ 1
@@ -40,7 +40,7 @@ module _ (code : Code) (pattern : ℕ) (window : Window) where
   none_held : (key : Key) → IsKey code pattern window key → has_operands code pattern [] key ≡ true → ⊥
   none_held key is all =
       let found = both_pass (reads_live_in code pattern key.link) (λ operand. has_key (key_on operand.from key) [])
-      (operands_at code.operands key.link) (live-some code pattern key.link is.live) all in
+      (operands_at code.operands key.link) (live-reads code pattern key.link is.live) all in
       false≢true found.2
 
   pub opening-kept : Kept code pattern window (opening code pattern window)

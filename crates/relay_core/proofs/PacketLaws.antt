@@ -1,9 +1,11 @@
 -- Keys among packets.
-use Rattle.std.specs.Prelude.{◌≡◌, ◌≤◌, ◌+◌, ◌&&◌, ◌||◌, ◌==◌, ℕ, Bool, true, false, cond, List, [], ◌∷◌, All, count_by, filter, map}
+use Rattle.std.specs.Prelude.{◌≡◌, ◌≤◌, ◌+◌, ◌&&◌, ◌||◌, ◌==◌, ℕ, Bool, true, false, cond, IsPermutation, List, [], ◌∷◌, ◌++◌, All, count_by, filter, map}
 use Rattle.std.proofs.Common.{inl, inr, refl, sym, ap, ◌∙◌}
 use Rattle.std.proofs.lemmas.Bool.{and_from, and_parts, cases_Bool, eq-eqb, eqb-true, false≢true}
 use Rattle.std.proofs.lemmas.List.Elements.{All-head, All-tail}
-use Rattle.std.proofs.lemmas.List.Folds.{fold-map}
+use Rattle.std.proofs.lemmas.List.Folds.{fold-map, list_any-append}
+use Rattle.std.proofs.lemmas.List.Sorted.{list_any-IsPermutation}
+use Rattle.std.proofs.lemmas.List.Sums.{sum_by-append}
 use Rattle.generation_frame.specs.declared.frame.Packet.{Packet}
 use Rattle.coded_traffic.specs.Traffic.{Key, is_same_key, key_of}
 use Rattle.relay_core.specs.Core.{Delivery, has_key, held_after, payload_of, times_of}
@@ -36,6 +38,17 @@ times-has key packets has = count-some (λ packet. is_same_key (key_of packet) k
 
 pub times-none : (key : Key) (packets : List Packet) → has_key key packets ≡ false → times_of key packets ≡ 0
 times-none key packets none = count-none (λ packet. is_same_key (key_of packet) key) packets none
+
+-- how often a key stands among two lists
+pub times_of-append : (key : Key) (packets others : List Packet) → times_of key (packets ++ others) ≡ times_of key packets + times_of key others
+times_of-append key = sum_by-append (λ packet. cond (is_same_key (key_of packet) key) 1 0)
+
+-- whether a key stands among two lists, and after a permutation
+pub has_key-append : (key : Key) (packets others : List Packet) → has_key key (packets ++ others) ≡ (has_key key packets || has_key key others)
+has_key-append key = list_any-append (λ packet. is_same_key (key_of packet) key)
+
+pub has_key-permutation : (key : Key) (packets others : List Packet) → IsPermutation packets others → has_key key packets ≡ has_key key others
+has_key-permutation key = list_any-IsPermutation (λ packet. is_same_key (key_of packet) key)
 
 -- a key among packets of which the first may be left out
 has_key-cond : (b : Bool) (key : Key) (packet : Packet) (others : List Packet)

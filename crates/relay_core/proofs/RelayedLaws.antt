@@ -5,6 +5,7 @@ use Rattle.std.proofs.lemmas.Bool.{both_ways, cases_Bool, or_right}
 use Rattle.std.proofs.lemmas.List.Elements.{All-append, All-weaker, filter_passes}
 use Rattle.std.proofs.lemmas.List.Folds.{list_any_at}
 use Rattle.std.proofs.lemmas.List.Sorted.{All-permutation}
+use Rattle.coded_traffic.proofs.SumLaws.{sum_of-agree}
 use Rattle.generation_frame.specs.declared.frame.Packet.{Packet}
 use Rattle.net_model.proofs.NetworkLaws.{passes_at}
 use Rattle.net_model.specs.Walks.{leaves_source}
@@ -13,7 +14,6 @@ use Rattle.node_program.specs.declared.code.Code.{Code}
 use Rattle.coded_traffic.specs.Traffic.{Key, Window, is_same_key, key_of, live_operands, packet_of}
 use Rattle.relay_core.specs.Core.{Delivery, IsRun, IsStep, RelayState, has_key, has_operands, held_after, held_of, key_on, opening, packets_of, payload_of, summed}
 use Rattle.relay_core.specs.Runs.{AreRelayed}
-use Rattle.relay_core.proofs.FaithfulLaws.{sum_of-agree}
 use Rattle.relay_core.proofs.ListLaws.{all_pass}
 use Rattle.relay_core.proofs.OpeningLaws.{opening-faithful}
 use Rattle.relay_core.proofs.PacketLaws.{has_key-held_after, itself, same_key}

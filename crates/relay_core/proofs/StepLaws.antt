@@ -3,11 +3,12 @@ use Rattle.std.specs.Prelude.{◌≡◌, ◌≤◌, ◌+◌, ◌||◌, ◌++◌,
 use Rattle.std.proofs.Common.{arith, inl, inr, refl, sym, ap, subst, ◌∙◌}
 use Rattle.std.proofs.lemmas.Bool.{cases_Bool, cases_eq, or_cases, or_left, or_parts, or_right}
 use Rattle.std.proofs.lemmas.List.{length-append}
-use Rattle.std.proofs.lemmas.List.Folds.{list_any-append, list_any_at}
-use Rattle.std.proofs.lemmas.List.Sorted.{length_permutation, list_any-IsPermutation, sum_by-IsPermutation}
-use Rattle.std.proofs.lemmas.List.Sums.{sum_by-append, sum_by-cons}
+use Rattle.std.proofs.lemmas.List.Folds.{list_any_at}
+use Rattle.std.proofs.lemmas.List.Sorted.{length_permutation, sum_by-IsPermutation}
+use Rattle.std.proofs.lemmas.List.Sums.{sum_by-cons}
 use Rattle.generation_frame.specs.declared.frame.Packet.{Packet}
 use Rattle.net_model.specs.Walks.{head_of, leaves_source, tail_of}
+use Rattle.node_program.proofs.LiveLaws.{live-below, live-reads}
 use Rattle.node_program.specs.CodeValue.{is_live_in, reads_live_in}
 use Rattle.node_program.specs.Value.{operands_at}
 use Rattle.node_program.specs.declared.Operand.{Operand}
@@ -15,23 +16,13 @@ use Rattle.node_program.specs.declared.code.Code.{Code}
 use Rattle.coded_traffic.specs.Traffic.{IsKey, Key, Window, is_same_key, key_of, live_operands}
 use Rattle.relay_core.specs.Core.{AreSent, Delivery, IsStep, MaySend, RelayState, has_key, has_operands, key_on, times_of}
 use Rattle.relay_core.proofs.Kept.{Kept}
-use Rattle.relay_core.proofs.LinkLaws.{IsLiveInto, live-some, live-within, live_operands-into}
-use Rattle.relay_core.proofs.ListLaws.{all_pass, both, both_pass, one_if}
-use Rattle.relay_core.proofs.PacketLaws.{has_key-held_after, same_key, times-none}
+use Rattle.relay_core.proofs.LinkLaws.{IsLiveInto, live_operands-into}
+use Rattle.relay_core.proofs.ListLaws.{all_pass, both, both_pass, one_if, or_turned}
+use Rattle.relay_core.proofs.PacketLaws.{has_key-append, has_key-held_after, has_key-permutation, same_key, times-none, times_of-append}
 
--- how often a key stands among packets, after a permutation and among more
+-- how often a key stands among packets, after a permutation
 times-permutation : (key : Key) (packets others : List Packet) → IsPermutation packets others → times_of key others ≡ times_of key packets
 times-permutation key = sum_by-IsPermutation (λ packet. cond (is_same_key (key_of packet) key) 1 0)
-
-times-append : (key : Key) (packets others : List Packet) → times_of key (packets ++ others) ≡ times_of key packets + times_of key others
-times-append key = sum_by-append (λ packet. cond (is_same_key (key_of packet) key) 1 0)
-
--- whether it does
-has-permutation : (key : Key) (packets others : List Packet) → IsPermutation packets others → has_key key packets ≡ has_key key others
-has-permutation key = list_any-IsPermutation (λ packet. is_same_key (key_of packet) key)
-
-has-append : (key : Key) (packets others : List Packet) → has_key key (packets ++ others) ≡ (has_key key packets || has_key key others)
-has-append key = list_any-append (λ packet. is_same_key (key_of packet) key)
 
 -- tests of which one holds where the other does
 absorbed : (one other : Bool) → (one ≡ true → other ≡ true) → other ≡ (one || other)
@@ -40,26 +31,20 @@ absorbed false other holds = refl
 
 -- what is sent, flew or was held flies or is held, as tests
 moved : (more flew pair flies held : Bool) → (more || flew) ≡ (pair || flies) → (more || (flew || held)) ≡ (flies || (pair || held))
-moved more flew pair flies held e = joined more flew held ∙ ap (λ b. b || held) e ∙ apart pair flies held
+moved more flew pair flies held e = joined more flew held ∙ ap (λ b. b || held) e ∙ sym (or_turned flies pair held)
   where
     joined : (a b c : Bool) → (a || (b || c)) ≡ ((a || b) || c)
     joined true b c = refl
     joined false b c = refl
-
-    apart : (a b c : Bool) → ((a || b) || c) ≡ (b || (a || c))
-    apart true true c = refl
-    apart true false c = refl
-    apart false true c = refl
-    apart false false c = refl
 
 -- a key of a live link whose operands are held is of the traffic where all that is held is
 pub operands-are : (code : Code) (pattern : ℕ) (window : Window) (held : List Packet) → ((key : Key) → has_key key held ≡ true → IsKey code pattern window key)
     → (key : Key) → is_live_in code pattern key.link ≡ true → has_operands code pattern held key ≡ true → IsKey code pattern window key
 operands-are code pattern window held are key live all =
     let found = both_pass (reads_live_in code pattern key.link) (λ operand. has_key (key_on operand.from key) held)
-    (operands_at code.operands key.link) (live-some code pattern key.link live) all in
+    (operands_at code.operands key.link) (live-reads code pattern key.link live) all in
     let is = are (key_on found.0.from key) found.2 in
-    record { begun = is.begun; numbered = is.numbered; of_link = live-within code pattern key.link live; live = live; of_piece = is.of_piece }
+    record { begun = is.begun; numbered = is.numbered; of_link = live-below code pattern key.link live; live = live; of_piece = is.of_piece }
 
 -- no key of what is sent was sent before
 pub sent-more : (code : Code) (pattern node : ℕ) (held sent more : List Packet) → AreSent code pattern node held sent more
@@ -73,7 +58,7 @@ module _ (code : Code) (pattern : ℕ) (window : Window) (delivery : Delivery) (
 
   -- the keys of what was sent, of what is held and of what flies
   pub has-sent : (key : Key) → has_key key new.sent ≡ (has_key key step.more || has_key key old.sent)
-  has-sent key = sym (has-permutation key (step.more ++ old.sent) new.sent step.sent) ∙ has-append key step.more old.sent
+  has-sent key = sym (has_key-permutation key (step.more ++ old.sent) new.sent step.sent) ∙ has_key-append key step.more old.sent
 
   -- the pair's key flew
   pair-flew : (key : Key) → of_pair key ≡ true → has_key key old.flying ≡ true
@@ -86,7 +71,7 @@ module _ (code : Code) (pattern : ℕ) (window : Window) (delivery : Delivery) (
 
   -- what flew or is sent, flies or is the pair
   has-flying : (key : Key) → (has_key key step.more || has_key key old.flying) ≡ (of_pair key || has_key key new.flying)
-  has-flying key = by delivery.stays (sym (has-append key step.more old.flying) ∙ has-permutation key (step.more ++ old.flying) _ step.flying)
+  has-flying key = by delivery.stays (sym (has_key-append key step.more old.flying) ∙ has_key-permutation key (step.more ++ old.flying) _ step.flying)
     where
       by : (stays : Bool) → (has_key key step.more || has_key key old.flying) ≡ has_key key (if stays then new.flying else delivery.pair ∷ new.flying)
           → (has_key key step.more || has_key key old.flying) ≡ (of_pair key || has_key key new.flying)
@@ -96,7 +81,7 @@ module _ (code : Code) (pattern : ℕ) (window : Window) (delivery : Delivery) (
   -- so no more flies than flew and is sent
   times-flying : (key : Key) → times_of key new.flying ≤ times_of key step.more + times_of key old.flying
   times-flying key =
-      by delivery.stays (sym (times-append key step.more old.flying) ∙ sym (times-permutation key (step.more ++ old.flying) _ step.flying))
+      by delivery.stays (sym (times_of-append key step.more old.flying) ∙ sym (times-permutation key (step.more ++ old.flying) _ step.flying))
     where
       by : (stays : Bool) → times_of key step.more + times_of key old.flying ≡ times_of key (if stays then new.flying else delivery.pair ∷ new.flying)
           → times_of key new.flying ≤ times_of key step.more + times_of key old.flying
@@ -131,7 +116,7 @@ module _ (code : Code) (pattern : ℕ) (window : Window) (delivery : Delivery) (
     sent-once : (key : Key) → times_of key new.sent ≤ 1
     sent-once key =
         let all : times_of key new.sent ≡ times_of key step.more + times_of key old.sent =
-        times-permutation key (step.more ++ old.sent) new.sent step.sent ∙ times-append key step.more old.sent in
+        times-permutation key (step.more ++ old.sent) new.sent step.sent ∙ times_of-append key step.more old.sent in
         elim (cases_Bool (has_key key step.more)) [
           | inl has ↦ omega (arith, all, times-none key old.sent (sent-more code pattern _ new.held old.sent step.more step.sends key has), step.sends.once key)
           | inr none ↦ omega (arith, all, times-none key step.more none, kept.sent_once key)

@@ -14,7 +14,7 @@ use Rattle.node_plans.specs.declared.plan.Plan.{Plan}
 use Rattle.relay_node.specs.Relay.{Gives, IsAtMost, IsDue, IsNode, IsOut, Relay, input_at, is_given}
 use Rattle.relay_node.specs.Summands.{operands_at}
 use Rattle.relay_node.specs.Summed.{sum_at}
-use Rattle.list_laws.proofs.Positions.{place_in-found, place_in-within}
+use Rattle.item_list.proofs.Positions.{place_in-found, place_in-within}
 use Rattle.net_model.proofs.RisingLaws.{place_in-at, rising-below}
 use Rattle.relay_node.proofs.WorkLaws.{complete-same, relay, same_out, sum_count}
 

@@ -1,33 +1,24 @@
 -- Where what came to a node is the traffic of blocks, so is what it gives.
-use Rattle.std.specs.Prelude.{◌≡◌, ◌<◌, ◌==◌, ℕ, Bool, true, false, All, Contains, List, [], if◌then◌else◌, length, map}
+use Rattle.std.specs.Prelude.{◌≡◌, ◌<◌, ◌==◌, ℕ, Bool, true, false, All, Contains, List, [], if◌then◌else◌, length}
 use Rattle.std.proofs.Common.{refl, sym, ap, subst, ◌∙◌, arith, get_or}
 use Rattle.std.proofs.lemmas.List.Elements.{All-contains}
 use Rattle.std.proofs.lemmas.List.Sums.{AllPass-from_list_all}
-use Rattle.gf_tables.specs.declared.kind.FieldKind.{FieldKind}
 use Rattle.generation_frame.specs.Blocks.{piece_of_row, pieces}
 use Rattle.generation_frame.specs.declared.frame.Packet.{Packet}
-use Rattle.linear_algebra.specs.Elements.{bytes_of_row, elements_of}
-use Rattle.linear_algebra.specs.Rows.{combination}
+use Rattle.net_model.proofs.EndLaws.{leaves_source-tail}
 use Rattle.net_model.specs.Walks.{leaves_source, tail_of}
+use Rattle.node_program.proofs.LiveLaws.{live-below}
 use Rattle.node_program.specs.CodeValue.{is_live_in}
 use Rattle.node_program.specs.declared.Operand.{Operand}
 use Rattle.node_program.specs.declared.code.Code.{Code}
 use Rattle.coded_traffic.specs.CodeBlocks.{IsBlockOf, row_of}
-use Rattle.coded_traffic.specs.Traffic.{Window, block_at, key_of, live_operands, operand_payload, packet_of, payload_in, piece_width, sum_of}
-use Rattle.coded_traffic.proofs.SumLaws.{payload-sum}
-use Rattle.list_laws.proofs.Maps.{map-agree}
-use Rattle.list_laws.proofs.Positions.{Contains-place_in, place_in, place_in-within}
-use Rattle.node_plans.proofs.OrderLaws.{leaves_source-tail, live-below}
+use Rattle.coded_traffic.specs.Traffic.{Window, block_at, key_of, live_operands, operand_payload, packet_of, payload_in, sum_of}
+use Rattle.coded_traffic.proofs.SumLaws.{payload-sum, sum_of-agree}
+use Rattle.item_list.proofs.Positions.{Contains-place_in, place_in, place_in-within}
 use Rattle.node_plans.proofs.PlanLaws.{operands_of-live, outs-each}
 use Rattle.node_plans.specs.Plans.{IsPlan, input_count, input_place, operands_of, out_place, outs_of, plan_of}
 use Rattle.node_plans.specs.declared.plan.Plan.{Plan}
 use Rattle.relay_node.specs.Relay.{Gives, IsBegun, Relay, TakesTraffic, has_input, input_at}
-
--- sums of which each operand stands for the same are the same
-pub sum_of-agree : (field : FieldKind) (operands : List Operand) (f g : Operand → List ℕ) → All (λ operand. f operand ≡ g operand) operands → sum_of field operands f ≡ sum_of field operands g
-sum_of-agree field operands f g same =
-    ap (λ (rows : List (List ℕ)). bytes_of_row field (combination field (piece_width field) (map (λ (operand : Operand). operand.times) operands) rows))
-    (map-agree (λ (operand : Operand). elements_of field (f operand)) (λ (operand : Operand). elements_of field (g operand)) (λ operand. f operand ≡ g operand) (λ operand is. ap (elements_of field) is) operands same)
 
 module _ (code : Code) (pattern node : ℕ) (link : ℕ) (stands : Contains (outs_of code pattern node) link) where
   pub out : (is_live_in code pattern link ≡ true) × (tail_of code.net.links link ≡ node)

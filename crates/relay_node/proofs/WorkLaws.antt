@@ -15,7 +15,7 @@ use Rattle.node_plans.specs.declared.plan.Plan.{Plan}
 use Rattle.node_program.specs.declared.Operand.{Operand}
 use Rattle.relay_node.specs.Feeding.{AreRowsTaken}
 use Rattle.relay_node.specs.Relay.{Gains, HasNothing, IsBegun, IsFed, IsNode, Relay, is_complete}
-use Rattle.list_laws.proofs.Positions.{place_in, place_in-found, place_in-within}
+use Rattle.item_list.proofs.Positions.{place_in, place_in-found, place_in-within}
 
 -- the source has no links into it
 pub not_source : (plan : Plan) (link : ℕ) → IsPlan plan → Contains plan.ins link → plan.is_source ≡ false

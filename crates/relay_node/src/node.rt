@@ -20,7 +20,7 @@ use due_sums::DueSums;
 use field_rows::RowTables;
 use generation_frame::{Accepted, MOST_BLOCKS, Packet};
 use gf_tables::Field;
-use node_plans::{PlaceTable, Plan, Wiring, sum_table};
+use node_plans::{LiveWiring, PlaceTable, Plan, sum_table};
 use node_program::Code;
 use std::alloc::{AllocError, Global};
 use std::marker::{Model, PhantomData};
@@ -79,7 +79,7 @@ fn planned(
     code: &Code,
     pattern: u32,
     node: u32,
-    wiring: &Wiring,
+    wiring: &LiveWiring,
 ) -> Result<(Plan, DueSums, Summands), AllocError>
     requires pattern { pattern < length code.now.net.patterns }
     requires node { node < length code.now.net.nodes }
@@ -130,7 +130,7 @@ impl<F: Field> Node<F> {
         ensures count { IfOk result (λ opened. opened.count ≡ 0) }
         ensures nothing { IfOk result HasNothing }
     {
-        let wiring = Wiring::of(alloc, code.code(), pattern)?;
+        let wiring = LiveWiring::of(alloc, code.code(), pattern)?;
         let tables = Arc::new(alloc, RowTables::new())?;
         Node::open_with(alloc, code, pattern, node, &wiring, &tables)
     }
@@ -142,7 +142,7 @@ impl<F: Field> Node<F> {
         code: &Checked,
         pattern: u32,
         node: u32,
-        wiring: &Wiring,
+        wiring: &LiveWiring,
         tables: &Arc<RowTables>,
     ) -> Result<Node<F>, AllocError>
         requires pattern { pattern < length code.now.net.patterns }

@@ -11,7 +11,7 @@ use Rattle.coded_traffic.specs.Traffic.{Key, Window, block_at}
 use Rattle.generation_frame.specs.Blocks.{row_bytes}
 use Rattle.generation_frame.specs.declared.frame.Packet.{Packet}
 use Rattle.lif_outside.specs.Moves.{Move, flights_given}
-use Rattle.list_laws.proofs.Tests.{passes_at}
+use Rattle.item_list.proofs.Tests.{passes_at}
 use Rattle.net_model.proofs.ListLaws.{IsDistinct-from_are_distinct}
 use Rattle.net_model.specs.Lists.{are_distinct}
 use Rattle.net_model.specs.Network.{is_sink_among}

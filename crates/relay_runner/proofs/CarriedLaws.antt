@@ -1,6 +1,6 @@
 -- A window that was carried, told by the calls on the links alone.
-use Rattle.std.specs.Prelude.{◌≡◌, ◌<◌, ◌≤◌, ◌+◌, ◌||◌, ◌∷◌, ◌↔◌, ℕ, Bool, true, false, List, [], Option, count_by, length, map}
-use Rattle.std.proofs.Common.{◌∙◌, ap, arith, refl, subst, sym}
+use Rattle.std.specs.Prelude.{◌≡◌, ◌<◌, ◌≤◌, ◌+◌, ◌||◌, ◌∷◌, ◌↔◌, ℕ, Bool, true, List, [], Option, count_by, length, map}
+use Rattle.std.proofs.Common.{◌∙◌, ap, arith, subst, sym}
 use Rattle.std.proofs.Math.Bool.{or-false}
 use Rattle.coded_traffic.specs.Traffic.{IsKey, Key, Window, block_at, is_same_key, key_of}
 use Rattle.generation_frame.specs.declared.frame.Packet.{Packet}
@@ -12,6 +12,7 @@ use Rattle.node_program.specs.declared.code.Code.{Code}
 use Rattle.node_stations.specs.Decoded.{decoded_of}
 use Rattle.node_stations.specs.Opening.{demand_of}
 use Rattle.node_stations.specs.Putting.{flight_of}
+use Rattle.relay_core.proofs.ListLaws.{or_turned}
 use Rattle.relay_core.proofs.PacketLaws.{has_key-held_after}
 use Rattle.relay_core.specs.Core.{Delivery, IsFaithful, RelayState, has_key, held_after, held_of, payload_of}
 use Rattle.relay_core.specs.Runs.{AreRelayed, Reaches}
@@ -29,19 +30,13 @@ use Rattle.relay_runner.specs.Runner.{IsSameWork}
 use Rattle.relay_runner.specs.Running.{IsRunning, Running}
 use Rattle.relay_runner.specs.Showing.{packets_in}
 
--- one of three tests, the second before the first
-or_second : (first second third : Bool) → ((first || second) || third) ≡ (second || (first || third))
-or_second true true third = refl
-or_second true false third = refl
-or_second false second third = refl
-
 -- the keys held after some deliveries are those held before and those given
 has-held_of : (key : Key) (run : List Delivery) (held : List Packet) → has_key key (held_of run held) ≡ (has_key key held || has_key key (map packet_given run))
 has-held_of key [] held = sym (or-false (has_key key held))
 has-held_of key (delivery ∷ run) held =
     has-held_of key run (held_after delivery held)
     ∙ ap (λ (b : Bool). b || has_key key (map packet_given run)) (has_key-held_after key delivery held)
-    ∙ or_second (is_same_key (key_of delivery.pair) key) (has_key key held) (has_key key (map packet_given run))
+    ∙ sym (or_turned (has_key key held) (is_same_key (key_of delivery.pair) key) (has_key key (map packet_given run)))
 
 module _ (code : Code) (pattern : ℕ) (window : Window) (run : List Delivery) (relays : List Relay) (sinks : List (Option Receiver)) (state : RelayState)
     (running : IsRunning code pattern window run relays sinks [] state) (reaches : Reaches code pattern window run state)

@@ -13,15 +13,15 @@ use Rattle.coded_traffic.specs.Traffic.{IsKey, Key, Window, is_same_key, key_of,
 use Rattle.generation_frame.specs.Blocks.{most_blocks, pieces}
 use Rattle.generation_frame.specs.declared.frame.Packet.{Packet}
 use Rattle.node_plans.proofs.ListLaws.{length-filter-le}
-use Rattle.node_plans.proofs.OrderLaws.{live-below}
 use Rattle.node_plans.specs.declared.plan.Plan.{Plan}
+use Rattle.node_program.proofs.LiveLaws.{live-below}
 use Rattle.node_program.specs.CodeValue.{is_live_in}
 use Rattle.node_program.specs.declared.code.Code.{Code}
-use Rattle.node_stations.proofs.GivingLaws.{has_key-append, or_none, shown_after, times_more}
+use Rattle.node_stations.proofs.GivingLaws.{or_none, shown_after, times_more}
 use Rattle.node_stations.specs.Delivering.{NodeTakes}
 use Rattle.node_stations.specs.Shown.{GivesEach, IsFedAll, ShowsSent, WorksOn}
 use Rattle.relay_core.proofs.ListLaws.{length-fewer}
-use Rattle.relay_core.proofs.PacketLaws.{itself, same_key, times-none, times_of-map}
+use Rattle.relay_core.proofs.PacketLaws.{has_key-append, itself, same_key, times-none, times_of-map}
 use Rattle.relay_core.proofs.RunLaws.{reached-kept}
 use Rattle.relay_core.proofs.StepLaws.{step-count}
 use Rattle.relay_core.specs.Core.{Delivery, IsRun, RelayState, has_key, opening, times_of}

@@ -13,7 +13,7 @@ use Rattle.linear_algebra.proofs.EntryLaws.{concat-rows_of}
 use Rattle.linear_algebra.specs.Elements.{bytes_of_row, elements_of}
 use Rattle.linear_algebra.specs.Matrices.{matrix_times}
 use Rattle.linear_algebra.specs.Rows.{zero_row}
-use Rattle.list_laws.proofs.Maps.{same_made}
+use Rattle.item_list.proofs.Maps.{same_made}
 use Rattle.net_model.specs.Demands.{demand_count, pattern_of_demand}
 use Rattle.net_model.specs.Failed.{failed_links}
 use Rattle.node_program.proofs.DecodingLaws.{decoder_of_demand}

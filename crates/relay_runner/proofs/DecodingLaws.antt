@@ -2,24 +2,17 @@
 use Rattle.std.specs.Prelude.{◌≡◌, ◌<◌, ◌≤◌, ◌+◌, ◌-◌, ◌*◌, ℕ, List, None, Option, Some, drop, length, slice_get, take}
 use Rattle.std.specs.Option.{option_map}
 use Rattle.std.proofs.Common.{◌∙◌, ap, arith, get_or, inl, inr, refl, subst, sym}
-use Rattle.std.proofs.Math.Nat.{add-mul, mul-le-mul_right}
 use Rattle.std.proofs.lemmas.Bool.{cases_lt}
 use Rattle.std.proofs.lemmas.List.{length-map}
 use Rattle.std.proofs.lemmas.Option.{none-some, same_Some, slice_get-map, slice_get_read, slice_get_within}
 use Rattle.std.proofs.lemmas.Slice.{between-put_mid, between_is, take-put_mid_below}
+use Rattle.item_list.proofs.Places.{row_end}
 use Rattle.node_program.specs.declared.code.Code.{Code}
 use Rattle.node_stations.specs.Table.{sinks_of}
 use Rattle.node_stations.specs.declared.station.Station.{Station}
 use Rattle.sink_decoder.specs.Receiving.{Receiver}
 use Rattle.relay_runner.specs.Decoding.{CanDecode, StandsAt, block_in}
 use borrow.Rule.Slice.PartMut.{put_mid}
-
--- a place below a count ends before as many blocks
-pub block-end : (place count size : ℕ) → place < count → place * size + size ≤ count * size
-block-end place count size low =
-    let next : (place + 1) * size ≡ place * size + 1 * size = add-mul place 1 size in
-    let few : (place + 1) * size ≤ count * size = mul-le-mul_right size (omega (arith, low)) in
-    omega (arith, next, few)
 
 -- one that is written stands at its place
 module _ (size : ℕ) (blocks block : List ℕ) (place : ℕ) (within : place * size + size ≤ length blocks) (long : length block ≡ size) where
@@ -37,7 +30,7 @@ module _ (size : ℕ) (blocks block : List ℕ) (place : ℕ) (within : place * 
   block-before k before earlier =
       let end = before * size + size in
       let width : end - before * size ≡ size = omega arith in
-      let below : end ≤ place * size = block-end before place size earlier in
+      let below : end ≤ place * size = row_end before place size earlier in
       ap (λ n. take n (drop (before * size) (written k))) (sym width)
       ∙ between_is (written k) (before * size) end
       ∙ ap (λ (bytes : List ℕ). drop (before * size) bytes) (take-put_mid_below (place * size) k blocks block end below (omega (arith, within)))

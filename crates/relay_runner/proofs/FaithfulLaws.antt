@@ -8,7 +8,7 @@ use Rattle.failure_patterns.proofs.DemandLaws.{demand_of_number, number_within}
 use Rattle.generation_frame.specs.declared.frame.Packet.{Packet}
 use Rattle.net_model.specs.Demands.{pattern_of_demand}
 use Rattle.net_model.specs.declared.Demand.{Demand}
-use Rattle.node_plans.proofs.OrderLaws.{live-below}
+use Rattle.node_program.proofs.LiveLaws.{live-below}
 use Rattle.node_program.specs.Decoding.{IsAccepted}
 use Rattle.node_program.specs.declared.code.Code.{Code}
 use Rattle.node_stations.specs.Decoded.{decoded_of}

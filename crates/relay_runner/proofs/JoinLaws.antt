@@ -10,6 +10,7 @@ use Rattle.std.proofs.lemmas.List.Folds.{list_any-append, list_any_at}
 use Rattle.std.proofs.lemmas.List.Sorted.{IsPermutation-append}
 use Rattle.std.proofs.lemmas.List.Sums.{sum_by-append}
 use Rattle.coded_traffic.proofs.KeyLaws.{keys-are}
+use Rattle.coded_traffic.proofs.SumLaws.{sum_of-agree}
 use Rattle.coded_traffic.specs.Traffic.{IsKey, Key, Window, block_at, is_same_key, key_of, keys_of, live_links_of, live_operands, packet_of, pair_of, payload_in, traffic_of}
 use Rattle.failure_patterns.proofs.DemandLaws.{demand_of_number}
 use Rattle.generation_frame.specs.Blocks.{pieces}
@@ -18,18 +19,17 @@ use Rattle.lif_outside.proofs.OpenLaws.{still-closed}
 use Rattle.lif_outside.specs.MoveLaws.{flights_given-append, pairs_put-append}
 use Rattle.lif_outside.specs.Moves.{Move, flights_given, is_fault, pairs_put, took_none}
 use Rattle.lif_outside.specs.declared.links.Flight.{Flight}
-use Rattle.list_laws.proofs.Maps.{map-agree}
+use Rattle.item_list.proofs.Maps.{map-agree}
 use Rattle.net_model.specs.Demands.{pattern_of_demand}
 use Rattle.net_model.specs.Walks.{leaves_source}
 use Rattle.net_model.specs.declared.Demand.{Demand}
+use Rattle.node_program.proofs.LiveLaws.{live-below}
 use Rattle.node_program.specs.CodeValue.{is_live_in}
 use Rattle.node_program.specs.declared.code.Code.{Code}
 use Rattle.node_stations.proofs.DecodedLaws.{decoded-same}
 use Rattle.node_stations.specs.Decoded.{decoded_of}
 use Rattle.node_stations.specs.Opening.{demand_of}
 use Rattle.node_stations.specs.Putting.{flight_of}
-use Rattle.relay_core.proofs.FaithfulLaws.{sum_of-agree}
-use Rattle.relay_core.proofs.LinkLaws.{live-within}
 use Rattle.relay_core.proofs.PacketLaws.{itself, times-none}
 use Rattle.relay_core.specs.Core.{has_key, key_on, payload_of, summed, times_of}
 use Rattle.relay_core.specs.Runs.{AreRelayed}
@@ -101,7 +101,7 @@ module _ {faithful : Bool} {code : Code} {pattern : ℕ} {first : Window} {moves
       decoded-same code (demand_of code pattern place) (packets_given (moves ++ later)) (packets_given moves) generation (λ link piece among is_live low.
       let key : Key = record { link = link; generation = generation; piece = piece } in
       let live : is_live_in code pattern link ≡ true = ap (λ p. is_live_in code p link) (sym (pattern-demand code pattern place within)) ∙ is_live in
-      let is : IsKey code pattern first key = record { begun = begun; numbered = numbered; of_link = live-within code pattern link live; live = live; of_piece = low } in
+      let is : IsKey code pattern first key = record { begun = begun; numbered = numbered; of_link = live-below code pattern link live; live = live; of_piece = low } in
       ap (λ (packets : List Packet). payload_of packets key) (packets_given-append moves later)
       ∙ payload_of-first (packets_given moves) (packets_given later) key ((one.came key).1 is))
 

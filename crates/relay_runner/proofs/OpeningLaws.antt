@@ -1,11 +1,12 @@
 -- What the source gives of the blocks that it was fed is the opening state: the nodes and the sinks show it, and what was put flies.
-use Rattle.std.specs.Prelude.{◌≡◌, ◌≢◌, ◌≤◌, ◌+◌, ◌^◌, ◌==◌, ◌&&◌, ◌||◌, ◌++◌, ℕ, Bool, true, false, All, Contains, IsPermutation, List, [], ◌∷◌, Option, Some, None, filter, length, slice_get}
+use Rattle.std.proofs.lemmas.Option.{same_Some}
+use Rattle.std.specs.Prelude.{◌≡◌, ◌≢◌, ◌≤◌, ◌+◌, ◌^◌, ◌==◌, ◌&&◌, ◌||◌, ◌++◌, ℕ, Bool, true, false, All, Contains, IsPermutation, List, [], ◌∷◌, Option, Some, filter, length, slice_get}
 use Rattle.std.proofs.Common.{refl, sym, ap, subst, ◌∙◌, arith, get_or, inl, inr}
 use Rattle.std.proofs.lemmas.Bool.{and_parts, cases_Bool, eqb-false, eqb-true, false≢true, ne_eqb}
 use Rattle.std.proofs.lemmas.List.{append-nil}
 use Rattle.std.proofs.lemmas.List.Elements.{All-contains, All-nil}
 use Rattle.std.proofs.lemmas.List.Folds.{list_any_at}
-use Rattle.std.proofs.lemmas.List.Sorted.{All-permutation, IsPermutation-trans, list_any-IsPermutation}
+use Rattle.std.proofs.lemmas.List.Sorted.{All-permutation, IsPermutation-trans}
 use Rattle.coded_traffic.specs.Traffic.{Key, Window, is_same_key, key_of}
 use Rattle.generation_frame.specs.Frames.{Fits}
 use Rattle.generation_frame.specs.declared.frame.Packet.{Packet}
@@ -18,12 +19,14 @@ use Rattle.node_plans.specs.Plans.{ins_of, outs_of, place_of}
 use Rattle.node_plans.specs.declared.plan.Plan.{Plan}
 use Rattle.node_program.specs.CodeValue.{is_live_in}
 use Rattle.node_program.specs.declared.code.Code.{Code}
-use Rattle.node_stations.proofs.GivingLaws.{has_key-append, or_turned, shown_after}
+use Rattle.node_stations.proofs.GivingLaws.{shown_after}
 use Rattle.node_stations.proofs.SourceLaws.{source-gives}
-use Rattle.node_stations.specs.Opening.{IsAt, demand_of}
+use Rattle.node_stations.specs.Opening.{demand_of}
 use Rattle.node_stations.specs.Putting.{puts_of}
 use Rattle.node_stations.specs.Shown.{GivesEach, IsInto, IsReplaced, Shows, ShowsHeld, ShowsSent, ShowsSink, WorksOn}
-use Rattle.relay_core.proofs.PacketLaws.{has_key-passing, itself}
+use Rattle.relay_core.proofs.ListLaws.{or_turned}
+use Rattle.relay_core.proofs.OpeningLaws.{has_key-first}
+use Rattle.relay_core.proofs.PacketLaws.{has_key-append, has_key-permutation, itself}
 use Rattle.relay_core.proofs.TrafficLaws.{is_key-packets}
 use Rattle.relay_core.specs.Core.{has_key, opening, packets_of}
 use Rattle.relay_node.proofs.TrafficLaws.{leaves_source-out}
@@ -31,6 +34,7 @@ use Rattle.relay_node.specs.Relay as nodes
 use Rattle.relay_node.specs.Relay.{IsDue, IsOut, Relay}
 use Rattle.sink_decoder.specs.Receiving.{Receiver}
 use Rattle.relay_runner.proofs.FlyingLaws.{PutsFly, fits-key, puts-fly}
+use Rattle.relay_runner.proofs.PlannedLaws.{at_place}
 use Rattle.relay_runner.specs.Ready.{AreReady, IsReadySink}
 use Rattle.relay_runner.specs.Showing.{IsPair, IsShown, ShowSinks, packets_in}
 
@@ -38,20 +42,6 @@ use Rattle.relay_runner.specs.Showing.{IsPair, IsShown, ShowSinks, packets_in}
 or_false : (b : Bool) → (b || false) ≡ b
 or_false true = refl
 or_false false = refl
-
--- whether a key stands among packets, after a permutation
-has-permutation : (key : Key) (packets others : List Packet) → IsPermutation packets others → has_key key packets ≡ has_key key others
-has-permutation key = list_any-IsPermutation (λ packet. is_same_key (key_of packet) key)
-
--- the item found, where two are
-same_found : {X : Type 0} (one other : X) → Some one ≡ Some other → one ≡ other
-same_found one other same = cc
-
--- what holds of the sink at a place where something else does
-pub at_place : (P Q : ℕ → Receiver → Type 0) → ((place : ℕ) (sink : Receiver) → P place sink → Q place sink)
-    → (place : Option ℕ) (sink : Option Receiver) → IsAt P place sink → IsAt Q place sink
-at_place P Q then None sink is = is
-at_place P Q then (Some place) sink is = (is.0, is.1, then place is.0 is.2)
 
 -- what was given is shown besides what was sent
 shown-each : (more : List Packet) (old new : Relay) (sent : List Packet) → ShowsSent old sent → GivesEach old more new → ShowsSent new (more ++ sent)
@@ -76,16 +66,13 @@ module _ (code : Code) (pattern : ℕ) (window : Window) where
   abbrev first : List Packet
   first = filter (λ packet. leaves_source code.net packet.link) (packets_of code pattern window)
 
-  has_key-first : (key : Key) → has_key key first ≡ (leaves_source code.net key.link && has_key key (packets_of code pattern window))
-  has_key-first key = has_key-passing (leaves_source code.net) key (packets_of code pattern window)
-
   -- it fits into frames
   first-fit : window.first + length window.blocks ≤ 2 ^ 32 → All Fits first
   first-fit short k d within =
       let packet = get_or first k d in
       let has : has_key (key_of packet) first ≡ true =
       list_any_at (λ other. is_same_key (key_of other) (key_of packet)) first k d within (itself (key_of packet)) in
-      let among = (and_parts _ _ (sym (has_key-first (key_of packet)) ∙ has)).1 in
+      let among = (and_parts _ _ (sym (has_key-first code pattern window (key_of packet)) ∙ has)).1 in
       fits-key code pattern window packet short (is_key-packets code pattern window (key_of packet) among)
 
   -- no packet of it is on a link out of another node than the source
@@ -93,7 +80,7 @@ module _ (code : Code) (pattern : ℕ) (window : Window) where
       → has_key key first ≡ false
   not-first node relay key works other is =
       let leaves : Contains (outs_of code pattern node) key.link = subst (λ (plan : Plan). Contains plan.outs key.link) works.plan is.leaves in
-      has_key-first key
+      has_key-first code pattern window key
       ∙ ap (λ b. b && has_key key (packets_of code pattern window)) (leaves_source-out code pattern node key.link leaves ∙ ne_eqb node code.net.source other)
 
   -- to a node to which nothing came nothing is held
@@ -145,7 +132,7 @@ module _ (code : Code) (pattern : ℕ) (window : Window) where
     source-sent : ShowsSent new first
     source-sent key is =
         shown-each more source new [] (λ key is. (ready.source source at_source).not_given key is) each key is
-        ∙ has_key-append key more [] ∙ or_false (has_key key more) ∙ sym (has-permutation key first more gives-first)
+        ∙ has_key-append key more [] ∙ or_false (has_key key more) ∙ sym (has_key-permutation key first more gives-first)
 
     -- all nodes show that it was sent and that nothing is held
     nodes-shown : Shows code pattern window after [] first
@@ -155,7 +142,7 @@ module _ (code : Code) (pattern : ℕ) (window : Window) where
           shows = λ node relay at. elim (cases_Bool (node == code.net.source)) [
             | inl same ↦
                 let is : node ≡ code.net.source = eqb-true node code.net.source same in
-                let found : new ≡ relay = same_found new relay (sym replaced.at ∙ ap (slice_get after) (sym is) ∙ at) in
+                let found : new ≡ relay = same_Some new relay (sym replaced.at ∙ ap (slice_get after) (sym is) ∙ at) in
                 let works = works-each code.net.source more source new (ready.works code.net.source source at_source) each in
                 subst (λ (r : Relay). ShowsHeld code pattern node window r []) found
                 (subst (λ n. ShowsHeld code pattern n window new []) (sym is) (source-held new works))
@@ -167,7 +154,7 @@ module _ (code : Code) (pattern : ℕ) (window : Window) where
           shown = λ node relay at. elim (cases_Bool (node == code.net.source)) [
             | inl same ↦
                 let is : node ≡ code.net.source = eqb-true node code.net.source same in
-                let found : new ≡ relay = same_found new relay (sym replaced.at ∙ ap (slice_get after) (sym is) ∙ at) in
+                let found : new ≡ relay = same_Some new relay (sym replaced.at ∙ ap (slice_get after) (sym is) ∙ at) in
                 subst (λ (r : Relay). ShowsSent r first) found source-sent
             | inr apart ↦
                 let other : node ≢ code.net.source = eqb-false node code.net.source apart in

@@ -1,8 +1,9 @@
 -- All sinks show what is held after a delivery, where the one at the link's head takes the packet.
+use Rattle.std.proofs.lemmas.Option.{same_Some}
 use Rattle.std.specs.Prelude.{◌≡◌, ◌≢◌, ◌<◌, ◌==◌, ℕ, true, false, Contains, IsTrue, List, [], Option, Some, None, length, slice_get, slice_index}
 use Rattle.std.specs.Option.{option_map_or}
 use Rattle.std.proofs.Common.{◌∙◌, ap, arith, get_or, inl, inr, refl, subst, sym}
-use Rattle.std.proofs.lemmas.Bool.{cases_Bool, eqb-false, eqb-true, false_from_ne_true, false≢true}
+use Rattle.std.proofs.lemmas.Bool.{cases_Bool, eqb-false, eqb-true, false_from_ne_true}
 use Rattle.std.proofs.lemmas.List.{length-map}
 use Rattle.std.proofs.lemmas.List.Elements.{All-contains, Contains-get_or}
 use Rattle.std.proofs.lemmas.List.Quantifiers.{position-Some}
@@ -12,9 +13,9 @@ use Rattle.failure_patterns.proofs.DemandLaws.{number_within}
 use Rattle.generation_frame.specs.declared.frame.Packet.{Packet}
 use Rattle.net_model.specs.Demands.{demand_count, pattern_of_demand, sink_of_demand}
 use Rattle.net_model.specs.Walks.{head_of}
-use Rattle.net_model.specs.declared.Link.{Link}
 use Rattle.node_plans.specs.Plans.{place_of}
 use Rattle.node_program.proofs.DecodingLaws.{decoder_of_demand}
+use Rattle.node_program.proofs.LinkLaws.{head_of-leads_into}
 use Rattle.node_program.specs.Code.{leads_into}
 use Rattle.node_program.specs.CodeValue.{is_live_in}
 use Rattle.node_program.specs.declared.Decoder.{Decoder}
@@ -30,14 +31,6 @@ use Rattle.sink_decoder.specs.Receiving.{Receiver, SinkPlan, links_of, sink_plan
 use Rattle.relay_runner.proofs.ReceivingLaws.{received}
 use Rattle.relay_runner.specs.Delivered.{packet_given}
 use Rattle.relay_runner.specs.Showing.{ShowSinks}
-
--- the head of a link that leads into a node
-head-leads : (links : List Link) (node link : ℕ) → leads_into links node link ≡ true → head_of links link ≡ node
-head-leads links node link into = by (slice_get links link) into
-  where
-    by : (found : Option Link) → option_map_or (λ l. l.head == node) found false ≡ true → option_map_or (λ l. l.head) found 0 ≡ node
-    by None into = absurd (false≢true into)
-    by (Some l) into = eqb-true l.head node into
 
 -- a link that a demand's sink wants is one of its decoder's
 wanted-among : (code : Code) (demand link : ℕ) → wants (sink_plan_of code demand) link ≡ true → Contains (links_of code demand) link
@@ -57,7 +50,7 @@ wanted-into code demand link within wanted =
     let links : links_of code demand ≡ found.0.links = ap (λ (o : Option Decoder). option_map_or (λ decoder. decoder.links) o []) found.1 in
     let among : Contains found.0.links link = subst (λ (ls : List ℕ). Contains ls link) links (wanted-among code demand link wanted) in
     let sink = sink_of_demand code.net demand in
-    head-leads code.net.links sink link (All-contains (λ l. IsTrue (leads_into code.net.links sink l)) found.0.links link found.2.into_sink among)
+    head_of-leads_into code.net.links sink link (All-contains (λ l. IsTrue (leads_into code.net.links sink l)) found.0.links link found.2.into_sink among)
 
 -- a sink wants no link that leads elsewhere
 unwanted-elsewhere : (code : Code) (pattern node place link : ℕ) → pattern < length code.net.patterns → place_of code node ≡ Some place
@@ -114,7 +107,7 @@ module _ (code : Code) (pattern : ℕ) (window : Window) (delivery : Delivery) (
         at = λ node sink at. elim (cases_Bool (node == head)) [
           | inl same ↦
               let here : node ≡ head = eqb-true node head same in
-              let found : new ≡ sink = same_found new sink (sym replaced.at ∙ ap (slice_get after) (sym here) ∙ at) in
+              let found : new ≡ sink = same_Some new sink (sym replaced.at ∙ ap (slice_get after) (sym here) ∙ at) in
               subst (λ n. IsAt (Showing (held_after delivery held)) (place_of code n) sink) (sym here)
               (subst (IsAt (Showing (held_after delivery held)) (place_of code head)) found (at-head (place_of code head) old new (all.at head old was) takes))
           | inr apart ↦
@@ -122,6 +115,3 @@ module _ (code : Code) (pattern : ℕ) (window : Window) (delivery : Delivery) (
               at-other node sink (λ here. differs (sym here)) (all.at node sink (sym (replaced.others node differs) ∙ at))
         ];
       }
-    where
-      same_found : (one other : Option Receiver) → Some one ≡ Some other → one ≡ other
-      same_found one other same = cc

@@ -13,7 +13,7 @@ use Rattle.node_stations.specs.Table.{AreOpened}
 use Rattle.relay_core.specs.Core.{opening}
 use Rattle.relay_node.specs.Relay.{Relay}
 use Rattle.sink_decoder.specs.Receiving.{Receiver}
-use Rattle.relay_runner.proofs.OpeningLaws.{at_place}
+use Rattle.relay_runner.proofs.PlannedLaws.{at_place}
 use Rattle.relay_runner.specs.Running.{StandAt}
 use Rattle.relay_runner.specs.Showing.{IsPair}
 

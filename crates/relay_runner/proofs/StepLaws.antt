@@ -1,7 +1,7 @@
 -- A pair that links gave, and what is put then, are a step of the core, after which all is shown as before it.
 use Rattle.std.specs.Prelude.{◌≡◌, ◌≤◌, ◌<◌, ◌+◌, ◌^◌, ◌++◌, ◌∷◌, ℕ, Bool, true, false, All, Contains, IsPermutation, List, Option, Some, if◌then◌else◌, length, slice_get}
 use Rattle.std.proofs.Common.{◌∙◌, get_or, inl, inr, refl, subst, sym}
-use Rattle.std.proofs.lemmas.Bool.{or_cases, or_left, or_right}
+use Rattle.std.proofs.lemmas.Bool.{or_cases, or_left}
 use Rattle.std.proofs.lemmas.List.Elements.{All-contains, All-weaker}
 use Rattle.std.proofs.lemmas.List.Folds.{list_any_at}
 use Rattle.std.proofs.lemmas.List.Sorted.{All-permutation, Contains-permutation, IsPermutation-append_right, IsPermutation-cons, IsPermutation-middle, IsPermutation-refl, IsPermutation-sym, IsPermutation-trans}
@@ -16,7 +16,7 @@ use Rattle.node_stations.proofs.StateLaws.{shows-after, step-made}
 use Rattle.node_stations.specs.Delivering.{AtSink, SinkTakes}
 use Rattle.node_stations.specs.Putting.{puts_of}
 use Rattle.node_stations.specs.Shown.{IsReplaced, ShowsHeld, ShowsSent}
-use Rattle.relay_core.proofs.Kept.{Kept}
+use Rattle.relay_core.proofs.Kept.{Kept, held-is}
 use Rattle.relay_core.proofs.PacketLaws.{has_key-held_after, itself, same_key}
 use Rattle.relay_core.proofs.StepLaws.{operands-are}
 use Rattle.relay_core.specs.Core.{AreSent, Delivery, IsStep, RelayState, has_key, held_after}
@@ -62,10 +62,6 @@ module _ (code : Code) (pattern : ℕ) (window : Window) (short : window.first +
   pub flying-fit : (flying : List Flight) → IsPermutation state.flying (packets_in flying) → All Fits (packets_in flying)
   flying-fit flying flies = All-weaker OfKey Fits (λ packet is. fits-key code pattern window packet short is) (packets_in flying) (flying-are flying flies)
 
-  -- and so is what is held
-  held-are : (key : Key) → has_key key state.held ≡ true → IsKey code pattern window key
-  held-are key has = kept.of_traffic key (kept.sent_is key ∙ or_right (has_key key state.flying) (has_key key state.held) has)
-
   module _ (faithful : Bool) (flight : Flight) (delivery : Delivery) where
     -- a pair that was given is of the traffic
     pub delivered-key : (old new : List Flight) → IsPermutation state.flying (packets_in old) → IsDelivered faithful flight delivery old new
@@ -83,7 +79,7 @@ module _ (code : Code) (pattern : ℕ) (window : Window) (short : window.first +
           is = refl;
           of_traffic = delivered-key old new shown.flies delivered;
           to_node = refl;
-          held_are = held-are;
+          held_are = held-is code pattern window state kept;
           shows = shown.nodes.shows node relay at;
           shown = shown.nodes.shown node relay at;
         }
@@ -95,7 +91,7 @@ module _ (code : Code) (pattern : ℕ) (window : Window) (short : window.first +
       let either = sym (has_key-held_after key delivery state.held) ∙ has in
       elim (or_cases (is_same_key (key_of delivery.pair) key) (has_key key state.held) either) [
         | inl same ↦ subst (IsKey code pattern window) (same_key (key_of delivery.pair) key same) is
-        | inr there ↦ held-are key there
+        | inr there ↦ held-is code pattern window state kept key there
       ]
 
   -- so what is sent then fits into frames

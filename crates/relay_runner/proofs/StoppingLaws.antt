@@ -1,13 +1,12 @@
 -- What is put when a call fails: packets of the traffic by their keys, none twice, that come from the blocks or are sums of what
 -- came first.
-use Rattle.std.specs.Prelude.{◌≡◌, ◌<◌, ◌≤◌, ◌+◌, ◌++◌, ◌∷◌, ℕ, true, false, cond, All, Contains, IsPermutation, List, [], Option, Some, length, map, slice_get}
+use Rattle.std.specs.Prelude.{◌≡◌, ◌<◌, ◌≤◌, ◌++◌, ◌∷◌, ℕ, true, false, All, Contains, IsPermutation, List, [], Option, Some, length, map, slice_get}
 use Rattle.std.proofs.Common.{arith, get_or, inl, inr, refl, sym, ap, subst, ◌∙◌}
 use Rattle.std.proofs.lemmas.Bool.{both_ways, cases_Bool, or_cases, or_left, or_right}
 use Rattle.std.proofs.lemmas.List.{append-nil, map-append}
 use Rattle.std.proofs.lemmas.List.Elements.{All-append, All-cons, All-contains, All-head, All-nil, All-tail}
 use Rattle.std.proofs.lemmas.List.Folds.{list_any_at}
 use Rattle.std.proofs.lemmas.List.Sorted.{IsPermutation-refl}
-use Rattle.std.proofs.lemmas.List.Sums.{sum_by-append}
 use Rattle.coded_traffic.specs.Traffic.{IsKey, Key, Window, is_same_key, key_of, packet_of}
 use Rattle.generation_frame.specs.declared.frame.Packet.{Packet}
 use Rattle.lif_outside.proofs.OpenLaws.{still-closed}
@@ -17,14 +16,13 @@ use Rattle.lif_outside.specs.declared.links.Flight.{Flight}
 use Rattle.lif_outside.specs.declared.links.Links.{Ghosts as LinksGhosts}
 use Rattle.net_model.specs.Walks.{head_of, leaves_source}
 use Rattle.node_program.specs.declared.code.Code.{Code}
-use Rattle.node_stations.proofs.GivingLaws.{has_key-append}
 use Rattle.node_stations.proofs.PuttingLaws.{puts-closed}
 use Rattle.node_stations.proofs.SourceLaws.{given, given-key}
 use Rattle.node_stations.specs.Putting.{flight_of, puts_of}
 use Rattle.node_stations.specs.Shown.{GivesEach, IsFedAll}
 use Rattle.relay_core.proofs.FaithfulLaws.{summed-is}
 use Rattle.relay_core.proofs.Kept.{Kept}
-use Rattle.relay_core.proofs.PacketLaws.{has_key-held_after, itself, same_key, times-none}
+use Rattle.relay_core.proofs.PacketLaws.{has_key-append, has_key-held_after, itself, same_key, times-none, times_of-append}
 use Rattle.relay_core.proofs.RelayedLaws.{relayed-after}
 use Rattle.relay_core.proofs.RunLaws.{reached-kept, run-reaches}
 use Rattle.relay_core.proofs.StepLaws.{operands-are}
@@ -58,10 +56,6 @@ stopped-given : (packets : List Packet) (last : Packet) → flights_given (puts_
 stopped-given [] last = refl
 stopped-given (packet ∷ packets) last = stopped-given packets last
 
--- how often a key stands among two lists
-times-append : (key : Key) (packets others : List Packet) → times_of key (packets ++ others) ≡ times_of key packets + times_of key others
-times-append key = sum_by-append (λ packet. cond (is_same_key (key_of packet) key) 1 0)
-
 -- a key of packets is one of these and more
 has-first : (key : Key) (packets others : List Packet) → has_key key packets ≡ true → has_key key (packets ++ others) ≡ true
 has-first key packets others has = has_key-append key packets others ∙ or_left (has_key key packets) (has_key key others) has
@@ -84,12 +78,12 @@ module _ {L : Type 0} (g : LinksGhosts L) (code : Code) (pattern : ℕ) (window 
           | inl has ↦
               omega (
                 arith,
-                times-append key more sent,
-                times-append key more (last ∷ []),
+                times_of-append key more sent,
+                times_of-append key more (last ∷ []),
                 once key,
                 times-none key sent (unsent key (has-first key more (last ∷ []) has)),
               )
-          | inr lacks ↦ omega (arith, times-append key more sent, times-none key more lacks, sent_once key)
+          | inr lacks ↦ omega (arith, times_of-append key more sent, times-none key more lacks, sent_once key)
         ];
         keys = λ key has. elim (or_cases (has_key key more) (has_key key sent) (sym (has_key-append key more sent) ∙ has)) [
           | inl later ↦ are key (has-first key more (last ∷ []) later)
@@ -270,7 +264,7 @@ module _ {L : Type 0} (g : LinksGhosts L) (code : Code) (pattern : ℕ) (window 
           packets = packets;
           puts = subst (IsPermutation (map flight_of packets)) (sym (stopped-pairs packets last)) (IsPermutation-refl (map flight_of packets));
           put = record {
-            once = λ key. omega (arith, times-append key packets (last ∷ []), are.once key);
+            once = λ key. omega (arith, times_of-append key packets (last ∷ []), are.once key);
             keys = λ key has. (given-key code pattern window source new all fed each key (has-first key packets (last ∷ []) has)).0;
             payloads = λ as_put. All-first Is packets (last ∷ []) are.are;
           };

@@ -11,6 +11,7 @@ use Rattle.std.proofs.lemmas.List.Sums.{get_or-le-sum_by, sum_by-append, sum_by-
 use Rattle.std.proofs.lemmas.Option.{slice_get_cases}
 use Rattle.coded_traffic.proofs.KeyLaws.{key-once, keys-are}
 use Rattle.coded_traffic.specs.Traffic.{IsKey, Key, Window, is_same_key, key_of, keys_of}
+use Rattle.item_list.proofs.Tests.{count_by-none}
 use Rattle.net_model.proofs.EndLaws.{ends_below}
 use Rattle.net_model.specs.Walks.{tail_of}
 use Rattle.node_plans.proofs.PlanLaws.{outs-contains}
@@ -34,15 +35,6 @@ count-all {X} test (x ∷ xs) all =
     let here : test x ≡ true = All-head (λ y. test y ≡ true) x xs all in
     let counted : one x ≡ 1 = rw here refl in
     omega (arith, counted, sum_by-cons one x xs, count-all test xs (All-tail (λ y. test y ≡ true) x xs all))
-
--- and where all fail it, none
-count-not : {X : Type 0} (test : X → Bool) (xs : List X) → All (λ x. test x ≡ false) xs → count_by test xs ≡ 0
-count-not test [] all = refl
-count-not {X} test (x ∷ xs) all =
-    let one : X → ℕ = λ y. cond (test y) 1 0 in
-    let here : test x ≡ false = All-head (λ y. test y ≡ false) x xs all in
-    let counted : one x ≡ 0 = rw here refl in
-    omega (arith, counted, sum_by-cons one x xs, count-not test xs (All-tail (λ y. test y ≡ false) x xs all))
 
 -- what holds of all items of two lists holds of those of the second
 All-second : {X : Type 0} (P : X → Type 0) (xs ys : List X) → All P (xs ++ ys) → All P ys
@@ -124,7 +116,7 @@ module _ (code : Code) (pattern : ℕ) (window : Window) (run : List Delivery) (
         same,
         sum_by-IsPermutation one keys (sent ++ parted.0) parted.1,
         sum_by-append one sent parted.0,
-        count-not not_given sent sent-given,
+        count_by-none not_given sent sent-given,
         count-all not_given parted.0 rest-not,
         length_permutation keys (sent ++ parted.0) parted.1,
         length-append sent parted.0,

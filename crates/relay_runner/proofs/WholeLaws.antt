@@ -13,8 +13,8 @@ use Rattle.held_rows.specs.Held.{Held, is_held}
 use Rattle.net_model.specs.Demands.{demand_count, pattern_of_demand}
 use Rattle.net_model.specs.Lists.{is_rising}
 use Rattle.net_model.specs.declared.Demand.{Demand}
-use Rattle.node_plans.proofs.OrderLaws.{live-below}
 use Rattle.node_program.proofs.DecodingLaws.{decoder_of_demand}
+use Rattle.node_program.proofs.LiveLaws.{live-below}
 use Rattle.node_program.specs.CodeValue.{is_live_in}
 use Rattle.node_program.specs.declared.code.Code.{Code}
 use Rattle.node_stations.proofs.DecodedLaws.{decoded-shown}

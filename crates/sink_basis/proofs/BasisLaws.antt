@@ -7,7 +7,7 @@ use Rattle.std.proofs.lemmas.Bool.{cases_eq}
 use Rattle.std.proofs.lemmas.List.{length-set, length-map, map-set, get_or-map, get_or-set_same, get_or-set_other, ext_get_or}
 use Rattle.std.proofs.lemmas.List.Elements.{All-map, All-get_or, All-set}
 use Rattle.std.proofs.lemmas.List.FromFn.{length-map-range_with_len, get_or-map-range_with_len, fill_by_all}
-use Rattle.list_laws.proofs.Maps.{same_made}
+use Rattle.item_list.proofs.Maps.{same_made}
 use Rattle.gf_tables.specs.Field.{IsField, IsNumbering}
 use Rattle.field_vectors.specs.Difference.{identity_entry}
 use Rattle.field_vectors.proofs.DifferenceLaws.{get_or-column_of, length-column_of}

@@ -7,7 +7,7 @@ use Rattle.std.proofs.lemmas.Bool.{cases_eq, eq-eqb, ne_eqb}
 use Rattle.std.proofs.lemmas.List.{ext_get_or, get_or-map, get_or-replicate, get_or_default, length-map, length-replicate}
 use Rattle.std.proofs.lemmas.List.Elements.{All-from_get_or, All-replicate}
 use Rattle.std.proofs.lemmas.List.FromFn.{get_or-map-range_with_len, length-map-range_with_len}
-use Rattle.list_laws.proofs.Maps.{same_made}
+use Rattle.item_list.proofs.Maps.{same_made}
 use Rattle.gf_tables.specs.Field.{IsField}
 use Rattle.field_vectors.specs.Difference.{identity_entry, product_entry}
 use Rattle.field_vectors.proofs.DifferenceLaws.{get_or-column_of, length-column_of}

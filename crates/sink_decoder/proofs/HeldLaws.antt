@@ -21,11 +21,6 @@ all_below test n each =
     let below : k < n = omega (arith, within, length-range_with_len 0 n) in
     ap test (get_or-range_with_len 0 n k d below ∙ omega arith) ∙ each k below)
 
-pub at_below : (test : ℕ → Bool) (n k : ℕ) → list_all test (range_with_len 0 n) ≡ true → k < n → test k ≡ true
-at_below test n k all below =
-    let number : get_or (range_with_len 0 n) k 0 ≡ k = get_or-range_with_len 0 n k 0 below ∙ omega arith in
-    ap test (sym number) ∙ AllPass-from_list_all test (range_with_len 0 n) all k 0 (omega (arith, below, length-range_with_len 0 n))
-
 pub fails_below : (test : ℕ → Bool) (n k : ℕ) → k < n → test k ≡ false → list_all test (range_with_len 0 n) ≡ false
 fails_below test n k below fails =
     let number : get_or (range_with_len 0 n) k 0 ≡ k = get_or-range_with_len 0 n k 0 below ∙ omega arith in

@@ -9,11 +9,10 @@ use Rattle.generation_frame.specs.Blocks.{most_blocks}
 use Rattle.failure_patterns.specs.Demands.{number_of}
 use Rattle.net_model.specs.Demands.{demand_count, pattern_of_demand, sink_of_demand}
 use Rattle.net_model.specs.declared.Demand.{Demand}
-use Rattle.node_program.proofs.DecodingLaws.{decoder_of_demand, link_within}
-use Rattle.list_laws.proofs.Maps.{map-agree}
+use Rattle.node_program.proofs.DecodingLaws.{decoder_shape, link_within}
+use Rattle.item_list.proofs.Maps.{map-agree}
 use Rattle.node_program.specs.Code.{leads_into}
 use Rattle.node_program.specs.CodeValue.{is_live_in}
-use Rattle.node_program.specs.Decoding.{IsDecoder}
 use Rattle.node_program.specs.declared.Decoder.{Decoder}
 use Rattle.node_program.specs.declared.code.Code.{Code}
 use Rattle.held_rows.specs.Held.{Held, row_count}
@@ -23,22 +22,13 @@ use Rattle.sink_decoder.specs.Receiving.{IsReceiver, SinkPlan, receiver_of, sink
 abbrev pub plan_by : Code → List ℕ → List Bool → List ℕ → SinkPlan
 plan_by code links live entries = record { field = code.field; rate = code.rate; links = links; live = live; entries = entries }
 
--- the decoder that a code has for a demand is one
-pub found-decoder : (code : Code) (demand : ℕ) (decoder : Decoder) → demand < demand_count code.net → slice_get code.decoders demand ≡ Some decoder
-    → IsDecoder code.net code.rate code.field (sink_of_demand code.net demand) decoder
-found-decoder code demand decoder within found =
-    let one = decoder_of_demand code.code demand within in
-    let first = one.1 in
-    let same : one.0 ≡ decoder = cc in
-    subst (IsDecoder code.net code.rate code.field (sink_of_demand code.net demand)) same one.2
-
 -- its links are links of the network
 pub links_within : (code : Code) (demand : ℕ) (decoder : Decoder) → demand < demand_count code.net → slice_get code.decoders demand ≡ Some decoder
     → All (λ link. link < length code.net.links) decoder.links
 links_within code demand decoder within found =
     let Into : ℕ → Type 0 = λ link. leads_into code.net.links (sink_of_demand code.net demand) link ≡ true in
     All-weaker Into (λ link. link < length code.net.links) (λ link into. link_within code.net.links (sink_of_demand code.net demand) link into)
-    decoder.links (found-decoder code demand decoder within found).into_sink
+    decoder.links (decoder_shape code demand decoder within found).into_sink
 
 -- of one more link, whether it is live
 pub live_among-more : (live : List Bool) (links : List ℕ) (among now : List Bool) (k : ℕ) (one : Bool) → k < length links → slice_get live (slice_index_or links k 0) ≡ Some one
@@ -91,7 +81,7 @@ module _ (code : Code) (number : ℕ) (decoder : Decoder) (live among : List Boo
   pub IsReceiver-opened : (came : List Held) → length came ≡ most_blocks → All (λ held. row_count held ≡ code.rate) came
       → IsReceiver (receiver_of code.field code.rate links among entries 0 0 came)
   IsReceiver-opened came windows counts =
-      let is = found-decoder code number decoder within found in
+      let is = decoder_shape code number decoder within found in
       let count : length among ≡ code.rate =
       ap (length {A = Bool}) same_among ∙ length-map listed (λ link. slice_index_or live link false) ∙ ap (length {A = ℕ}) same_listed ∙ is.link_count in
       let opened : IsReceiver (receiver_of code.field code.rate decoder.links among decoder.entries 0 0 came) = record {

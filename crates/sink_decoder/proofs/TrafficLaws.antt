@@ -6,6 +6,7 @@ use Rattle.std.proofs.lemmas.Bool.{cases_Bool}
 use Rattle.std.proofs.lemmas.List.{ext_get_or, get_or-map, length-map}
 use Rattle.std.proofs.lemmas.List.FromFn.{get_or-map-range_with_len, length-map-range_with_len}
 use Rattle.gf_tables.specs.Product.{bytes_of_element}
+use Rattle.item_list.proofs.Ranges.{at_below}
 use Rattle.linear_algebra.proofs.ElementsLaws.{bytes_of_row-elements_of, elements_of-bytes_of_row, length-bytes_of_row}
 use Rattle.linear_algebra.specs.Elements.{AreBytes, bytes_of_row, elements_of}
 use Rattle.linear_algebra.specs.Matrices.{matrix_times}
@@ -26,7 +27,7 @@ use Rattle.coded_traffic.proofs.BlockLaws.{IsBlock-block_elements, bytes_of-bloc
 use Rattle.coded_traffic.proofs.RowLaws.{row_bytes-row_width}
 use Rattle.coded_traffic.specs.CodeBlocks.{IsBlockOf, block_elements, row_width}
 use Rattle.coded_traffic.specs.Traffic.{Window, block_at, payload_in}
-use Rattle.sink_decoder.proofs.HeldLaws.{at_below, is_held-whole, row_of-pieces}
+use Rattle.sink_decoder.proofs.HeldLaws.{is_held-whole, row_of-pieces}
 use Rattle.sink_decoder.proofs.PlaceLaws.{place_of-at}
 use Rattle.sink_decoder.proofs.SumLaws.{bytes_of_row-concat, whole_rows}
 use Rattle.sink_decoder.specs.Receiving as sink

@@ -13,6 +13,7 @@ use Rattle.lif_outside.proofs.SequenceLaws.{stops_behind}
 use Rattle.lif_outside.specs.Calls.{Calls}
 use Rattle.lif_outside.specs.Events.{Event}
 use Rattle.lif_outside.specs.FileCalls.{StopsWithin, appends_of}
+use Rattle.lif_outside.specs.Limits.{last_place}
 use Rattle.lif_outside.specs.Moves.{FollowMoves, InFlight, Move, opened}
 use Rattle.lif_outside.specs.Sequences.{Are}
 use Rattle.node_program.specs.declared.code.Code.{Code}
@@ -24,7 +25,7 @@ use Rattle.source_delivery.proofs.TurnLaws.{turns-alike, turns-append}
 use Rattle.source_delivery.specs.Carried.{blocks_from}
 use Rattle.source_delivery.specs.Delivering.{BreaksBlocks, CanCarry, DeliversBlocks, DeliversSome, Interrupts, InterruptsBlocks, InterruptsBytes, IsStill, calls_join}
 use Rattle.source_delivery.specs.Turns.{turns_before, turns_from}
-use Rattle.source_delivery.specs.declared.delivery.Delivery.{Delivery}
+use Rattle.source_delivery.specs.declared.delivery.SourceDelivery.{SourceDelivery}
 use Rattle.source_delivery.specs.declared.delivery.DeliveryFault.{DeliveryFault}
 use Rattle.source_delivery.specs.declared.delivery.DeliveryFault.TheVariants as fault
 
@@ -176,7 +177,7 @@ opened-can seed code runner at_work known works as_put old new moved =
     }
 
 -- numbers of generations that carry so many bytes are of 32 bits, with room for a window
-pub numbered : (code : Code) (generations : ℕ) → generations * capacity code.rate ≤ 2 ^ 41 → generations + 4 ≤ 2 ^ 32
+pub numbered : (code : Code) (generations : ℕ) → generations * capacity code.rate ≤ last_place → generations + 4 ≤ 2 ^ 32
 numbered code generations few =
     let some : 1 ≤ code.rate = code.code.draft.some_rate in
     let size : 1020 ≤ capacity code.rate = omega (arith, some) in
@@ -185,10 +186,10 @@ numbered code generations few =
 
 -- ---- a delivery that is still
 
-pub still-here : {F : Type 0} (delivery : Delivery F) → IsStill delivery delivery
+pub still-here : {F : Type 0} (delivery : SourceDelivery F) → IsStill delivery delivery
 still-here delivery = record { runner = refl; outputs = refl; window = refl; gathered = refl }
 
-pub still-then : {F : Type 0} {old at new : Delivery F} → IsStill old at → IsStill at new → IsStill old new
+pub still-then : {F : Type 0} {old at new : SourceDelivery F} → IsStill old at → IsStill at new → IsStill old new
 still-then was is = record {
   runner = is.runner ∙ was.runner;
   outputs = is.outputs ∙ was.outputs;

@@ -1,14 +1,14 @@
 -- A source that is streamed: what was read and delivered so far, and what follows when more is read, delivered or fails.
-use Rattle.std.specs.Prelude.{◌≡◌, ◌<◌, ◌≤◌, ◌+◌, ◌-◌, ◌*◌, ◌/◌, ◌&&◌, ◌||◌, ◌==◌, nat_lt, min, not, cond, map, ⊤, if◌then◌else◌, ℕ, Bool, true, false, List, [], ◌∷◌, ◌++◌, length}
+use Rattle.std.specs.Prelude.{◌≡◌, ◌<◌, ◌≤◌, ◌+◌, ◌-◌, ◌*◌, ◌/◌, ◌&&◌, ◌||◌, ◌==◌, nat_lt, min, not, cond, map, if◌then◌else◌, ℕ, Bool, true, false, List, [], ◌∷◌, ◌++◌, length}
 use Rattle.std.proofs.Common.{refl, sym, ap, ◌∙◌, subst, arith, inl, inr, ⊎_elim}
 use Rattle.std.proofs.lemmas.Bool.{ne_eqb}
 use Rattle.std.proofs.Math.Nat.{add-mul-div_right}
 use Rattle.std.proofs.lemmas.List.{append-nil, append_assoc, length-append, length-drop}
 use Rattle.std.proofs.lemmas.List.Folds.{list_any-append}
 use Rattle.std.proofs.lemmas.Nat.{le-div}
-use Rattle.std.proofs.lemmas.List.Elements.{filter-append}
 use Rattle.generation_frame.specs.Blocks.{block_count, capacity}
 use Rattle.generation_frame.specs.declared.frame.Packet.{Packet}
+use Rattle.item_list.proofs.Tests.{AllByRecursion-append}
 use Rattle.lif_outside.specs.Calls.{Calls, MakesBoth, MakesCalls}
 use Rattle.lif_outside.specs.declared.links.Links.{Ghosts as LinksGhosts}
 use Rattle.lif_outside.specs.declared.store.Store.{Ghosts as StoreGhosts}
@@ -16,10 +16,10 @@ use Rattle.lif_outside.specs.Events.{Event, appended, read, read_failed}
 use Rattle.lif_outside.specs.Moves.{Move}
 use Rattle.lif_outside.specs.FileCalls.{AreReadsFrom, ReadsPastLimit, ReadsToFault, ReadsWhole, StopsWithin, Written, appends_of, bytes_read}
 use Rattle.lif_outside.specs.Sequences.{Are, IsFrontOf}
-use Rattle.lif_outside.specs.Streams.{gave_nothing, have_ended, is_read, is_write, reads_in, writes_in}
+use Rattle.lif_outside.specs.Streams.{gave_nothing, have_ended, is_read, reads_in, writes_in}
 use Rattle.lif_outside.proofs.FileCallLaws.{bytes_read-append, reads_more}
-use Rattle.lif_outside.proofs.SequenceLaws.{all_append, all_split, front_all, stops_behind}
-use Rattle.lif_outside.proofs.StreamLaws.{AreDue, AreWrites, due_all, due_none, due_stops, reads_of_all, split_at_call, stops_are_writes, whole_ended, whole_gave}
+use Rattle.lif_outside.proofs.SequenceLaws.{all_split, front_all, stops_behind}
+use Rattle.lif_outside.proofs.StreamLaws.{AreDue, AreWrites, due_all, due_none, due_stops, reads-append, reads_none, split_at_call, stops_are_writes, whole_ended, whole_gave, writes-append, writes_all}
 use Rattle.node_program.specs.declared.code.Code.{Code}
 use Rattle.relay_runner.specs.Carried.{packets_given}
 use Rattle.top_base.specs.Inputs.{ReadsAny}
@@ -61,22 +61,6 @@ all-brought path limit source reads rate whole =
     ap (λ ended. if ended then block_count (bytes_read reads) rate else length (bytes_read reads) / capacity rate) (whole_ended path limit source reads whole)
     ∙ ap (λ bytes. block_count bytes rate) (whole_gave path limit source reads whole)
 
--- the reads and the writes of two lists
-reads-of : (first later : List Event) → reads_in (first ++ later) ≡ reads_in first ++ reads_in later
-reads-of first later = filter-append is_read first later
-
-writes-of : (first later : List Event) → writes_in (first ++ later) ≡ writes_in first ++ writes_in later
-writes-of first later = filter-append is_write first later
-
--- of writes there are no reads, and all of them
-no-reads : (events : List Event) → AreWrites events → reads_in events ≡ []
-no-reads events writes = reads_of_all (λ reads. reads) (λ reads. ⊤) (λ these made. ⊤) [] events tt writes
-
-all-writes : (events : List Event) → AreWrites events → writes_in events ≡ events
-all-writes [] writes = refl
-all-writes (event ∷ events) writes =
-    ap (λ test. cond (not test) (event ∷ writes_in events) (writes_in events)) writes.0 ∙ ap (λ rest. event ∷ rest) (all-writes events writes.1)
-
 module _ (paths : List (List ℕ)) (code : Code) (pattern : ℕ) where
   -- before each call the writes so far are the first of those that are due of what was read
   abbrev pub InTime : List Packet → ℕ → List Event → Type 0
@@ -112,7 +96,7 @@ turn-writes (part ∷ turn) = (refl, turn-writes turn)
 
 pub turns-writes : (turns : List (List Written)) → AreWrites (appends_of turns)
 turns-writes [] = tt
-turns-writes (turn ∷ turns) = all_append (λ event. is_read event ≡ false) (map (λ (part : Written). appended part.0 part.1) turn) (appends_of turns) (turn-writes turn) (turns-writes turns)
+turns-writes (turn ∷ turns) = AllByRecursion-append (λ event. is_read event ≡ false) (map (λ (part : Written). appended part.0 part.1) turn) (appends_of turns) (turn-writes turn) (turns-writes turns)
 
 -- What was delivered so far of what was read: the first blocks were carried, what came of them was appended, and each append in time.
 pub record IsStreamed (faithful : Bool) (code : Code) (pattern : ℕ) (paths : List (List ℕ)) (file : List ℕ) (carried : ℕ) (calls : Calls) : Type 0 where
@@ -139,10 +123,10 @@ module _ (faithful : Bool) (code : Code) (pattern : ℕ) (paths : List (List ℕ
       → Streamed file carried (record { on_store = calls.on_store ++ event ∷ []; on_links = calls.on_links })
   streamed-read file carried calls event reads is brought = record {
     on_links = is.on_links;
-    writes = writes-of calls.on_store (event ∷ []) ∙ ap (λ b. writes_in calls.on_store ++ cond (not b) (event ∷ []) []) reads ∙ append-nil (writes_in calls.on_store) ∙ is.writes;
+    writes = writes-append calls.on_store (event ∷ []) ∙ ap (λ b. writes_in calls.on_store ++ cond (not b) (event ∷ []) []) reads ∙ append-nil (writes_in calls.on_store) ∙ is.writes;
     in_time = in-time-read paths code pattern (packets_given calls.on_links) carried calls.on_store event is.in_time is.writes is.brought;
     brought = subst (λ events. carried ≤ blocks_brought events code.rate)
-        (sym (reads-of calls.on_store (event ∷ []) ∙ ap (λ b. reads_in calls.on_store ++ cond b (event ∷ []) []) reads)) brought;
+        (sym (reads-append calls.on_store (event ∷ []) ∙ ap (λ b. reads_in calls.on_store ++ cond b (event ∷ []) []) reads)) brought;
   }
 
   -- the file is longer
@@ -214,9 +198,9 @@ module _ (faithful : Bool) (code : Code) (pattern : ℕ) (paths : List (List ℕ
         behind more is_front parts =
             let some = (all_split (λ event. is_read event ≡ false) more (next ∷ rest) (subst AreWrites parts writes)).0 in
             let first : reads_in front ≡ reads_in calls.on_store =
-            ap reads_in is_front ∙ reads-of calls.on_store more ∙ ap (λ others. reads_in calls.on_store ++ others) (no-reads more some) ∙ append-nil (reads_in calls.on_store) in
+            ap reads_in is_front ∙ reads-append calls.on_store more ∙ ap (λ others. reads_in calls.on_store ++ others) (reads_none more some) ∙ append-nil (reads_in calls.on_store) in
             let made : writes_in front ≡ writes_in calls.on_store ++ more =
-            ap writes_in is_front ∙ writes-of calls.on_store more ∙ ap (λ others. writes_in calls.on_store ++ others) (all-writes more some) in
+            ap writes_in is_front ∙ writes-append calls.on_store more ∙ ap (λ others. writes_in calls.on_store ++ others) (writes_all more some) in
             let ahead = in_order more next rest parts in
             let least : min (carried + count) (blocks_brought (reads_in calls.on_store) code.rate) ≡ carried + count = omega (arith, within) in
             subst (λ reads. IsFrontOf (deliveries_to paths code pattern came (carried + count) reads) (writes_in front)) (sym first)
@@ -226,10 +210,10 @@ module _ (faithful : Bool) (code : Code) (pattern : ℕ) (paths : List (List ℕ
 
     -- the reads and the writes of all
     reads-still : AreWrites later.on_store → reads_in (calls.on_store ++ later.on_store) ≡ reads_in calls.on_store
-    reads-still writes = reads-of calls.on_store later.on_store ∙ ap (λ others. reads_in calls.on_store ++ others) (no-reads later.on_store writes) ∙ append-nil (reads_in calls.on_store)
+    reads-still writes = reads-append calls.on_store later.on_store ∙ ap (λ others. reads_in calls.on_store ++ others) (reads_none later.on_store writes) ∙ append-nil (reads_in calls.on_store)
 
     writes-then : AreWrites later.on_store → writes_in (calls.on_store ++ later.on_store) ≡ writes_in calls.on_store ++ later.on_store
-    writes-then writes = writes-of calls.on_store later.on_store ∙ ap (λ others. writes_in calls.on_store ++ others) (all-writes later.on_store writes)
+    writes-then writes = writes-append calls.on_store later.on_store ∙ ap (λ others. writes_in calls.on_store ++ others) (writes_all later.on_store writes)
 
     carried-on : AreCarried faithful code pattern carried (blocks_from file code.rate carried count) later.on_links
         → AreCarried faithful code pattern 0 (blocks_from file code.rate 0 (carried + count)) (calls.on_links ++ later.on_links)
@@ -431,7 +415,7 @@ module _ (faithful : Bool) (code : Code) (pattern : ℕ) (paths : List (List ℕ
   module _ (at carried : ℕ) (gathered : List ℕ) (calls : Calls) (is : OnStream at carried gathered calls) where
     -- the reads after one more, whatever it gave
     reads-then : (event : Event) → is_read event ≡ true → reads_in (calls.on_store ++ event ∷ []) ≡ reads_in calls.on_store ++ event ∷ []
-    reads-then event reads = reads-of calls.on_store (event ∷ []) ∙ ap (λ b. reads_in calls.on_store ++ cond b (event ∷ []) []) reads
+    reads-then event reads = reads-append calls.on_store (event ∷ []) ∙ ap (λ b. reads_in calls.on_store ++ cond b (event ∷ []) []) reads
 
     place : 0 + length (bytes_read (reads_in calls.on_store)) ≡ at
     place = omega (arith, ap length is.gave, is.long)

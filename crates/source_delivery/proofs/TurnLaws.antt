@@ -17,7 +17,7 @@ use Rattle.lif_outside.specs.FileCalls.{AreAppendsTo, StopsWithin, Written, appe
 use Rattle.lif_outside.specs.Moves.{Move}
 use Rattle.lif_outside.specs.Sequences.{Are}
 use Rattle.lif_outside.specs.declared.Failed.{Failed}
-use Rattle.list_laws.proofs.Maps.{same_made}
+use Rattle.item_list.proofs.Maps.{same_made}
 use Rattle.node_program.specs.declared.code.Code.{Code}
 use Rattle.node_stations.specs.Decoded.{decoded_of}
 use Rattle.node_stations.specs.Opening.{demand_of}

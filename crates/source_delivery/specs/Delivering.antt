@@ -12,7 +12,7 @@ use Rattle.relay_runner.specs.Carried.{IsStopped, packets_given}
 use Rattle.relay_runner.specs.Running.{HasCarried, Running}
 use Rattle.source_delivery.specs.Carried.{AreCarried, Breaks, Delivers, IsOver, blocks_from}
 use Rattle.source_delivery.specs.Turns.{turns_from}
-use Rattle.source_delivery.specs.declared.delivery.Delivery.{Delivery}
+use Rattle.source_delivery.specs.declared.delivery.SourceDelivery.{SourceDelivery}
 use Rattle.source_delivery.specs.declared.delivery.DeliveryFault.{DeliveryFault}
 use Rattle.source_delivery.specs.declared.delivery.DeliveryFault.TheVariants as fault
 
@@ -39,7 +39,7 @@ pub record HasGoneOn (old new : Running) : Type 0 where
   pub more : old.next ≤ new.next
 
 -- a delivery has the code at work, the files, the window and what it gathered as before
-pub record IsStill {F : Type 0} (old new : Delivery F) : Type 0 where
+pub record IsStill {F : Type 0} (old new : SourceDelivery F) : Type 0 where
   pub runner : new.runner ≡ old.runner
   pub outputs : new.outputs ≡ old.outputs
   pub window : new.window ≡ old.window

@@ -2,11 +2,11 @@
 use Rattle.std.specs.Prelude.{◌≡◌, ℕ, List, length, map, string_bytes}
 use Rattle.generation_frame.specs.Blocks.{block_count}
 use Rattle.node_program.specs.declared.code.Code.{Code}
-use Rattle.source_delivery.specs.declared.delivery.Delivery.{Delivery}
+use Rattle.source_delivery.specs.declared.delivery.SourceDelivery.{SourceDelivery}
 use Rattle.source_delivery.specs.declared.delivery.SentCounts.{SentCounts}
 
 -- the paths of the sinks' files
-abbrev pub paths_of : {F : Type 0} → Delivery F → List (List ℕ)
+abbrev pub paths_of : {F : Type 0} → SourceDelivery F → List (List ℕ)
 paths_of delivery = map string_bytes delivery.outputs.items
 
 -- how much of a source was sent

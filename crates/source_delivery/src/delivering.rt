@@ -3,6 +3,7 @@ ghost use Rattle.std.specs.Prelude.{◌≡◌, ◌≤◌, ◌<◌, ◌+◌, ◌-
 ghost use Rattle.std.specs.List.{concat};
 ghost use Rattle.generation_frame.specs.Blocks.{block_count, capacity, most_blocks, most_rows, row_bytes};
 ghost use Rattle.lif_outside.specs.Calls.{KeepsStore, MakesBoth, MakesCalls};
+ghost use Rattle.lif_outside.specs.Limits.{last_place};
 ghost use Rattle.lif_outside.specs.Moves.{Move};
 ghost use Rattle.lif_outside.specs.FileCalls.{StopsWithin, appends_of, creates_of};
 ghost use Rattle.lif_outside.specs.Sequences.{Are};
@@ -13,7 +14,7 @@ ghost use Rattle.source_delivery.specs.Turns.{parts_from, turn_at, turns_from};
 ghost use Rattle.relay_runner.specs.Carried.{HasCarriedBy, packets_given};
 ghost use Rattle.relay_runner.specs.Decoding.{HasDecoded};
 
-use crate::delivery::{Delivery, DeliveryFault, SentCounts};
+use crate::delivery::{DeliveryFault, SentCounts, SourceDelivery};
 use generation_frame::{ROW, cap, counted, cut};
 use gf_tables::Field;
 use lif_outside::{Failed, Gate, Links, Store};
@@ -40,7 +41,7 @@ fn cut_blocks(bytes: &[u8], rate: u32, count: usize, blocks: &mut [u8])
     }
 }
 
-impl<'c, F: Field> Delivery<'c, F> {
+impl<'c, F: Field> SourceDelivery<'c, F> {
     /// Creates each sink's file, in order.
     pub fn create_outputs<S: Store>(&self, store: &mut S) -> Result<(), Failed>
         ensures created { OnOk result (MakesCalls S.Store store.old store.new
@@ -166,7 +167,7 @@ impl<'c, F: Field> Delivery<'c, F> {
 
     /// How much was sent of a source of so many bytes.
     pub(crate) fn counts(&self, bytes: u64) -> SentCounts
-        requires { bytes ≤ 2 ^ 41 }
+        requires { bytes ≤ last_place }
         ensures { (source : List ℕ) → length source ≡ bytes
             → AreCounts self.now.runner.code source result }
     {
@@ -178,7 +179,7 @@ impl<'c, F: Field> Delivery<'c, F> {
     }
 }
 
-impl<'c, F: Field + Send + Sync> Delivery<'c, F> {
+impl<'c, F: Field + Send + Sync> SourceDelivery<'c, F> {
     // Carries what was gathered over the links, as so many blocks, and adds what comes of them to each sink's file.
     fn carry_gathered<S: Store, K: Links, G: Gate + Sync, R: Threads + Sync>(
         &mut self,
@@ -281,7 +282,7 @@ impl<'c, F: Field + Send + Sync> Delivery<'c, F> {
         requires room { vec_len self.old.gathered
             < self.old.window * capacity self.old.runner.code.rate }
         requires short { self.old.runner.next * capacity self.old.runner.code.rate
-            + vec_len self.old.gathered + length bytes.now ≤ 2 ^ 41 }
+            + vec_len self.old.gathered + length bytes.now ≤ last_place }
         requires can { CanCarry self.old.runner (K.flying links.old) (K.room links.old) }
         requires made { (path : List ℕ) → Contains (paths_of self.old) path
             → S.made store.old path }
@@ -327,7 +328,7 @@ impl<'c, F: Field + Send + Sync> Delivery<'c, F> {
         requires room { vec_len self.old.gathered
             < self.old.window * capacity self.old.runner.code.rate }
         requires short { self.old.runner.next * capacity self.old.runner.code.rate
-            + vec_len self.old.gathered ≤ 2 ^ 41 }
+            + vec_len self.old.gathered ≤ last_place }
         requires can { CanCarry self.old.runner (K.flying links.old) (K.room links.old) }
         requires made { (path : List ℕ) → Contains (paths_of self.old) path
             → S.made store.old path }
@@ -360,7 +361,7 @@ impl<'c, F: Field + Send + Sync> Delivery<'c, F> {
         source: &[u8],
         gate: &G,
     ) -> Result<SentCounts, DeliveryFault>
-        requires short { length source.now ≤ 2 ^ 41 }
+        requires short { length source.now ≤ last_place }
         requires from_start { self.old.runner.next ≡ 0 }
         requires nothing { self.old.gathered.items ≡ [] }
         requires can { CanCarry self.old.runner (K.flying links.old) (K.room links.old) }

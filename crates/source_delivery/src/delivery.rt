@@ -43,7 +43,7 @@ pub enum DeliveryFault {
 
 /// A code at work over links, and the files of its sinks.
 #[derive(Drop)]
-pub struct Delivery<'c, F> {
+pub struct SourceDelivery<'c, F> {
     /// The rate of the code.
     pub rate: u32,
     /// The code at work under the pattern.
@@ -86,7 +86,7 @@ fn window_of(links: usize, sinks: usize, rate: usize) -> usize
         .clamp(1, MOST_BLOCKS)
 }
 
-impl<'c, F: Field> Delivery<'c, F> {
+impl<'c, F: Field> SourceDelivery<'c, F> {
     /// A code at work under a pattern, on the files of these paths. The links are opened last, with the number given. `F` is
     /// the code's field.
     pub fn open<K: Links>(
@@ -96,7 +96,7 @@ impl<'c, F: Field> Delivery<'c, F> {
         seed: u64,
         outputs: Vec<String>,
         links: &mut K,
-    ) -> Result<Delivery<'c, F>, AllocError>
+    ) -> Result<SourceDelivery<'c, F>, AllocError>
         requires pattern { pattern < length code.now.net.patterns }
         requires field { IsOfKind code.now.field F.SIZE F.BYTES F.MARK F.product }
         requires nothing_flies { K.flying links.old ≡ [] }
@@ -120,7 +120,7 @@ impl<'c, F: Field> Delivery<'c, F> {
         let blocks = vec![in alloc; 0u8; window * block_bytes]?;
         let decoded = vec![in alloc; 0u8; block_bytes]?;
         let runner = Runner::open(alloc, code, pattern, seed, links)?;
-        Ok(Delivery {
+        Ok(SourceDelivery {
             rate,
             runner,
             outputs,

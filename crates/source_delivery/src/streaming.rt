@@ -1,11 +1,12 @@
 //! A source that is read as it is carried over links.
-ghost use Rattle.std.specs.Prelude.{◌≡◌, ◌<◌, ◌^◌, [], List, ℕ, Contains, IfErr, IfOk};
+ghost use Rattle.std.specs.Prelude.{◌≡◌, ◌<◌, [], List, ℕ, Contains, IfErr, IfOk};
 ghost use Rattle.lif_outside.specs.Calls.{MakesBoth};
+ghost use Rattle.lif_outside.specs.Limits.{last_place};
 ghost use Rattle.source_delivery.specs.Delivering.{CanCarry};
 ghost use Rattle.source_delivery.specs.Delivery.{paths_of};
 ghost use Rattle.source_delivery.specs.declared.streaming.StreamFault.TheVariants.{Sinks};
 
-use crate::delivery::{Delivery, DeliveryFault, SentCounts};
+use crate::delivery::{DeliveryFault, SentCounts, SourceDelivery};
 use gf_tables::Field;
 use lif_outside::{Gate, Links, Store};
 use std::thread::Threads;
@@ -33,7 +34,7 @@ impl From<DeliveryFault> for StreamFault {
     }
 }
 
-impl<'c, F: Field + Send + Sync> Delivery<'c, F> {
+impl<'c, F: Field + Send + Sync> SourceDelivery<'c, F> {
     ghost use Rattle.source_delivery.specs.Streaming.{StopsStreaming, StreamsAll};
 
     /// Reads the file of a path from its start, and carries its blocks window by window as they come; what comes of them is
@@ -48,7 +49,7 @@ impl<'c, F: Field + Send + Sync> Delivery<'c, F> {
         limit: u64,
         gate: &G,
     ) -> Result<SentCounts, StreamFault>
-        requires limit { limit < 2 ^ 41 }
+        requires limit { limit < last_place }
         requires from_start { self.old.runner.next ≡ 0 }
         requires nothing { self.old.gathered.items ≡ [] }
         requires can { CanCarry self.old.runner (K.flying links.old) (K.room links.old) }

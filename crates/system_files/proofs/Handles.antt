@@ -20,16 +20,6 @@ same_or_none false old = inl refl
 pub then_same : {X : Type 0} {old mid new : Option X} → SameOrNone old mid → new ≡ mid → SameOrNone old new
 then_same {old = old} first same = subst (SameOrNone old) (sym same) first
 
--- what holds at an exit, said of the error there
-pub on_err : {T E P : Type 0} (r : Result T E) → P → OnErr r P
-on_err (Ok x) p = tt
-on_err (Err e) p = p
-
--- what holds where all went well leads on
-pub ok_then : {T E P Q : Type 0} (r : Result T E) → OnOk r P → (P → Q) → OnOk r Q
-ok_then (Ok x) p on = on p
-ok_then (Err e) p on = tt
-
 pub if_ok_then : {T E : Type 0} {P Q : T → Type 0} (r : Result T E) → IfOk r P → ((x : T) → P x → Q x) → IfOk r Q
 if_ok_then (Ok x) p on = on x p
 if_ok_then (Err e) p on = tt

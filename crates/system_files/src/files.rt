@@ -1,6 +1,7 @@
 //! What is done to the files of a system, by their paths.
-ghost use Rattle.std.specs.Prelude.{◌≡◌, ◌≤◌, ◌^◌, None, true, length, take, drop, IfOk, OnOk, OnErr};
+ghost use Rattle.std.specs.Prelude.{◌≡◌, ◌≤◌, None, true, length, take, drop, IfOk, OnOk, OnErr};
 ghost use Rattle.std.specs.Fs.{new_options, with_read, with_append, with_create};
+ghost use Rattle.lif_outside.specs.Limits.{last_place};
 ghost use Rattle.system_files.specs.Handle.{place_of};
 ghost use Rattle.system_files.specs.Kept.{handle_of, OnlyCloses, OnlyClosesOthers};
 ghost use Rattle.system_files.specs.Open.{sources_of, sinks_of, OnlyClosesAny, GivesOrOpens, GainsOrOpens};
@@ -67,7 +68,7 @@ pub fn read_at<R: Files + AllocGlobal>(
     at: u64,
     into: &mut [u8],
 ) -> io::Result<usize>
-    requires { at ≤ 2 ^ 41 }
+    requires { at ≤ last_place }
     ensures count { IfOk result (λ n. n ≤ length into.old) }
     ensures rest { IfOk result (λ n. drop n into.new ≡ drop n into.old) }
     ensures bytes { IfOk result (λ n. GivesOrOpens path.now R.File.Seek R.File.Read at

@@ -1,6 +1,7 @@
 //! An open file.
-ghost use Rattle.std.specs.Prelude.{◌≡◌, ◌≤◌, ◌^◌, ℕ, List, Some, length, take, drop, OnOk, OnErr, IfOk};
+ghost use Rattle.std.specs.Prelude.{◌≡◌, ◌≤◌, ℕ, List, Some, length, take, drop, OnOk, OnErr, IfOk};
 ghost use Rattle.std.specs.Io.KnownBytes.{Appends};
+ghost use Rattle.lif_outside.specs.Limits.{last_place};
 
 use crate::pieces::{move_to, read_full, write_full};
 use std::io;
@@ -54,7 +55,7 @@ impl<F: Read + Seek> Handle<F> {
     /// Reads from a place on to the front of a buffer, and answers how many bytes came: fewer than there is room for
     /// only at the file's end. It isn't moved where reads go on there already.
     pub fn read_from(&mut self, at: u64, into: &mut [u8]) -> io::Result<usize>
-        requires { at ≤ 2 ^ 41 }
+        requires { at ≤ last_place }
         ensures count { IfOk result (λ n. n ≤ length into.old) }
         ensures rest { IfOk result (λ n. drop n into.new ≡ drop n into.old) }
         ensures bytes { IfOk result

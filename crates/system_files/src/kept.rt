@@ -1,5 +1,6 @@
 //! The files that are kept open for the next reads or appends.
-ghost use Rattle.std.specs.Prelude.{◌≡◌, ◌⊎◌, ◌≤◌, ◌<◌, ◌^◌, ℕ, List, None, Some, IsTrue, IfSome, IfNone, IfOk, OnOk, OnErr, length, take, drop};
+ghost use Rattle.std.specs.Prelude.{◌≡◌, ◌⊎◌, ◌≤◌, ◌<◌, ℕ, List, None, Some, IsTrue, IfSome, IfNone, IfOk, OnOk, OnErr, length, take, drop};
+ghost use Rattle.lif_outside.specs.Limits.{last_place};
 
 use crate::handle::Handle;
 use indexmap::IndexMap;
@@ -88,7 +89,7 @@ impl<F: Read + Seek + Drop> KeptFiles<F> {
 
     /// Reads from a place of the file of a path, where it is kept. Where that fails, the file is closed.
     pub fn read_from(&mut self, path: &str, at: u64, into: &mut [u8]) -> Option<io::Result<usize>>
-        requires { at ≤ 2 ^ 41 }
+        requires { at ≤ last_place }
         ensures absent { IfNone result (handle_of self.old path.now ≡ None) }
         ensures still { IfNone result (handle_of self.new path.now ≡ None) }
         ensures idle { IfNone result (into.new ≡ into.old) }

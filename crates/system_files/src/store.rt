@@ -1,8 +1,9 @@
 //! A store over the files of a system.
-ghost use Rattle.std.specs.Prelude.{◌≡◌, ◌≤◌, ◌^◌, ◌∷◌, [], None, length, take, drop, IfOk, OnOk, OnErr};
+ghost use Rattle.std.specs.Prelude.{◌≡◌, ◌≤◌, ◌∷◌, [], None, length, take, drop, IfOk, OnOk, OnErr};
 ghost use Rattle.lif_outside.specs.AccountLaws.{accounts_none, accounts_then};
 ghost use Rattle.lif_outside.specs.Counts.{one_more};
 ghost use Rattle.lif_outside.specs.Events.{read_event, create_event, append_event};
+ghost use Rattle.lif_outside.specs.Limits.{last_place};
 ghost use Rattle.system_files.specs.Store.{sources_in, sinks_in, read_faults_of, write_faults_of, path_read_faults, path_write_faults, any_path, no_files, calls_on_files};
 ghost use Rattle.system_files.specs.Kept.{handle_of, OnlyCloses, OnlyClosesOthers};
 ghost use Rattle.system_files.specs.Open.{GivesOrOpens, GainsOrOpens};
@@ -85,7 +86,7 @@ impl<'r, R: Files + AllocGlobal> Store for FileStore<'r, R> {
     ghost accounts = { λ _ _ _ h. h };
 
     fn read(&mut self, path: &str, at: u64, into: &mut [u8]) -> Result<usize, Failed>
-        requires { at ≤ 2 ^ 41 }
+        requires { at ≤ last_place }
         ensures count { IfOk result (λ n. n ≤ length into.old) }
         ensures rest { IfOk result (λ n. drop n into.new ≡ drop n into.old) }
         ensures call { calls_on_files

@@ -6,7 +6,7 @@ use Rattle.std.proofs.Common.{refl, sym, ap, subst, ◌∙◌, inl, inr, arith}
 use Rattle.std.proofs.lemmas.Bool.{cases_order, false_from_ne_true}
 use Rattle.std.proofs.lemmas.List.{append-nil}
 use Rattle.std.proofs.lemmas.List.Elements.{Contains-get_or}
-use Rattle.std.proofs.lemmas.Option.{get_or_from_slice_get}
+use Rattle.std.proofs.lemmas.Option.{get_or_from_slice_get, slice_get_within}
 use Rattle.std.proofs.lemmas.Slice.Eq.{bytes_eq-Decides}
 use Rattle.generation_frame.specs.Blocks.{piece_of, pieces_before}
 use Rattle.generation_frame.specs.declared.frame.Packet.{Packet}
@@ -14,7 +14,7 @@ use Rattle.lif_outside.proofs.FileCallLaws.{bytes_appended-append}
 use Rattle.lif_outside.specs.Events.{Event, appended}
 use Rattle.lif_outside.specs.FileCalls.{Written, appends_of, bytes_appended}
 use Rattle.lif_outside.specs.Files.{AreDistinct}
-use Rattle.list_laws.proofs.Maps.{same_made}
+use Rattle.item_list.proofs.Maps.{same_made}
 use Rattle.node_program.specs.declared.code.Code.{Code}
 use Rattle.top_runs.specs.Send.Changes.{received_by}
 use Rattle.source_delivery.specs.Turns.{has_bytes, parts_from, received_at, turn_at, turns_before}
@@ -27,12 +27,6 @@ one_place (path ∷ paths) zero zero distinct first second same = refl
 one_place (path ∷ paths) zero (suc j) distinct first second same = absurd (distinct.0 (subst (Contains paths) (sym same) (Contains-get_or paths j [] (omega arith))))
 one_place (path ∷ paths) (suc i) zero distinct first second same = absurd (distinct.0 (subst (Contains paths) same (Contains-get_or paths i [] (omega arith))))
 one_place (path ∷ paths) (suc i) (suc j) distinct first second same = ap suc (one_place paths i j distinct.1 (omega arith) (omega arith) same)
-
--- a place where there is one is within the list
-place_within : (paths : List (List ℕ)) (place : ℕ) (path : List ℕ) → slice_get paths place ≡ Some path → place < length paths
-place_within [] place path there = absurd (cc)
-place_within (other ∷ paths) zero path there = omega arith
-place_within (other ∷ paths) (suc place) path there = omega (arith, place_within paths place path there)
 
 -- the append of a part, and what one part adds at a path, before more of them: one without bytes adds nothing
 abbrev part_call : Written → Event
@@ -52,7 +46,7 @@ part-adds path other (byte ∷ bytes) parts =
 
 module _ (paths : List (List ℕ)) (code : Code) (pattern : ℕ) (came : List Packet) (path : List ℕ) (place : ℕ) (distinct : AreDistinct paths) (there : slice_get paths place ≡ Some path) where
   within : place < length paths
-  within = place_within paths place path there
+  within = slice_get_within paths place path there
 
   here : slice_index_or paths place [] ≡ path
   here = get_or_from_slice_get paths place path [] there

@@ -14,7 +14,7 @@ use code_checker::Checked;
 use gf_tables::Field;
 use lif_outside::Links;
 use net_model::Net;
-use source_delivery::Delivery;
+use source_delivery::SourceDelivery;
 use std::alloc::Global;
 use top_base::{Line, Outcome, SendWords, Status};
 
@@ -36,7 +36,7 @@ pub fn prepare<'a, 'c, F: Field, K: Links>(
     words: &SendWords<'a>,
     code: &'c Checked,
     links: &mut K,
-) -> Result<Delivery<'c, F>, Outcome<'a>>
+) -> Result<SourceDelivery<'c, F>, Outcome<'a>>
     requires field { IsOfKind code.now.field F.SIZE F.BYTES F.MARK F.product }
     requires nothing_flies { K.flying links.old ≡ [] }
     ensures ready { IfOk result (IsReady (given_in words.now) code.now) }
@@ -60,5 +60,5 @@ pub fn prepare<'a, 'c, F: Field, K: Links>(
             line: Line::same_path(path),
         });
     }
-    Ok(Delivery::open(alloc, code, pattern, words.seed, outputs, links)?)
+    Ok(SourceDelivery::open(alloc, code, pattern, words.seed, outputs, links)?)
 }

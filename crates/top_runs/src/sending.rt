@@ -13,7 +13,7 @@ use crate::preparing::prepare;
 use code_checker::Checked;
 use gf_tables::{Field, FieldKind, Gf8, Gf16};
 use lif_outside::{Gate, Links, Store};
-use source_delivery::{Delivery, DeliveryFault, StreamFault};
+use source_delivery::{DeliveryFault, SourceDelivery, StreamFault};
 use std::alloc::Global;
 use std::thread::Threads;
 use top_base::{FileRefusal, Line, Outcome, SOURCE_LIMIT, SendWords, Status, read_accepted};
@@ -35,7 +35,7 @@ fn deliver<'a, F: Field + Send + Sync, S: Store, K: Links, G: Gate + Sync, R: Th
     rt: &R,
     words: &SendWords<'a>,
     code: &Checked,
-    mut delivery: Delivery<'_, F>,
+    mut delivery: SourceDelivery<'_, F>,
     store: &mut S,
     links: &mut K,
     gate: &G,

@@ -22,7 +22,7 @@ use gf_tables::{Field, FieldKind, Gf8, Gf16};
 use lif_outside::{Gate, Links};
 use net_maker::source_byte;
 use node_program::live_links;
-use source_delivery::{Delivery, DeliveryFault};
+use source_delivery::{DeliveryFault, SourceDelivery};
 use std::alloc::{AllocError, Global};
 use std::thread::Threads;
 use top_base::{DemoWords, Line, Outcome, Status};
@@ -35,7 +35,7 @@ const SEED: u64 = 1;
 #[derive(Drop)]
 pub struct Begun<'c, F> {
     /// The code at work over links, and the sinks, whose files have no names.
-    pub delivery: Delivery<'c, F>,
+    pub delivery: SourceDelivery<'c, F>,
     /// The source.
     pub source: Vec<u8>,
     /// How many frames a block of it takes.
@@ -94,7 +94,7 @@ fn begin<'c, F: Field, K: Links>(
     let live = live_links(alloc, code.code(), 0)?;
     let frames = frames_of(live.as_slice());
     let outputs = no_paths(alloc, code.code().net.sinks.len())?;
-    let delivery = Delivery::open(alloc, code, 0, SEED, outputs, links)?;
+    let delivery = SourceDelivery::open(alloc, code, 0, SEED, outputs, links)?;
     Ok(Begun {
         delivery,
         source,

@@ -1,5 +1,6 @@
 //! Sinks of which only the sum of their bytes is kept.
 ghost use Rattle.std.specs.Prelude.{◌≡◌, ◌+◌, ◌%◌, ◌<◌, ◌≤◌, ◌^◌, ◌∷◌, [], length, drop, sum, IfOk, IsOk};
+ghost use Rattle.lif_outside.specs.Limits.{last_place};
 
 use lif_outside::{Failed, Store};
 
@@ -45,7 +46,7 @@ impl Store for Tally {
     ghost accounts = { λ _ _ _ is. is.accounts };
 
     fn read(&mut self, path: &str, at: u64, into: &mut [u8]) -> Result<usize, Failed>
-        requires { at ≤ 2 ^ 41 }
+        requires { at ≤ last_place }
         ensures count { IfOk result (λ n. n ≤ length into.old) }
         ensures rest { IfOk result (λ n. drop n into.new ≡ drop n into.old) }
         ensures call { Tallies

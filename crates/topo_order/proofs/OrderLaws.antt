@@ -15,7 +15,7 @@ use Rattle.std.proofs.lemmas.List.Folds.{list_any-append, list_any_at}
 use Rattle.std.proofs.lemmas.List.Sums.{AllPass-from_list_all, list_all-from_AllPass}
 use Rattle.std.proofs.lemmas.List.FromFn.{length-range_with_len, get_or-range_with_len}
 use Rattle.std.proofs.lemmas.Map.Steps.{length-le_from_distinct_below, le-length_from_below}
-use Rattle.list_laws.proofs.Ranges.{find_fails, find_first, find_nothing, find_passes}
+use Rattle.item_list.proofs.Ranges.{find_fails, find_first, find_nothing, find_passes}
 use Rattle.net_model.proofs.ListLaws.{is_among-from_list_any, list_any-from_is_among}
 use Rattle.net_model.specs.Lists.{is_among}
 use Rattle.net_model.proofs.WalkLaws.{IsWalk-below}

@@ -6,8 +6,9 @@ use Rattle.std.proofs.Common.{refl, sym, ◌∙◌, ap, arith, inl, inr, ◌⊎�
 use Rattle.std.proofs.lemmas.Bool.{and_parts, and_left, cases_eq, eq-eqb, eqb-true, ltb-true, ne_eqb, not-true, eqb-false}
 use Rattle.std.proofs.lemmas.List.{length-set}
 use Rattle.std.proofs.lemmas.List.Sums.{sum_by-cons}
-use Rattle.list_laws.proofs.Ranges.{find_passes}
-use Rattle.list_laws.proofs.Tests.{passes_at}
+use Rattle.item_list.proofs.Ranges.{find_passes}
+use Rattle.item_list.proofs.Tests.{passes_at}
+use Rattle.item_list.proofs.Writes.{slice_get-set_other, slice_get-set_same}
 use Rattle.net_model.proofs.EndLaws.{ends_below}
 use Rattle.net_model.specs.Flows.{FlowNetwork, flow_network}
 use Rattle.net_model.specs.Network.{is_sink_among}
@@ -34,39 +35,25 @@ IsFlowNetwork-flow_network net demand within =
       apart = λ same. eqb-false _ _ (not-true _ sink.1) (sym same);
     }
 
--- what stands at a place that is set
-get_set_same : (states : List LinkState) (link : ℕ) (state : LinkState) → link < length states → slice_get (slice_set states link state) link ≡ Some state
-get_set_same [] link state within = absurd (omega arith)
-get_set_same (first ∷ states) zero state within = refl
-get_set_same (first ∷ states) (suc link) state within = get_set_same states link state (omega arith)
-
--- and at another
-get_set_other : (states : List LinkState) (link other : ℕ) (state : LinkState) → other ≢ link → slice_get (slice_set states link state) other ≡ slice_get states other
-get_set_other [] link other state apart = refl
-get_set_other (first ∷ states) zero zero state apart = absurd (apart refl)
-get_set_other (first ∷ states) zero (suc other) state apart = refl
-get_set_other (first ∷ states) (suc link) zero state apart = refl
-get_set_other (first ∷ states) (suc link) (suc other) state apart = get_set_other states link other state (λ same. apart (ap suc same))
-
 -- a link whose state is set is used exactly where that state is
 pub is_used-set_same : (states : List LinkState) (link : ℕ) (state : LinkState) → link < length states → is_used (slice_set states link state) link ≡ is_used_state state
-is_used-set_same states link state within = ap (λ one. option_map_or is_used_state one false) (get_set_same states link state within)
+is_used-set_same states link state within = ap (λ one. option_map_or is_used_state one false) (slice_get-set_same states link state within)
 
 -- and failed
 pub is_failed-set_same : (states : List LinkState) (link : ℕ) (state : LinkState) → link < length states → is_failed (slice_set states link state) link ≡ is_failed_state state
-is_failed-set_same states link state within = ap (λ one. option_map_or is_failed_state one false) (get_set_same states link state within)
+is_failed-set_same states link state within = ap (λ one. option_map_or is_failed_state one false) (slice_get-set_same states link state within)
 
 -- any other link is used exactly where it was
 pub is_used-set_other : (states : List LinkState) (link other : ℕ) (state : LinkState) → other ≢ link → is_used (slice_set states link state) other ≡ is_used states other
-is_used-set_other states link other state apart = ap (λ one. option_map_or is_used_state one false) (get_set_other states link other state apart)
+is_used-set_other states link other state apart = ap (λ one. option_map_or is_used_state one false) (slice_get-set_other states link other state apart)
 
 -- and so with free
 pub is_free-set_other : (states : List LinkState) (link other : ℕ) (state : LinkState) → other ≢ link → is_free (slice_set states link state) other ≡ is_free states other
-is_free-set_other states link other state apart = ap (λ one. option_map_or is_free_state one false) (get_set_other states link other state apart)
+is_free-set_other states link other state apart = ap (λ one. option_map_or is_free_state one false) (slice_get-set_other states link other state apart)
 
 -- and failed
 pub is_failed-set_other : (states : List LinkState) (link other : ℕ) (state : LinkState) → other ≢ link → is_failed (slice_set states link state) other ≡ is_failed states other
-is_failed-set_other states link other state apart = ap (λ one. option_map_or is_failed_state one false) (get_set_other states link other state apart)
+is_failed-set_other states link other state apart = ap (λ one. option_map_or is_failed_state one false) (slice_get-set_other states link other state apart)
 
 -- a link in a state that passes one test doesn't pass another that no state passes with it
 not_both : (one other : LinkState → Bool) → (one Free && other Free) ≡ false → (one Used && other Used) ≡ false → (one Failed && other Failed) ≡ false

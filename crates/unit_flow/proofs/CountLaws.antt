@@ -6,9 +6,10 @@ use Rattle.std.proofs.lemmas.Bool.{and_from, and_parts, and_right, both_ways, ca
 use Rattle.std.proofs.lemmas.Cmp.{nat_eq_equiv}
 use Rattle.std.proofs.lemmas.List.Folds.{list_any_at}
 use Rattle.std.proofs.lemmas.List.FromFn.{length-range_with_len, get_or-range_with_len}
-use Rattle.std.proofs.lemmas.List.Sums.{sum_by-cons, sum_by-le, get_or-le-sum_by}
+use Rattle.std.proofs.lemmas.List.Sums.{sum_by-cons, get_or-le-sum_by}
 use Rattle.std.proofs.lemmas.Map.Keys.{IsDistinct-from_apart, IsDistinct-head, IsDistinct-tail}
 use Rattle.std.proofs.Math.Nat.{zero-add}
+use Rattle.item_list.proofs.Tests.{count_by-none}
 use Rattle.net_model.specs.Lists.{is_among}
 
 -- the sum of two terms is the sum of the sums
@@ -35,16 +36,6 @@ split_test false q = refl
 -- items that pass one test, by a second one
 pub count_by-split : {X : Type 0} (p q : X → Bool) (xs : List X) → count_by p xs ≡ count_by (λ x. p x && q x) xs + count_by (λ x. p x && not (q x)) xs
 count_by-split p q xs = count_by-parts p (λ x. p x && q x) (λ x. p x && not (q x)) xs (λ x. split_test (p x) (q x))
-
--- where no item passes, the count is zero
-pub count_by-none : {X : Type 0} (p : X → Bool) (xs : List X) → All (λ x. p x ≡ false) xs → count_by p xs ≡ 0
-count_by-none p xs none =
-    let most = sum_by-le (λ x. cond (p x) 1 0) 0 xs (λ k d within. uncounted (p (get_or xs k d)) (none k d within)) in
-    omega (arith, most)
-  where
-    uncounted : (b : Bool) → b ≡ false → cond b 1 0 ≤ 0
-    uncounted true fails = cc
-    uncounted false fails = omega arith
 
 -- where the count is zero, no item passes
 pub none-count_by : {X : Type 0} (p : X → Bool) (xs : List X) → count_by p xs ≡ 0 → All (λ x. p x ≡ false) xs

@@ -3,7 +3,7 @@ use Rattle.std.specs.Prelude.{◌≡◌, ◌<◌, ℕ, true, false, ◌&&◌, �
 use Rattle.std.proofs.Common.{sym, ◌∙◌, ap, subst, arith, inl, inr}
 use Rattle.std.proofs.lemmas.Bool.{and_from, and_parts, both_ways, cases_eq, cases_lt, eq-eqb, eqb-true, false_from_ne_true}
 use Rattle.std.proofs.lemmas.List.{length-set, get_or-set_other, get_or-set_same}
-use Rattle.list_laws.proofs.Ranges.{find_first, find_least, find_nothing}
+use Rattle.item_list.proofs.Ranges.{find_first, find_least, find_nothing}
 use Rattle.link_chains.specs.Chains.{AreFirsts, AreNexts}
 use Rattle.net_model.specs.Walks.{tail_of}
 use Rattle.net_model.specs.declared.Link.{Link}

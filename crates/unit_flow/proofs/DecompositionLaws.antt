@@ -8,7 +8,7 @@ use Rattle.std.proofs.lemmas.Option.{none-some}
 use Rattle.std.proofs.lemmas.List.Folds.{list_any-append, list_any_at}
 use Rattle.std.proofs.lemmas.List.FromFn.{length-range_with_len}
 use Rattle.std.proofs.lemmas.List.Sums.{count_by-le-length}
-use Rattle.list_laws.proofs.Ranges.{find_least}
+use Rattle.item_list.proofs.Ranges.{find_least}
 use Rattle.net_model.proofs.FlowLaws.{flow-le-cut}
 use Rattle.net_model.specs.Flows.{FlowNetwork, IsCut, IsFlow, IsPath}
 use Rattle.net_model.proofs.ListLaws.{are_distinct-append, is_among-from_list_any, list_all-from_is_among}

@@ -1,8 +1,8 @@
 -- Laws of the states of links: each link is free, used or failed, and may be passed as its state says.
-use Rattle.std.specs.Prelude.{◌≡◌, ◌≢◌, ◌<◌, ℕ, Bool, true, false, ◌&&◌, ◌==◌, cond, List, get_or, length, slice_get, Option, Some, None}
+use Rattle.std.specs.Prelude.{◌≡◌, ◌<◌, ℕ, Bool, true, false, ◌&&◌, ◌==◌, cond, List, length, slice_get, Option, Some, None}
 use Rattle.std.specs.Option.{option_map_or}
-use Rattle.std.proofs.Common.{refl, sym, ap, ◌∙◌, inl, inr, ◌⊎◌}
-use Rattle.std.proofs.lemmas.Bool.{and_parts, eqb-true, eq-eqb, ne_eqb}
+use Rattle.std.proofs.Common.{refl, inl, inr, ◌⊎◌}
+use Rattle.std.proofs.lemmas.Bool.{and_parts, eqb-true, eq-eqb}
 use Rattle.std.proofs.lemmas.Option.{slice_get_within, slice_get-get_or}
 use Rattle.net_model.specs.Walks.{head_of, tail_of}
 use Rattle.net_model.specs.declared.Link.{Link}
@@ -56,46 +56,6 @@ passage-free links states link free = rw (free, eq-eqb (tail_of links link) (tai
 -- a used one from its head to its tail
 pub passage-used : (links : List Link) (states : List LinkState) (link : ℕ) → is_used states link ≡ true → passage links states link (head_of links link) ≡ Some (tail_of links link)
 passage-used links states link used = rw ((used_alone states link used).0, used, eq-eqb (head_of links link) (head_of links link) refl) refl
-
--- the state of a link is there
-state_there : (states : List LinkState) (link : ℕ) (state : LinkState) → link < length states → state ≡ get_or states link state → slice_get states link ≡ Some state
-state_there states link state within is = slice_get-get_or states link state within ∙ ap (λ (one : LinkState). Some one) (sym is)
-
--- a link in another state isn't free
-pub not_free : (states : List LinkState) (link : ℕ) (state : LinkState) → link < length states → state ≡ get_or states link state → state ≢ Free → is_free states link ≡ false
-not_free states link state within is other = rw (state_there states link state within is) (at state other)
-  where
-    at : (one : LinkState) → one ≢ Free → is_free_state one ≡ false
-    at Free other = absurd (other refl)
-    at Used other = refl
-    at Failed other = refl
-
--- or isn't used
-pub not_used : (states : List LinkState) (link : ℕ) (state : LinkState) → link < length states → state ≡ get_or states link state → state ≢ Used → is_used states link ≡ false
-not_used states link state within is other = rw (state_there states link state within is) (at state other)
-  where
-    at : (one : LinkState) → one ≢ Used → is_used_state one ≡ false
-    at Free other = refl
-    at Used other = absurd (other refl)
-    at Failed other = refl
-
--- one that isn't free leads nowhere from its tail
-pub passage-not_free : (links : List Link) (states : List LinkState) (link : ℕ) → tail_of links link ≢ head_of links link → is_free states link ≡ false
-    → passage links states link (tail_of links link) ≡ None
-passage-not_free links states link apart not_free = rw (not_free, ne_eqb (tail_of links link) (head_of links link) apart) (at (is_used states link))
-  where
-    at : (used : Bool) → cond (used && false) (Some (tail_of links link)) None ≡ None
-    at true = refl
-    at false = refl
-
--- and one that isn't used none from its head
-pub passage-not_used : (links : List Link) (states : List LinkState) (link : ℕ) → tail_of links link ≢ head_of links link → is_used states link ≡ false
-    → passage links states link (head_of links link) ≡ None
-passage-not_used links states link apart not_used = rw (not_used, ne_eqb (head_of links link) (tail_of links link) (λ same. apart (sym same))) (at (is_free states link))
-  where
-    at : (free : Bool) → cond (free && false) (Some (head_of links link)) None ≡ None
-    at true = refl
-    at false = refl
 
 -- and there is no other passage
 pub passage_cases : (links : List Link) (states : List LinkState) (link from next : ℕ) → passage links states link from ≡ Some next

@@ -6,6 +6,7 @@ use Rattle.std.proofs.lemmas.Bool.{and_from, and_parts, both_ways, cases_lt, cas
 use Rattle.std.proofs.lemmas.List.{get_or-set_other, get_or-set_same, get_or_past, get_or_read}
 use Rattle.std.proofs.lemmas.List.FromFn.{length-range_with_len}
 use Rattle.std.proofs.lemmas.List.Sums.{count_by-le-length}
+use Rattle.item_list.proofs.Tests.{count_by-none}
 use Rattle.link_chains.specs.Chains.{AreFirsts, AreNexts, IsNextAt, end_of}
 use Rattle.link_chains.specs.Wiring.{IsWiring, chains_at}
 use Rattle.link_chains.specs.declared.chains.Chains.{Chains}
@@ -15,7 +16,7 @@ use Rattle.link_chains.specs.declared.chains.LinkEnd.{LinkEnd}
 use Rattle.net_model.specs.Flows.{is_on}
 use Rattle.net_model.specs.declared.Link.{Link}
 use Rattle.net_model.specs.declared.net.Net.{Net}
-use Rattle.unit_flow.proofs.CountLaws.{All-range, count_by-implied, count_by-none, count_by-one, sum_by-add, sum_by-same}
+use Rattle.unit_flow.proofs.CountLaws.{All-range, count_by-implied, count_by-one, sum_by-add, sum_by-same}
 use Rattle.unit_flow.specs.Residual.{passage}
 use Rattle.unit_flow.specs.Searching.{ArePassed, HasPassed, IsOnChain, ends_below, marked_ends, passed_ends, with_entry}
 use Rattle.unit_flow.specs.declared.residual.LinkState.{LinkState}

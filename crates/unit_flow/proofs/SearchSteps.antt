@@ -8,7 +8,7 @@ use Rattle.std.proofs.lemmas.Map.Keys.{IsDistinct-from_apart}
 use Rattle.std.proofs.lemmas.Map.Steps.{length-le_from_distinct_below}
 use Rattle.link_chains.specs.Wiring.{IsWiring}
 use Rattle.link_chains.specs.declared.wiring.Wiring.{Wiring}
-use Rattle.list_laws.proofs.Tests.{below_bound}
+use Rattle.item_list.proofs.Tests.{below_bound}
 use Rattle.net_model.specs.Flows.{FlowNetwork, is_on}
 use Rattle.net_model.specs.Walks.{head_of, tail_of}
 use Rattle.unit_flow.proofs.PassingSteps.{is_on-set, marked_ends-le, marked_ends-moved, marked_ends-unmarked, passed_ends-firsts, passed_ends-moved, passed_first}

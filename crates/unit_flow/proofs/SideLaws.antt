@@ -4,12 +4,13 @@ use Rattle.std.specs.List.{range_with_len}
 use Rattle.std.proofs.Common.{refl, sym, ◌∙◌, ap, subst, arith, inl, inr}
 use Rattle.std.proofs.lemmas.Bool.{and_from, and_parts, both_ways, cond-false, cond-true, eqb-true, eqb-false, ne_eqb, not-true, not_from_false, true_from_ne_false, false_from_ne_true}
 use Rattle.std.proofs.lemmas.List.Sums.{length-filter}
+use Rattle.item_list.proofs.Tests.{count_by-none}
 use Rattle.net_model.proofs.FlowLaws.{IsGreatestFlow-from_crossing, IsLeastCrossed-from_flow}
 use Rattle.net_model.specs.Flows.{FlowNetwork, IsGreatestFlow, IsLeastCrossed, IsLeastSide, IsSide, crossing, is_on, leaves}
 use Rattle.net_model.specs.Lists.{is_among}
 use Rattle.net_model.specs.Walks.{head_of, tail_of}
 use Rattle.unit_flow.specs.Conservation.{IsConserved, IsFlowNetwork, used_from, used_into}
-use Rattle.unit_flow.proofs.CountLaws.{All-range, All-range_at, IsDistinct-range, count_by-implied, count_by-keys_on, count_by-none, count_by-same, count_by-split, is_among-range, none-count_by, same-count_by, sum_by-add, sum_by-same, sum_by-single}
+use Rattle.unit_flow.proofs.CountLaws.{All-range, All-range_at, IsDistinct-range, count_by-implied, count_by-keys_on, count_by-same, count_by-split, is_among-range, none-count_by, same-count_by, sum_by-add, sum_by-same, sum_by-single}
 use Rattle.unit_flow.proofs.PassageLaws.{free_alone, free_or_used, is_used-within, passage-free, passage-used, passage_cases, used_alone}
 use Rattle.unit_flow.specs.Reaching.{IsClosed, IsReached}
 use Rattle.unit_flow.specs.Residual.{AreStates, is_used}

@@ -5,11 +5,11 @@ use Rattle.node_program.specs.declared.code.Code.{Code}
 use Rattle.top_runs.specs.Send.Given.{IsClear, outputs_of, pattern_of}
 use Rattle.top_base.specs.Words.{Send}
 use Rattle.source_delivery.specs.Delivery.{paths_of}
-use Rattle.source_delivery.specs.declared.delivery.Delivery.{Delivery}
+use Rattle.source_delivery.specs.declared.delivery.SourceDelivery.{SourceDelivery}
 
 -- the code is at work under the pattern and begins with the number 0, the paths are those of its sinks' files, and nothing is
 -- gathered yet
-pub record IsReady {F : Type 0} (send : Send) (code : Code) (delivery : Delivery F) : Type 0 where
+pub record IsReady {F : Type 0} (send : Send) (code : Code) (delivery : SourceDelivery F) : Type 0 where
   pub clear : IsClear send code
   pub at_work : delivery.runner.code ≡ code
   pub pattern : pattern_of send code ≡ Some delivery.runner.pattern

@@ -1,4 +1,5 @@
-use Rattle.code_checker.proofs.ProductSteps.{decoder_within, decoder_shape}
+use Rattle.node_program.proofs.DecodingLaws.{decoder_shape}
+use Rattle.code_checker.proofs.ProductSteps.{decoder_within}
 use Rattle.code_checker.proofs.products.decoder_of.Goals as goal
 
 pub at-requires : goal.at-requires

@@ -1,6 +1,7 @@
 use Rattle.std.proofs.Common.{[], ◌∷◌, ◌++◌, List, refl, subst}
+use Rattle.item_list.proofs.Results.{on_err}
 use Rattle.lif_outside.specs.Moves.{Move, put_failed}
-use Rattle.node_stations.proofs.PuttingLaws.{failed_of, gives_more, has_room, less_room, on_err, put_of, puts_more}
+use Rattle.node_stations.proofs.PuttingLaws.{failed_of, gives_more, has_room, less_room, put_of, puts_more}
 use Rattle.node_stations.proofs.putting.put_due.Goals as goal
 use Rattle.node_stations.specs.Putting.{StopsPutting, flight_of, puts_of}
 

@@ -1,8 +1,9 @@
 use Rattle.std.specs.Prelude.{◌≡◌, ◌≤◌, ◌+◌, ◌-◌, ◌*◌, length}
 use Rattle.std.proofs.Common.{◌∙◌, ap, arith, sym}
 use Rattle.generation_frame.specs.Blocks.{row_bytes}
+use Rattle.item_list.proofs.Places.{row_end}
 use Rattle.sink_decoder.specs.Receiving.{decoded}
-use Rattle.relay_runner.proofs.DecodingLaws.{block-end, blocks-more}
+use Rattle.relay_runner.proofs.DecodingLaws.{blocks-more}
 use Rattle.relay_runner.proofs.decoding.decode_blocks.Goals as goal
 use Rattle.relay_runner.proofs.decoding.decode_blocks.Goals.{In-loop-place}
 use borrow.Rule.Slice.PartMut.{mid_len}
@@ -16,7 +17,7 @@ block-requires-clause-whole g c = c.requires.all.2.whole c.loop-place.place c.lo
 -- there is room for the block
 room : (g : _) (c : In-loop-place g) → c.loop-place.place * c.args.size + c.args.size ≤ length c.loop-place.into
 room g c =
-    omega (arith, block-end c.loop-place.place c.args.count c.args.size c.loop-place-test.true, c.loop-place.auto.into, c.requires.room)
+    omega (arith, row_end c.loop-place.place c.args.count c.args.size c.loop-place-test.true, c.loop-place.auto.into, c.requires.room)
 
 pub block-requires-clause-room : goal.block-requires-clause-room
 block-requires-clause-room g c =

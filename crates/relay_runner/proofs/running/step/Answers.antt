@@ -1,7 +1,7 @@
 use Rattle.std.proofs.Common.{[], ◌∷◌, Ok, Option, subst}
+use Rattle.item_list.proofs.Results.{on_err}
 use Rattle.lif_outside.specs.Moves.{take_move}
 use Rattle.lif_outside.specs.declared.links.Flight.{Flight}
-use Rattle.node_stations.proofs.PuttingLaws.{on_err}
 use Rattle.node_stations.specs.Table.{relays_of, sinks_of}
 use Rattle.relay_runner.proofs.SteppingLaws as stepping
 use Rattle.relay_runner.proofs.StoppingLaws.{stops-take}

@@ -1,5 +1,7 @@
 use Rattle.std.proofs.Common.{inl, inr}
-use Rattle.system_files.proofs.Handles.{none_stays, on_err, ok_then}
+use Rattle.std.proofs.lemmas.Result.{on_ok_weaker}
+use Rattle.item_list.proofs.Results.{on_err}
+use Rattle.system_files.proofs.Handles.{none_stays}
 use Rattle.system_files.proofs.files.append_to.Goals as goal
 
 -- a file that wasn't open isn't after others were closed
@@ -14,13 +16,13 @@ returns-in_err-append-clause-closes g c = on_err c.from_residual-in_err-append.r
 
 -- that which was open gained the bytes
 pub returns-in-Some-clause-gains : goal.returns-in-Some-clause-gains
-returns-in-Some-clause-gains g c = ok_then c.in-Some.outcome c.in-Some.ensures.gains (λ gains. record {
+returns-in-Some-clause-gains g c = on_ok_weaker c.in-Some.outcome (λ gains. record {
   before = gains.before;
   after = gains.after;
   was = inl gains.was;
   is = inl gains.is;
   gained = gains.gained;
-})
+}) c.in-Some.ensures.gains
 
 -- one that was opened did
 pub returns-clause-gains : goal.returns-clause-gains

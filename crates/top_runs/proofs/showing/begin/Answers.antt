@@ -1,6 +1,6 @@
 use Rattle.std.specs.Prelude.{[], ◌<◌, ◌*◌, ℕ, Some, count_by, replicate, slice_get}
 use Rattle.std.proofs.Common.{◌≡◌, inl, ap, subst, ◌∙◌, map, string_bytes, length}
-use Rattle.top_base.proofs.Exits.{on_err}
+use Rattle.item_list.proofs.Results.{on_err}
 use Rattle.top_runs.proofs.FrameLaws.{count-live}
 use Rattle.node_program.specs.CodeValue.{is_live_in}
 use Rattle.node_program.specs.declared.code.Code.{Code}

@@ -2,12 +2,13 @@ use Rattle.std.proofs.Common.{◌≡◌, ◌<◌, ◌≤◌, ◌+◌, ◌*◌, �
 use Rattle.std.proofs.lemmas.List.{length-map}
 use Rattle.generation_frame.specs.Frames.{accepted}
 use Rattle.held_rows.specs.Held.{Holds, is_held}
+use Rattle.item_list.proofs.Places.{row_end}
 use Rattle.due_sums.specs.Counts.{CountsDown, IsTable, lists_of, reads_of}
 use Rattle.due_sums.specs.Groups.{HasSums}
 use Rattle.due_sums.specs.Waiting.{Waiting, due_number}
 use Rattle.due_sums.proofs.GroupLaws.{groups_fit}
 use Rattle.due_sums.proofs.TableLaws.{enough}
-use Rattle.due_sums.proofs.WaitingLaws.{Gains-table, IsWaiting-accept, low_shift, not_before, readers_at, room_fits, rooms, shifted, within_tables}
+use Rattle.due_sums.proofs.WaitingLaws.{Gains-table, IsWaiting-accept, low_shift, not_before, readers_at, rooms, shifted, within_tables}
 use Rattle.due_sums.specs.declared.due_sums.Table.{Table}
 use Rattle.due_sums.proofs.due_sums.DueSums.accept.Goals as goal
 use Rattle.due_sums.proofs.due_sums.DueSums.accept.Goals.{After-count_down, After-deref-2}
@@ -28,7 +29,7 @@ base_is c = shifted c.args.generation c.self.inside.shift 64 (omega (arith, with
 
 -- there is room for its sums
 room : (c : After-deref-2) → base c + 2 ^ c.self.inside.shift ≤ length c.self.inside.tables.items * 2 ^ c.self.inside.shift
-room c = room_fits c.args.generation (length c.self.inside.tables.items) (2 ^ c.self.inside.shift) (within c)
+room c = row_end c.args.generation (length c.self.inside.tables.items) (2 ^ c.self.inside.shift) (within c)
 
 -- its counts
 counted : (c : After-deref-2) → IsTable c.self.inside.inputs c.self.inside.sums c.self.inside.groups.inputs c.index_mut-table.result.now (base c) c.self.inside.due

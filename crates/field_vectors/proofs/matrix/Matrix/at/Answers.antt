@@ -1,7 +1,7 @@
 use Rattle.std.proofs.Common.{◌<◌, length, arith, ap, ◌∙◌, sym, subst, get_or}
 use Rattle.std.proofs.lemmas.List.{get_or_read}
 use Rattle.std.proofs.lemmas.List.Elements.{All-get_or}
-use Rattle.list_laws.proofs.Places.{place_within}
+use Rattle.item_list.proofs.Places.{place_within}
 use Rattle.field_vectors.proofs.CutLaws.{get_or-cut_entry}
 use Rattle.field_vectors.proofs.GridSteps.{shown-IsMatrix, row_below, columns_are}
 use Rattle.field_vectors.specs.Grid.{entry_of}

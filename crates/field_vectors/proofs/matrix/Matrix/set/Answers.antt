@@ -1,5 +1,5 @@
 use Rattle.std.proofs.Common.{◌<◌, arith, refl}
-use Rattle.list_laws.proofs.Places.{place_within}
+use Rattle.item_list.proofs.Places.{place_within}
 use Rattle.field_vectors.proofs.CutLaws.{entries-IsMatrix}
 use Rattle.field_vectors.proofs.GridSteps.{shown-IsMatrix, row_below, columns_are, grid_in-set, set-entries}
 use Rattle.field_vectors.proofs.matrix.Matrix.set.Goals as goal

@@ -1,9 +1,9 @@
 -- The stations begin the window and are fed it, and then it is carried.
 use Rattle.std.proofs.Common.{◌≡◌, ◌≤◌, ◌+◌, ◌++◌, List, ap, arith, drop, length, refl, subst, sym, take, ◌∙◌}
 use Rattle.std.proofs.lemmas.List.{take_at}
+use Rattle.std.proofs.lemmas.Result.{on_err_weaker, on_ok_weaker}
 use Rattle.lif_outside.specs.Calls.{MakesMoves}
 use Rattle.node_program.specs.Decoding.{IsAccepted}
-use Rattle.node_stations.proofs.PuttingLaws.{on_err-then, on_ok-then}
 use Rattle.node_stations.specs.Table.{relays_of, sinks_of}
 use Rattle.node_stations.specs.declared.station.Station.{Station}
 use Rattle.relay_runner.proofs.CarriedLaws.{has-sent}
@@ -91,7 +91,7 @@ pub returns-clause-carried : goal.returns-clause-carried
 returns-clause-carried g c =
     let at = (goal.at.returns-clause-carried g c).After-start_window-count in
     let code = c.self.inside.code.now in
-    on_ok-then c.run.result (λ carries.
+    on_ok_weaker c.run.result (λ carries.
     subst (λ (runner : Running). Carries g.K.Links runner.code runner.pattern (window_from runner.code runner.next c.args.blocks.now)
     c.args.links.now c.run.new.links c.run.new.self.relays c.run.new.self.sinks) c.self.view_is
     (carries (window_from code c.self.inside.next c.args.blocks.now) (starts g at))) c.run.ensures.carried
@@ -101,7 +101,7 @@ returns-clause-sent g c =
     let at = (goal.at.returns-clause-sent g c).After-start_window-count in
     let window = window_from c.self.inside.code.now c.self.inside.next c.args.blocks.now in
     let accepted : IsAccepted c.self.inside.code.now = subst IsAccepted c.code.ensures.value c.code.ensures.accepted in
-    on_ok-then c.run.result (λ carries.
+    on_ok_weaker c.run.result (λ carries.
     subst (λ (runner : Running). CarriesWindow g.K.Links (window_from runner.code runner.next c.args.blocks.now) c.args.links.now c.run.new.links c.run.new.self)
     c.self.view_is
     (has-sent g.K.Links (runner_begun g at) c.run.new.self c.run.ensures.work window refl (counted g at) (some_blocks g at) accepted c.args.links.now c.run.new.links
@@ -111,7 +111,7 @@ pub returns-clause-whole : goal.returns-clause-whole
 returns-clause-whole g c =
     let at = (goal.at.returns-clause-whole g c).After-start_window-count in
     let window = window_from c.self.inside.code.now c.self.inside.next c.args.blocks.now in
-    on_ok-then c.run.result (λ carries.
+    on_ok_weaker c.run.result (λ carries.
     has-carried g.K.Links (runner_begun g at) c.run.new.self c.run.ensures.work window refl (counted g at) c.args.links.now c.run.new.links
     (carries window (starts g at))) c.run.ensures.carried
 
@@ -119,14 +119,14 @@ pub returns-clause-quiet : goal.returns-clause-quiet
 returns-clause-quiet g c =
     let at = (goal.at.returns-clause-quiet g c).After-start_window-count in
     let window = window_from c.self.inside.code.now c.self.inside.next c.args.blocks.now in
-    on_ok-then c.run.result (λ carries. (carries window (starts g at)).quiet) c.run.ensures.carried
+    on_ok_weaker c.run.result (λ carries. (carries window (starts g at)).quiet) c.run.ensures.carried
 
 pub returns-clause-room : goal.returns-clause-room
 returns-clause-room g c =
     let at = (goal.at.returns-clause-room g c).After-start_window-count in
     let code = c.self.inside.code.now in
     let window = window_from code c.self.inside.next c.args.blocks.now in
-    on_ok-then c.run.result (λ carries.
+    on_ok_weaker c.run.result (λ carries.
     (still-open g.K.Links code c.self.inside.pattern window g.met.K.Links.accounts c.args.links.now c.run.new.links c.run.new.self.relays c.run.new.self.sinks
     (carries window (starts g at)).carried).same_room) c.run.ensures.carried
 
@@ -135,7 +135,7 @@ returns-clause-seed g c =
     let at = (goal.at.returns-clause-seed g c).After-start_window-count in
     let code = c.self.inside.code.now in
     let window = window_from code c.self.inside.next c.args.blocks.now in
-    on_ok-then c.run.result (λ carries.
+    on_ok_weaker c.run.result (λ carries.
     (still-open g.K.Links code c.self.inside.pattern window g.met.K.Links.accounts c.args.links.now c.run.new.links c.run.new.self.relays c.run.new.self.sinks
     (carries window (starts g at)).carried).same_seed) c.run.ensures.carried
 
@@ -143,7 +143,7 @@ pub returns-clause-stopped : goal.returns-clause-stopped
 returns-clause-stopped g c =
     let at = (goal.at.returns-clause-stopped g c).After-start_window-count in
     let code = c.self.inside.code.now in
-    on_err-then c.run.result (λ stops.
+    on_err_weaker c.run.result (λ stops.
     subst (λ (runner : Running). MakesMoves g.K.Links c.args.links.now c.run.new.links
     (IsStopped (g.K.Links.faithful c.args.links.now) runner.code runner.pattern (window_from runner.code runner.next c.args.blocks.now))) c.self.view_is
     (stops (window_from code c.self.inside.next c.args.blocks.now) (starts g at))) c.run.ensures.stopped

@@ -1,9 +1,9 @@
 -- The source's packets are put, and then turn follows turn.
 use Rattle.std.proofs.Common.{Ok, refl, ◌≡◌, ◌≤◌, subst, sym, ap}
 use Rattle.coded_traffic.specs.Traffic.{Window, room_for}
+use Rattle.item_list.proofs.Results.{on_err}
 use Rattle.lif_outside.specs.Calls.{MakesMoves}
 use Rattle.node_program.specs.declared.code.Code.{Code}
-use Rattle.node_stations.proofs.PuttingLaws.{on_err}
 use Rattle.relay_runner.proofs.RunningLaws.{first-planned, first-room, first-stops, first-way, nearer, onward, way-ends, way-stops}
 use Rattle.relay_runner.proofs.runner.Runner.run.Goals as goal
 use Rattle.relay_runner.specs.Carried.{IsStopped}

@@ -1,0 +1,7 @@
+-- Results at the exits of a function.
+use Rattle.std.specs.Prelude.{Result, Ok, Err, OnErr}
+
+-- what holds at an exit, said of the error there
+pub on_err : {T E P : Type 0} (r : Result T E) → P → OnErr r P
+on_err (Ok x) p = tt
+on_err (Err e) p = p
