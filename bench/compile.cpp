@@ -11,8 +11,6 @@
 
 #include <cstdint>
 
-constexpr int MOST_RATE = 32;
-
 // Powers of 2 in the field of 256 elements, and logarithms. The logarithm of zero is so great that the power at its sum
 // with any other is zero.
 struct OctetTables {
@@ -364,8 +362,9 @@ static std::string compile(const char *method, const Network &network, const cha
     int field = network.field != 0 ? network.field : demands <= 256 ? 8 : 16;
     if (demands > (field == 8 ? 256 : 65536)) fail("there are too many demands for the field");
     Report report = report_of(method, network);
-    int rate = report.rate;
+    int rate = network.rate != 0 ? network.rate : report.rate;
     if (rate < 1 || rate > MOST_RATE) fail("the rate isn't 1 to 32");
+    if (rate > report.rate) fail("the rate that is wanted is above that of the network");
     Network ordered = renumbered(network, order);
     auto hops = hops_by_link(network, order, rate, report.hops);
     write_file(code_path, field == 8 ? Compiler<Octet>(ordered, rate, std::move(hops)).code()

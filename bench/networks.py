@@ -22,9 +22,22 @@ a node where nothing goes on.
 node of the first layer, each node of a layer has as many as the degree is to different nodes of the next one, and each
 sink has as many as the rate is from different nodes of the last one, all by chance. Each pattern fails an eighth of the
 links into one layer, by chance; the layers take turns, all but the first one.
+
+`sized LINKS WIDTH DEGREE SINKS RATE` has exactly so many links, in as many whole layers as there is room for, as `mixed`
+without patterns. The links that remain lead from the source to the nodes of the first layer, in turn.
+
+`parallel LINKS` is one bundle of so many links from the source to the sink.
+
+Behind the words of a kind `fail-each` lets each link fail alone, and `rate R` wants that rate. Networks whose single links
+fail are:
+
+- `parallel 1023 fail-each`, with 1,024 demands
+- `mixed 4 32 4 16 8 0 fail-each`, with 544 links and 8,720 demands
+- `sized LINKS 16 4 16 4 fail-each`, as for 250, 500, 1000 and 2000 links; the demands are 16 times one more than the links
 """
 import itertools
 import random
+import re
 import string
 import sys
 
@@ -140,6 +153,19 @@ def mixed(count, width, degree, sinks, rate, listed):
     return "".join(line + "\n" for line in lines)
 
 
+def sized(links, width, degree, sinks, rate):
+    room = links - width - sinks * rate
+    if room < 0:
+        sys.exit(f"networks.py: {links} links are too few")
+    text = mixed(room // (width * degree) + 1, width, degree, sinks, rate, 0)
+    more = range(room % (width * degree))
+    return text + "".join(f"link m{link} s n0.{link % width}\n" for link in more)
+
+
+def parallel(links):
+    return f"source s\nsink t\nlink l s t x{links}\n"
+
+
 KINDS = {
     "patterns": (patterns, 0),
     "comments": (comments, 0),
@@ -147,18 +173,22 @@ KINDS = {
     "layers": (layers, 4),
     "butterfly": (butterfly, 2),
     "mixed": (mixed, 6),
+    "sized": (sized, 5),
+    "parallel": (parallel, 1),
 }
 USAGE = (
     "patterns | comments | combination MIDDLES SIZE | layers LAYERS WIDTH DEGREE PATTERNS | "
-    "butterfly SINKS PATTERNS | mixed LAYERS WIDTH DEGREE SINKS RATE PATTERNS"
+    "butterfly SINKS PATTERNS | mixed LAYERS WIDTH DEGREE SINKS RATE PATTERNS | "
+    "sized LINKS WIDTH DEGREE SINKS RATE | parallel LINKS [fail-each] [rate R]"
 )
 
 
 def main(kind="", *words):
     make, count = KINDS.get(kind, (None, 0))
-    if make is None or len(words) != count:
+    lines = re.fullmatch("( fail-each)?( rate [0-9]+)?", "".join(f" {word}" for word in words[count:]))
+    if make is None or len(words) < count or lines is None:
         sys.exit(f"usage: networks.py {USAGE}")
-    sys.stdout.write(make(*map(int, words)))
+    sys.stdout.write(make(*map(int, words[:count])) + "".join(f"{line[1:]}\n" for line in lines.groups() if line))
 
 
 main(*sys.argv[1:])

@@ -1,0 +1,604 @@
+# What bench/run measures: `measure_PART` for each part. It reads this file, and has set `top`, `folder` and `files` (the folders
+# of the repository and of what is temporary), `program`, and `own_level`, that of the processor.
+
+# How often each of the two copies of the source is made, and how often rows are added. Plain C is slow, so it is
+# run in each eighth of those rounds.
+copy_rounds=10
+row_rounds=40
+plain_step=8
+
+# How often a source is sent through each code by the program and by C, and how often a large code file is read and
+# checked.
+code_rounds=7
+read_rounds=7
+check_rounds=2
+
+# How often one node and one sink are fed with frames by the program and by C, and how many frames there are about each time.
+frame_rounds=20
+frames_each=500000
+
+# How often each network text is gone through by the program and by C++, and how often each size is taken where there are many.
+net_rounds=15
+size_rounds=5
+
+# How often networks whose links each fail alone are gone through, and how many links they have.
+alone_rounds=3
+alone_links="250 500 1000"
+
+# The number of the element that rows are multiplied by.
+multiplier=29
+
+# How many rows there are: a megabyte of them on each side, and so few that they stay in the nearest cache.
+many_rows=1024
+few_rows=8
+
+# How long the source is, and how much of it is sent through the codes of layers, which have many frames for each byte.
+source_bytes=67108864
+layer_bytes=1048576
+
+# How many bytes `demo` carries, to a sink behind each so many of so many nodes, and how many sinks these are.
+demo_bytes=1024000
+demo_middles=23
+demo_size=2
+demo_sinks=253
+
+# How many rows of 1,024 bytes the programs over rows add, however many rows there are.
+rows_added=409600
+
+# How many links, demands and bytes there are where cost is measured over these: the layers of a network of 16 sinks, the
+# patterns of one with 8 layers, and the lengths of a source.
+size_layers="2 4 8 16 32"
+size_patterns="0 3 15 63 255 1023"
+size_bytes="1024 4096 16384 65536 262144 1048576 4194304 16777216 67108864"
+
+# Once around, with short sources and few sizes.
+be_quick() {
+    copy_rounds=1 row_rounds=1 code_rounds=1 read_rounds=1 check_rounds=1 frame_rounds=1 net_rounds=1 size_rounds=1 alone_rounds=1
+    frames_each=50000 source_bytes=4194304 layer_bytes=65536
+    alone_links=250 size_layers="2 4 8" size_patterns="0 3 15" size_bytes="1024 16384 262144"
+}
+
+# Makes the source, where it isn't there.
+make_source() {
+    if [ -e "$folder/source" ]; then return; fi
+    head -c "$source_bytes" /dev/urandom >"$folder/source"
+    sync "$folder/source"
+}
+
+# Each round makes both copies anew, compares them with the source and removes them.
+measure_copy() {
+    local sent='' copied='' round
+    make_source
+    for ((round = 0; round < copy_rounds; round++)); do
+        time_command send "$folder/source"
+        sent=$(least "$sent" "$elapsed")
+        time_command cp "$folder/source" "$folder/copy"
+        copied=$(least "$copied" "$elapsed")
+        cmp "$folder/source" "$folder/sent.t"
+        cmp "$folder/source" "$folder/copy"
+        rm "$folder/sent.t" "$folder/copy"
+    done
+    note "\`send\` of $(commas "$source_bytes") bytes through one link" "" ms 1000000 "$sent" "$copied" "\`cp\`"
+}
+
+# Copies a crate, what was proved of it, and the crates below it. A name that crates.txt doesn't list is the kit's.
+copy_crate() {
+    local line below
+    line=$(grep "^$1[ :]" "$top/crates.txt") || return 0
+    if [ -d "$folder/rattle/crates/$1" ]; then return 0; fi
+    cp -a "$top/crates/$1" "$folder/rattle/crates/"
+    for below in ${line#*:}; do
+        copy_crate "$below"
+    done
+    echo "$line" >>"$folder/rattle/crates.txt"
+}
+
+# Makes the crate of a program of this folder, over the crates that are named, in a copy of those that it stands on.
+make_crate() {
+    local name=$1 crate=$folder/rattle/crates/$1 below
+    shift
+    mkdir -p "$folder/rattle/crates"
+    cp "$top/HANDLES" "$folder/rattle/"
+    for below in "$@"; do copy_crate "$below"; done
+    (cd "$folder/rattle" && rt new "crates/$name" start_io) >"$folder/log" 2>&1 || fail "$(cat "$folder/log")"
+    rm -rf "$crate/src" "$crate/stdin" "$crate/stdout" "$crate/BUILD.bazel"
+    mkdir "$crate/src"
+    cp "$top/bench/$name.rattle" "$crate/src/main.rt"
+    echo "$name: $*" >>"$folder/rattle/crates.txt"
+}
+
+# Proves and builds the program over rows.
+build_rows() {
+    make_crate rows gf_tables field_rows
+    build_rows_for x86-64-v2 "$folder/rattle-rows"
+    if [ "$own_level" = x86-64-v3 ]; then build_rows_for x86-64-v3 "$folder/rattle-rows-v3"; fi
+}
+
+# Builds the program over rows for a level of processors.
+build_rows_for() {
+    (cd "$folder/rattle/crates/rows" && rt run --cpu "$1" -- "$multiplier" "$few_rows") </dev/null >"$folder/log" 2>&1 ||
+        fail "$(cat "$folder/log")"
+    mv "$folder/rattle/crates/rows/out/rows" "$2"
+}
+
+# Proves and builds the program that feeds one node or one sink, for the processor's level.
+build_frames() {
+    make_crate frames item_list gf_tables lif_outside generation_frame net_model node_program code_checker code_file \
+        node_plans relay_node sink_decoder
+    build codes
+    "$folder/codes" node 2 >"$files/code"
+    (cd "$folder/rattle/crates/frames" && rt run --cpu "$own_level" -- 0 1 1) <"$files/code" >"$folder/log" 2>&1 ||
+        fail "$(cat "$folder/log")"
+    mv "$folder/rattle/crates/frames/out/frames" "$folder/rattle-frames"
+}
+
+# Builds programs in C and C++, each once.
+build() {
+    local name
+    for name in "$@"; do
+        if [ -x "$folder/$name" ]; then continue; fi
+        case $name in
+        codes) cc -O2 -o "$folder/codes" "$top/bench/codes.c" ;;
+        c-rows) cc -O2 -o "$folder/c-rows" "$top/bench/rows.c" -lisal ;;
+        c-frames) cc -O3 -march="$own_level" -o "$folder/c-frames" "$top/bench/frames.c" -lisal ;;
+        c-send) cc -O3 -o "$folder/c-send" "$top/bench/send_frames.c" -lisal ;;
+        c-check) cc -O3 -march="$own_level" -o "$folder/c-check" "$top/bench/check.c" ;;
+        cpp-*) c++ -std=c++17 -O3 -o "$folder/$name" "$top/bench/${name#cpp-}.cpp" ;;
+        esac
+    done
+}
+
+# Compares what the sinks got with the source, and removes it. There must be so many of them.
+compare_outputs() {
+    local count=0 output
+    for output in "$files"/out.*; do
+        cmp "$files/source" "$output"
+        rm "$output"
+        count=$((count + 1))
+    done
+    [ "$count" -eq "$1" ] || fail "$count sinks got the source in place of $1"
+}
+
+# The processors that commands may run on, and the first of them.
+all_processors=$(taskset -cp $$ | sed 's/.*: //')
+one_processor=${all_processors%%[,-]*}
+
+pin() {
+    taskset -cp "$1" $$ >/dev/null
+}
+
+# Runs a command that sends the source through the code to so many sinks, and keeps under a name the least of its times.
+declare -A send_time
+run_send() {
+    local name=$1 sinks=$2
+    shift 2
+    time_command "$@" "$files/code" none 1 "$files/source" "$files/out"
+    send_time[$name]=$(least "${send_time[$name]:-}" "$elapsed")
+    compare_outputs "$sinks"
+}
+
+# Sends the source through the code to so many sinks, so often by the program and by C in turn, and notes the least times under
+# a line and a size. C says how many frames there were.
+measure_sending() {
+    local line=$1 size=$2 sinks=$3 rounds=$4 round frames
+    send_time=()
+    for ((round = 0; round < rounds; round++)); do
+        run_send lif "$sinks" "$program" send
+        run_send isal "$sinks" "$folder/c-send"
+        frames=$(cat "$folder/log")
+        pin "$one_processor"
+        run_send one "$sinks" "$program" send
+        pin "$all_processors"
+    done
+    note "$line" "$size" ms 1000000 "${send_time[lif]}" "${send_time[isal]}" "C with ISA-L"
+    if [ -z "$size" ]; then
+        note "$line, on one processor" "" ms 1000000 "${send_time[one]}"
+        echo "    $frames frames of $(stat -c %s "$files/source") bytes"
+    fi
+}
+
+# Sends the source through a code. The words from the third one on are those of bench/codes.c.
+measure_code() {
+    local title=$1 sinks=$2
+    shift 2
+    "$folder/codes" "$@" >"$files/code"
+    measure_sending "\`send\` through $title" "" "$sinks" "$code_rounds"
+}
+
+# Makes the code file of a network by the program. The words are those of bench/networks.py.
+compile_network() {
+    python3 "$top/bench/networks.py" "$@" >"$files/net"
+    "$program" compile "$files/net" "$files/code" "$files/report" >"$folder/log" || fail "$(cat "$folder/log")"
+}
+
+# Sends the source through the code that the program makes of a network. The words from the third one on are those of
+# bench/networks.py.
+measure_compiled() {
+    local title=$1 sinks=$2
+    shift 2
+    compile_network "$@"
+    measure_sending "\`send\` through $title" "" "$sinks" "$code_rounds"
+}
+
+measure_codes() {
+    build codes c-send
+    make_source
+    cp "$folder/source" "$files/source"
+    measure_code "the butterfly" 2 butterfly
+    measure_code "the fan of field 8" 16 fan 8 8 16 16 8 0
+    measure_code "the fan of field 16" 16 fan 16 8 16 16 8 0
+    head -c "$layer_bytes" "$folder/source" >"$files/source"
+    measure_code "the layers of which all links carry" 64 layers 8 64 16
+    measure_compiled "the layers that were compiled" 64 layers 8 64 16 0
+    rm "$files/source"
+}
+
+# So many bytes of the source of `demo`.
+demo_source() {
+    python3 -c 'import sys; sys.stdout.buffer.write(bytes((167 * i + 13 * (i // 256) + 5) % 256 for i in range(int(sys.argv[1]))))' "$1"
+}
+
+# The sum of all bytes of a file.
+sum_of() {
+    python3 -c 'import sys; print(sum(open(sys.argv[1], "rb").read()))' "$1"
+}
+
+# Runs `demo`, and keeps the least of its times and how many frames it says. It must say the sum of what all sinks get.
+run_demo() {
+    time_command "$program" demo "$demo_middles" "$demo_size" "$demo_bytes"
+    send_time[demo]=$(least "${send_time[demo]:-}" "$elapsed")
+    frames=$(sed -n 's/^frames //p' "$folder/log")
+    [ "$(sed -n 's/^sum //p' "$folder/log")" = "$1" ] || fail "demo doesn't say the sum $1"
+}
+
+# Carries the source of `demo` through its network by the program, and by C through the code file of that network, in turn.
+# Both must put as many frames.
+measure_demo() {
+    local title="a sink behind each $demo_size of $demo_middles nodes" round frames sum
+    build c-send
+    compile_network combination "$demo_middles" "$demo_size"
+    demo_source "$demo_bytes" >"$files/source"
+    sum=$((demo_sinks * $(sum_of "$files/source")))
+    send_time=()
+    for ((round = 0; round < code_rounds; round++)); do
+        run_demo "$sum"
+        run_send isal "$demo_sinks" "$folder/c-send"
+        [ "$(cat "$folder/log")" = "$frames" ] || fail "C puts $(cat "$folder/log") frames in place of $frames"
+    done
+    rm "$files/source"
+    note "\`demo\` of $title" "" ms 1000000 "${send_time[demo]}" "${send_time[isal]}" "C with ISA-L"
+    echo "    $frames frames"
+}
+
+# Runs the check of the code file, whether it ends with this status. Notes how much memory it held.
+run_check() {
+    local status=0
+    /usr/bin/time -q -f %M -o "$folder/memory" "$program" check "$files/code" || status=$?
+    [ "$status" -eq "$1" ]
+}
+
+# Checks the code file, for which this status and line are wanted, and sets `elapsed` and `memory`, in bytes.
+check_code() {
+    time_command run_check "$1"
+    [ "$(cat "$folder/log")" = "$2" ] || fail "the check of a code file says '$(cat "$folder/log")' in place of '$2'"
+    memory=$(($(cat "$folder/memory") * 1024))
+}
+
+# Checks the code file by a command on one processor, which must say this line, and keeps under a name the least of the times.
+declare -A check_time
+run_pinned() {
+    local name=$1 line=$2
+    shift 2
+    pin "$one_processor"
+    time_command "$@" "$files/code"
+    check_time[$name]=$(least "${check_time[$name]:-}" "$elapsed")
+    pin "$all_processors"
+    [ "$(cat "$folder/log")" = "$line" ] || fail "'$*' says '$(cat "$folder/log")' of a code file in place of '$line'"
+}
+
+# Makes a code file of a rate of 32, with 16 sinks and 4,096 patterns, and checks it. With one byte more behind it, it
+# is refused once all was read.
+measure_large_code() {
+    local field=$1 size read='' round line="accepted rate 32 field $1 demands 65536"
+    "$folder/codes" fan "$field" 32 33 16 33 4095 >"$files/code"
+    size=$(stat -c %s "$files/code")
+    check_time=()
+    for ((round = 0; round < check_rounds; round++)); do
+        run_pinned lif "$line" "$program" check
+        run_pinned c "$line" "$folder/c-check"
+        check_code 0 "$line"
+        check_time[all]=$(least "${check_time[all]:-}" "$elapsed")
+    done
+    printf x >>"$files/code"
+    for ((round = 0; round < read_rounds; round++)); do
+        check_code 7 "code refused: TrailingBytes $size"
+        read=$(least "$read" "$elapsed")
+    done
+    rm "$files/code"
+    note "reading the code file of field $field" "" ms 1000000 "$read"
+    note "memory for the code file of field $field" "" MB 1000000 "$memory" "$size" "its bytes"
+    note "\`check\` of the code file of field $field" "" ms 1000000 "${check_time[lif]}" "${check_time[c]}" "C"
+    note "\`check\` of the code file of field $field, on all processors" "" ms 1000000 "${check_time[all]}"
+}
+
+measure_large() {
+    build codes c-check
+    measure_large_code 8
+    measure_large_code 16
+}
+
+# Runs a command over the network text, and keeps under a name the least of its times and what it said last.
+declare -A net_time
+run_net() {
+    local name=$1
+    shift
+    time_command "$@" "$files/net"
+    net_time[$name]=$(least "${net_time[$name]:-}" "$elapsed")
+    mv "$folder/log" "$files/said-$name"
+}
+
+# The same for a command that makes a code file and a report of the text. The report is behind what it said.
+run_compile() {
+    local name=$1
+    shift
+    time_command "$@" "$files/net" "$files/code-$name" "$files/report-$name"
+    net_time[$name]=$(least "${net_time[$name]:-}" "$elapsed")
+    cat "$folder/log" "$files/report-$name" >"$files/said-$name"
+}
+
+# Compares what the program and C++ said, by a method. Their paths may be others, but there must be as many.
+compare_said() {
+    local name
+    for name in lif "$1"; do
+        sed 's/^path .*/path/' "$files/said-$name" >"$files/compared-$name"
+    done
+    cmp "$files/compared-lif" "$files/compared-$1"
+}
+
+# The methods by which C++ finds flows. An order has none.
+methods_of() {
+    if [ "$1" = order ]; then echo plain; else echo preflow edmonds-karp dinic; fi
+}
+
+# Runs a command in C++ by a method.
+run_cpp() {
+    local run=$1 command=$2 method=$3
+    if [ "$method" = plain ]; then
+        "$run" "$method" "$folder/cpp-$command"
+    else
+        "$run" "$method" "$folder/cpp-$command" "$method"
+    fi
+}
+
+# Runs a command of the program, and the same in C++ by each method, over the network text, so often in turn: all on one
+# processor, and the program once more on all of them. Sets by which method C++ was the fastest, and what the row says of it.
+take_turns() {
+    local command=$1 rounds=$2 run=run_net method round
+    shift 2
+    if [ "$command" = compile ]; then run=run_compile; fi
+    net_time=()
+    for ((round = 0; round < rounds; round++)); do
+        pin "$one_processor"
+        "$run" lif "$program" "$command"
+        for method in "$@"; do
+            run_cpp "$run" "$command" "$method"
+            compare_said "$method"
+        done
+        pin "$all_processors"
+        "$run" side "$program" "$command"
+        compare_said side
+    done
+    fastest=''
+    for method in "$@"; do
+        if [ -z "$fastest" ] || [ "${net_time[$method]}" -lt "${net_time[$fastest]}" ]; then fastest=$method; fi
+    done
+    case $fastest in
+    plain) beside="C++" ;;
+    preflow) beside="C++ (Preflow)" ;;
+    edmonds-karp) beside="C++ (EdmondsKarp)" ;;
+    dinic) beside="C++ (Dinic)" ;;
+    esac
+}
+
+# Measures a command over a network text. The words from the third one on are those of bench/networks.py.
+measure_net() {
+    local command=$1 title=$2 method methods
+    shift 2
+    build "cpp-$command"
+    python3 "$top/bench/networks.py" "$@" >"$files/net"
+    read -r -a methods <<<"$(methods_of "$command")"
+    take_turns "$command" "$net_rounds" "${methods[@]}"
+    note "\`$command\` of $title" "" ms 1000000 "${net_time[lif]}" "${net_time[$fastest]}" "$beside"
+    if [ "$command" = order ]; then return; fi
+    for method in "${methods[@]}"; do echo "    C++ ($method): $(over "${net_time[$method]}" 1000000) ms"; done
+    note "\`$command\` of $title, on all processors" "" ms 1000000 "${net_time[side]}"
+}
+
+measure_order() {
+    measure_net order "the text of patterns" patterns
+    measure_net order "the text of comments" comments
+}
+
+measure_cuts() {
+    measure_net cuts "the combination network" combination 24 2
+    measure_net cuts "the network of layers" layers 8 64 16 15
+}
+
+# Checks the code file that the program or C++ by a method made last: the line is that of `compile`, but for its first
+# word.
+check_compiled() {
+    "$program" check "$files/code-$1" >"$files/checked" ||
+        fail "the code file of $1 isn't accepted: $(cat "$files/checked")"
+    head -n 1 "$files/said-$1" | sed 's/^compiled /accepted /' | cmp - "$files/checked"
+}
+
+# Measures the making of a code, and checks the last code file of each.
+measure_making() {
+    measure_net compile "$@"
+    local name
+    for name in lif $(methods_of compile); do check_compiled "$name"; done
+}
+
+measure_compile() {
+    measure_making "the combination network" combination 24 2
+    measure_making "the wide butterfly" butterfly 16 15
+    measure_making "the mixed network" mixed 4 32 4 16 8 15
+    measure_making "the deep network" mixed 8 64 8 64 16 15
+}
+
+# Runs a program over rows, and keeps under a name the least of its times and the sum that it prints.
+declare -A row_time row_sum
+run_rows() {
+    local name=$1 line
+    shift
+    line=$("$@")
+    row_time[$name]=$(least "${row_time[$name]:-}" "${line% *}")
+    row_sum[$name]=${line#* }
+}
+
+# Notes a row for a level beside ISA-L and beside plain C, whose sums must be the same.
+note_rows() {
+    local rows=$1 name=$2 level=$3 line
+    line="\`add_scaled\` over $(commas "$rows") rows"
+    [ "${row_sum[$name]}" = "${row_sum[isal]}" ] || fail "add_scaled and ISA-L give different rows"
+    [ "${row_sum[$name]}" = "${row_sum[plain]}" ] || fail "add_scaled and plain C give different rows"
+    note "$line, for $level" "" "ns a row" "$rows_added" "${row_time[$name]}" "${row_time[isal]}" "ISA-L"
+    note "$line, for $level, beside plain C" "" "ns a row" "$rows_added" "${row_time[$name]}" "${row_time[plain]}" "plain C"
+}
+
+add_rows() {
+    local rows=$1 round
+    row_time=()
+    for ((round = 0; round < row_rounds; round++)); do
+        run_rows rattle "$folder/rattle-rows" "$multiplier" "$rows"
+        if [ -x "$folder/rattle-rows-v3" ]; then run_rows rattle3 "$folder/rattle-rows-v3" "$multiplier" "$rows"; fi
+        run_rows isal "$folder/c-rows" isal "$multiplier" "$rows"
+        if ((round % plain_step == 0)); then run_rows plain "$folder/c-rows" plain "$multiplier" "$rows"; fi
+    done
+    note_rows "$rows" rattle x86-64-v2
+    if [ -x "$folder/rattle-rows-v3" ]; then note_rows "$rows" rattle3 x86-64-v3; fi
+}
+
+measure_rows() {
+    build c-rows
+    add_rows "$many_rows"
+    add_rows "$few_rows"
+}
+
+# Runs a command that feeds the node or the sink of the code file, and keeps under a name the least of its times, and what
+# it counted.
+declare -A frame_time frame_count
+run_frames() {
+    local name=$1 time count sum
+    shift
+    read -r time count sum < <("$@" <"$files/code") || fail "'$*' failed"
+    frame_time[$name]=$(least "${frame_time[$name]:-}" "$time")
+    frame_count[$name]="$count $sum"
+}
+
+# Feeds a node or a sink by the program and by C in turn, and compares what they counted. The program takes the first two
+# words after the title, C the next two, and then come how many rounds there are and the words of bench/codes.c.
+feed() {
+    local title=$1 kind=$2 number=$3 name=$4 size=$5 rounds=$6 round
+    shift 6
+    "$folder/codes" "$@" >"$files/code"
+    frame_time=()
+    for ((round = 0; round < frame_rounds; round++)); do
+        run_frames lif "$folder/rattle-frames" "$kind" "$number" "$rounds"
+        run_frames isal "$folder/c-frames" "$name" "$size" "$rounds"
+        [ "${frame_count[lif]}" = "${frame_count[isal]}" ] || fail "$title and C with ISA-L give different frames"
+    done
+    note "$title" "" "ns a frame" "${frame_count[lif]%% *}" "${frame_time[lif]}" "${frame_time[isal]}" "C with ISA-L"
+}
+
+measure_frames() {
+    local outs
+    build codes c-frames
+    for outs in 2 16 1024; do
+        feed "one node with $(commas "$outs") links out" 0 1 node "$outs" $((frames_each / (32 * outs))) node "$outs"
+    done
+    feed "one sink of rate 8" 1 0 sink 8 $((frames_each / 256)) fan 8 8 8 1 8 0
+    rm "$files/code"
+}
+
+# Checks the code file that the program made last, by the program and by C in turn on one processor.
+check_in_turn() {
+    local round line
+    line=$(sed -n '1s/^compiled /accepted /p' "$files/said-lif")
+    mv "$files/code-lif" "$files/code"
+    check_time=()
+    for ((round = 0; round < size_rounds; round++)); do
+        run_pinned lif "$line" "$program" check
+        run_pinned c "$line" "$folder/c-check"
+    done
+}
+
+# Notes what `cuts`, `compile` and `check` take on one processor of a network text, under a size. The words from the second one
+# on are those of bench/networks.py.
+measure_costs() {
+    local size=$1 command
+    shift
+    build cpp-cuts cpp-compile c-check
+    python3 "$top/bench/networks.py" "$@" >"$files/net"
+    if [ "$size" = links ]; then size=$(grep -c '^link ' "$files/net"); fi
+    for command in cuts compile; do
+        take_turns "$command" "$size_rounds" dinic
+        note "\`$command\`" "$size" ms 1000000 "${net_time[lif]}" "${net_time[dinic]}" "$beside"
+    done
+    check_in_turn
+    note "\`check\`" "$size" ms 1000000 "${check_time[lif]}" "${check_time[c]}" "C"
+}
+
+measure_links() {
+    local layers
+    for layers in $size_layers; do measure_costs links mixed "$layers" 32 8 16 4 3; done
+}
+
+measure_demands() {
+    local patterns
+    for patterns in $size_patterns; do measure_costs $((16 * (patterns + 1))) mixed 8 32 8 16 4 "$patterns"; done
+}
+
+# Notes what `cuts` and `compile` take on one processor, and on all of them, of a network whose links each fail alone. The words
+# from the second one on are those of bench/networks.py.
+measure_alone() {
+    local title=$1 command
+    shift
+    build cpp-cuts cpp-compile
+    python3 "$top/bench/networks.py" "$@" >"$files/net"
+    for command in cuts compile; do
+        take_turns "$command" "$alone_rounds" dinic
+        note "\`$command\` of $title" "" ms 1000000 "${net_time[lif]}" "${net_time[dinic]}" "$beside"
+        note "\`$command\` of $title, on all processors" "" ms 1000000 "${net_time[side]}"
+    done
+}
+
+measure_failures() {
+    measure_alone "1,023 parallel links, each of which fails" parallel 1023 fail-each rate 32
+    measure_alone "the mixed network, each link of which fails" mixed 4 32 4 16 8 0 fail-each
+    local links
+    for links in $alone_links; do
+        measure_alone "$links links, each of which fails" sized "$links" 16 4 16 4 fail-each
+    done
+}
+
+# Sends sources of many lengths through a code, to so many sinks.
+send_lengths() {
+    local bytes
+    for bytes in $size_bytes; do
+        head -c "$bytes" "$folder/source" >"$files/source"
+        measure_sending "\`send\` through $1" "$bytes" "$2" "$size_rounds"
+    done
+}
+
+measure_bytes() {
+    build codes c-send
+    make_source
+    cp "$top/examples/one-link/one.lif" "$files/code"
+    send_lengths "one link" 1
+    "$folder/codes" butterfly >"$files/code"
+    send_lengths "the butterfly" 2
+    "$folder/codes" fan 8 8 16 16 8 0 >"$files/code"
+    send_lengths "the fan of field 8" 16
+    rm "$files/source"
+}
