@@ -174,14 +174,15 @@ class Making:
             copy(path, lib / f"lif-{level}")
         put(lib / "PROOF", self.proof())
         put(lib / "FORMS", said("sh", "-c", '. "$1/lifcall.sh"; say_forms "$2"', "sh", TOOLS, TOP / "docs/lif.1") + "\n")
-        for path in [TOOLS / "lifcall.sh", *sorted(TOOLS.glob("*.py")), *tools()]:
-            if path.name != "liftry.py":
-                copy(path, lib / path.name)
+        for path in [TOOLS / "lifcall.sh", TOOLS / "lifrun.py", *sorted(TOOLS.glob("lif_tools/*.py")), *tools()]:
+            copy(path, lib / path.relative_to(TOOLS))
+        completions = usr / "share/bash-completion/completions"
+        copy(TOOLS / "lif-completion.bash", completions / "lif")
         for tool in tools():
             (usr / "bin" / tool.name).symlink_to(f"../lib/lif/{tool.name}")
+            (completions / tool.name).symlink_to("lif")
             zipped(man / f"{tool.name}.1", manpages.of_tool(tool, self.version, self.time))
         zipped(man / "lif.1", manpages.installed((TOP / "docs/lif.1").read_text(), (HERE / "script.mdoc").read_text()))
-        copy(TOOLS / "lif-completion.bash", usr / "share/bash-completion/completions/lif")
         copy(TOOLS / "lif-completion.zsh", usr / "share/zsh/vendor-completions/_lif")
         for name in said("git", "ls-files", "README.md", "CHANGELOG.md", "docs/*.md", "tools/README.md", "examples").splitlines():
             copy(TOP / name, doc / name)

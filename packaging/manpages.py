@@ -1,5 +1,9 @@
 """The manual pages of a package: those of the tools are made of their help texts and of tools/README.md, and that of lif is
 docs/lif.1 with what differs where it is installed.
+
+    python3 packaging/manpages.py TOOL
+
+says the page of a tool, as lif-draw, which `man -l -` shows.
 """
 from __future__ import annotations
 
@@ -81,3 +85,11 @@ def installed(page: str, script: str) -> str:
     page = page.replace("\\&./lif ", "lif ").replace("At the top of the repository, the", "The")
     page = re.sub(r"(?<= )examples/", f"{DOC}/examples/", page)
     return re.sub(r"^\.Pa (?=docs/|tools/)", f".Pa {DOC}/", page, flags=re.MULTILINE)
+
+
+if __name__ == "__main__":
+    named = Path(__file__).resolve().parent.parent / "tools" / "".join(sys.argv[1:2])
+    if len(sys.argv) != 2 or not named.is_file():
+        sys.exit(f"usage: {sys.argv[0]} TOOL, as lif-draw")
+    says = subprocess.run([named, "--version"], capture_output=True, text=True, check=True).stdout
+    print(of_tool(named, says.split()[-1], int(time.time())), end="")

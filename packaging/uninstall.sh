@@ -17,7 +17,7 @@ while read -r file; do
     esac
 done <lib/lif/FILES
 # What Python kept of the modules goes too.
-rm -rf -- lib/lif/__pycache__ lib/lif/FILES lib/lif/FOLDERS lib/lif/uninstall.sh
+rm -rf -- lib/lif/lif_tools/__pycache__ lib/lif/FILES lib/lif/FOLDERS lib/lif/uninstall.sh
 for folder in $folders; do
     rmdir -- "$folder" 2>/dev/null || :
 done

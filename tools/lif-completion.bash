@@ -1,4 +1,4 @@
-# Completion of bash for lif: its words, files, and the patterns of a code file. To use it in a shell:
+# Completion of bash for lif and its tools: words, files, and the patterns and sinks of networks and codes. To use it in a shell:
 #
 #     . tools/lif-completion.bash
 
@@ -6,28 +6,38 @@
 _lif_estimate=$(cd -- "$(dirname -- "${BASH_SOURCE[0]}")" && pwd)/lif-estimate
 if [[ ! -x $_lif_estimate ]]; then _lif_estimate=lif-estimate; fi
 
-# Offers the files whose names begin so, those with the ending alone where there are such, and folders.
+# The path that a word stands for.
+_lif_path() {
+    local word=${1//\\/}
+    printf %s "${word/#\~\//$HOME/}"
+}
+
+# Offers the files whose names begin so, those with one of the endings alone where there are such, and folders.
 _lif_files() {
-    local word=$1 ending=$2
+    local word=$1 ending
+    shift
     compopt -o filenames 2>/dev/null
-    mapfile -t COMPREPLY < <(compgen -f -X "!*$ending" -- "$word"; compgen -d -- "$word")
+    mapfile -t COMPREPLY < <(for ending; do compgen -f -X "!*$ending" -- "$word"; done; compgen -d -- "$word")
     if ((${#COMPREPLY[@]} == 0)); then
         mapfile -t COMPREPLY < <(compgen -f -- "$word")
     fi
 }
 
+# Offers some words.
+_lif_words() {
+    mapfile -t COMPREPLY < <(compgen -W "$2" -- "$1")
+}
+
 # Offers the patterns of a code file; nothing where it is none.
 _lif_patterns() {
-    local word=$1 code=${2//\\/}
-    code=${code/#\~\//$HOME/}
-    mapfile -t COMPREPLY < <(compgen -W "$("$_lif_estimate" "$code" --patterns 2>/dev/null)" -- "$word")
+    _lif_words "$1" "$("$_lif_estimate" "$(_lif_path "$2")" --patterns 2>/dev/null)"
 }
 
 _lif() {
     local word=${COMP_WORDS[COMP_CWORD]}
     COMPREPLY=()
     if ((COMP_CWORD == 1)); then
-        mapfile -t COMPREPLY < <(compgen -W "order cuts compile check send demo" -- "$word")
+        _lif_words "$word" "order cuts compile check send demo"
         return
     fi
     case ${COMP_WORDS[1]},$COMP_CWORD in
@@ -39,4 +49,54 @@ _lif() {
     esac
 }
 
+# The first word of the command line with the ending.
+_lif_given() {
+    local word
+    for word in "${COMP_WORDS[@]:1}"; do
+        if [[ $word == *"$1" ]]; then
+            _lif_path "$word"
+            return
+        fi
+    done
+}
+
+# Names in the network text of the command line: those behind the word.
+_lif_names() {
+    local net
+    net=$(_lif_given .net)
+    if [[ -f $net ]]; then awk -v kind="$1" '$1 == kind { print $2 }' "$net"; fi
+}
+
+# The tools: their options and what these take, by their help text, and files.
+_lif_tool() {
+    local tool=${COMP_WORDS[0]##*/} word=${COMP_WORDS[COMP_CWORD]} before=${COMP_WORDS[COMP_CWORD - 1]} told value
+    COMPREPLY=()
+    case $tool,$before in
+    lif-estimate,--pattern) _lif_patterns "$word" "$(_lif_given .lif)" ;;
+    *,--pattern) _lif_words "$word" "none $(_lif_names pattern)" ;;
+    lif-draw,--sink) _lif_words "$word" "$(_lif_names sink)" ;;
+    lif-draw,--report) _lif_files "$word" .txt ;;
+    lif-draw,--code) _lif_files "$word" .lif ;;
+    lif-draw,-o) _lif_files "$word" .svg .png .pdf ;;
+    lif-import,-o) _lif_files "$word" .net ;;
+    *)
+        told=$("$(_lif_path "${COMP_WORDS[0]}")" --help 2>/dev/null)
+        # What an option takes: its choices are offered, and nothing else of which nothing is known.
+        if [[ $before == -* ]]; then value=$(sed -nE "s/^  $before ([^ ]+).*/\1/p" <<<"$told"); fi
+        if [[ $value ]]; then
+            if [[ $value == {* ]]; then _lif_words "$word" "${value//[\{\},]/ }"; fi
+        elif [[ $word == -* ]]; then
+            _lif_words "$word" "$(sed -nE 's/^  (-[a-z], )?(--[a-z-]+).*/\2/p' <<<"$told")"
+        else
+            case $tool in
+            lif-import) _lif_files "$word" .graphml .xml .gml .dot .gv .json ;;
+            lif-estimate) _lif_files "$word" .lif ;;
+            *) _lif_files "$word" .net ;;
+            esac
+        fi
+        ;;
+    esac
+}
+
 complete -F _lif lif
+complete -F _lif_tool lif-draw lif-estimate lif-gain lif-import

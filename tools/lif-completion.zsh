@@ -1,15 +1,15 @@
-#compdef lif
-# Completion of zsh for lif: its words, files, and the patterns of a code file. It goes as _lif to a folder of fpath; the patterns
-# need lif-estimate on the path.
+#compdef lif lif-draw lif-estimate lif-gain lif-import
+# Completion of zsh for lif and its tools: words, files, and the patterns and sinks of networks and codes. It goes as _lif to a
+# folder of fpath; the patterns of codes need lif-estimate on the path.
 
 # Offers the patterns of a code file; nothing where it is none.
 _lif_patterns() {
     local -a patterns
-    patterns=(${(f)"$(lif-estimate ${(Q)words[3]} --patterns 2>/dev/null)"})
+    patterns=(${(f)"$(lif-estimate ${~${(Q)1}} --patterns 2>/dev/null)"})
     compadd -a patterns
 }
 
-_lif() {
+_lif_program() {
     if ((CURRENT == 2)); then
         compadd order cuts compile check send demo
         return
@@ -18,9 +18,58 @@ _lif() {
     order,3 | cuts,3 | compile,3) _files -g '*.net' ;;
     compile,4 | check,3 | send,3) _files -g '*.lif' ;;
     compile,5) _files -g '*.txt' ;;
-    send,4) _lif_patterns ;;
+    send,4) _lif_patterns $words[3] ;;
     send,6 | send,7) _files ;;
     esac
+}
+
+# Offers names in the network text of the command line: those behind the word, and others.
+_lif_names() {
+    local -a names nets
+    nets=(${(M)words:#*.net})
+    names=(${(f)"$(awk -v kind=$1 '$1 == kind { print $2 }' ${~${(Q)nets[1]}} 2>/dev/null)"})
+    compadd -- "${@:2}" $names
+}
+
+# The tools: their options and what these take, by their help text, and files.
+_lif_tool() {
+    local word=$words[CURRENT] before=$words[CURRENT-1] value
+    local -a told codes options choices
+    case ${words[1]:t},$before in
+    lif-estimate,--pattern)
+        codes=(${(M)words:#*.lif})
+        _lif_patterns $codes[1]
+        ;;
+    *,--pattern) _lif_names pattern none ;;
+    lif-draw,--sink) _lif_names sink ;;
+    lif-draw,--report) _files -g '*.txt' ;;
+    lif-draw,--code) _files -g '*.lif' ;;
+    lif-draw,-o) _files -g '*.(svg|png|pdf)' ;;
+    lif-import,-o) _files -g '*.net' ;;
+    *)
+        told=(${(f)"$(${~words[1]} --help 2>/dev/null)"})
+        # What an option takes: its choices are offered, and nothing else of which nothing is known.
+        value=''
+        if [[ $before == -* ]]; then value=${${${(M)told:#  $before [^ ]*}[1]#  $before }%% *}; fi
+        if [[ -n $value ]]; then
+            choices=(${(s:,:)${${(M)value:#\{*}//[\{\}]/}})
+            if (($#choices)); then compadd -a choices; fi
+        elif [[ $word == -* ]]; then
+            options=(${${${(M)told:#  (-h, |)--*}##  (-h, |)}%% *})
+            compadd -a options
+        else
+            case ${words[1]:t} in
+            lif-import) _files -g '*.(graphml|xml|gml|dot|gv|json)' ;;
+            lif-estimate) _files -g '*.lif' ;;
+            *) _files -g '*.net' ;;
+            esac
+        fi
+        ;;
+    esac
+}
+
+_lif() {
+    if [[ ${words[1]:t} == lif-* ]]; then _lif_tool; else _lif_program; fi
 }
 
 _lif "$@"

@@ -32,9 +32,9 @@ FORMS = {
 INPUTS = ("NET", "CODE", "SRC")
 NUMBERS = ("SEED", "N", "K", "BYTES")
 
-# The statuses, as README.md has them.
+# The statuses, as docs/FORMATS.md has them.
 USAGE, NET_REFUSED, ZERO_RATE, TOO_MANY_DEMANDS, RATE_OVER, CODE_REFUSED, CHECK_FAILED, UNKNOWN_PATTERN = range(2, 10)
-READ_FAULT, WRITE_FAULT, TOO_LONG, OUT_OF_MEMORY, SAME_PATH, LINK_FAULT = range(10, 16)
+READ_FAULT, WRITE_FAULT, TOO_LONG, OUT_OF_MEMORY, SAME_PATH, LINK_FAULT, RATE_UNMET = range(10, 17)
 
 # Signals that are passed on to the program.
 PASSED = (signal.SIGHUP, signal.SIGINT, signal.SIGQUIT, signal.SIGTERM, signal.SIGUSR1, signal.SIGUSR2)
@@ -147,7 +147,7 @@ class Call:
 
     def outputs(self) -> list[str]:
         """The files that are made, in order. Of `send` there are none where its code can't be read here."""
-        from lifformats import Refused, read_sinks
+        from lif_tools.formats import Refused, read_sinks
 
         given = self.given
         if self.command == "compile" and given:
@@ -186,6 +186,8 @@ def cause(call: Call, status: int) -> str | None:
         return f"{net}: sinks times patterns, with none, may be 256 by `field 8` and 65,536 by `field 16`"
     if status == RATE_OVER:
         return f"{net}: each sink can get more than 32 symbols a use, and no code has a higher rate"
+    if status == RATE_UNMET:
+        return f"{net}: its line `rate` wants more than that sink can get; without the line the greatest rate is taken"
     if status == CODE_REFUSED:
         return code_cause(code)
     if status == CHECK_FAILED:
@@ -227,7 +229,7 @@ def usage_cause(call: Call) -> str | None:
 
 
 def net_cause(net: str) -> str | None:
-    from lifformats import MOST_TEXT_BYTES, Refused, cycle_of, read_network
+    from lif_tools.formats import MOST_TEXT_BYTES, Refused, cycle_of, read_network
 
     if size_of(net) is None:
         return None
@@ -242,7 +244,7 @@ def net_cause(net: str) -> str | None:
 
 
 def code_cause(code: str) -> str | None:
-    from lifformats import Refused, read_code
+    from lif_tools.formats import Refused, read_code
 
     content = content_of(code, MOST_READ_AGAIN + 1)
     if size_of(code) is None or len(content) > MOST_READ_AGAIN:
@@ -255,7 +257,7 @@ def code_cause(code: str) -> str | None:
 
 
 def pattern_cause(code: str, pattern: str) -> str:
-    from lifformats import Refused, read_code
+    from lif_tools.formats import Refused, read_code
 
     content = content_of(code, MOST_READ_AGAIN + 1)
     try:
@@ -286,7 +288,7 @@ def output_cause(call: Call) -> str:
 
 
 def length_cause(given: dict[str, str]) -> str | None:
-    from lifformats import MOST_CODE_BYTES, MOST_SOURCE_BYTES, MOST_TEXT_BYTES
+    from lif_tools.formats import MOST_CODE_BYTES, MOST_SOURCE_BYTES, MOST_TEXT_BYTES
 
     for name, most in zip(INPUTS, (MOST_TEXT_BYTES, MOST_CODE_BYTES, MOST_SOURCE_BYTES)):
         size = size_of(given.get(name, ""))

@@ -1,15 +1,18 @@
-"""What the tests share: the tools as commands and as modules, the program, and code files that are written here."""
+"""What the tests share: the tools as commands, the program, and code files that are written here."""
 from __future__ import annotations
 
 import functools
-import importlib.machinery
-import importlib.util
+import io
 import itertools
 import os
 import subprocess
 import sys
+from contextlib import redirect_stderr, redirect_stdout
 from pathlib import Path
-from types import ModuleType
+from typing import Any, Callable, Sequence
+from unittest import mock
+
+Program = Callable[..., "subprocess.CompletedProcess[str]"]
 
 TOOLS = Path(__file__).resolve().parent.parent
 TOP = TOOLS.parent
@@ -17,39 +20,44 @@ EXAMPLES = TOP / "examples"
 
 sys.path.insert(0, str(TOOLS))
 
-from lifformats import Code, Network, Pattern  # noqa: E402
+from lif_tools.command import status_of  # noqa: E402
+from lif_tools.formats import Code, Link, Network, Pattern  # noqa: E402
 
 
-def run_tool(name: str, *words: object, **options: object) -> subprocess.CompletedProcess[str]:
-    """A tool that has ended, with what it said."""
-    return subprocess.run([str(TOOLS / name), *map(str, words)], capture_output=True, text=True, check=False, **options)
+# The module of each tool.
+MODULES = {"lif-draw": "draw", "lif-estimate": "estimate", "lif-gain": "gain", "lif-import": "importing"}
+
+
+def run_tool(name: str, *words: object, **options: Any) -> subprocess.CompletedProcess[str]:
+    """A tool that has ended, with what it said. It runs within the tests, which saves the time to load its modules, but for
+    where there are options of a process."""
+    if options:
+        return run_command(name, *words, **options)
+    arguments, outputs = [str(TOOLS / name), *map(str, words)], [io.BytesIO(), io.BytesIO()]
+    said, told = (io.TextIOWrapper(output, "utf-8", "backslashreplace", write_through=True) for output in outputs)
+    with mock.patch.object(sys, "argv", arguments), redirect_stdout(said), redirect_stderr(told):
+        status = status_of(MODULES[Path(name).name])
+    return subprocess.CompletedProcess(arguments, status, *(output.getvalue().decode() for output in outputs))
+
+
+def run_command(name: str, *words: object, **options: Any) -> subprocess.CompletedProcess[str]:
+    """A tool that has ended, with what it said, by its script."""
+    return ended([TOOLS / name, *words], **options)
+
+
+def ended(words: Sequence[object], **options: Any) -> subprocess.CompletedProcess[str]:
+    """A program that has ended, with what it said."""
+    return subprocess.run([*map(str, words)], capture_output=True, text=True, check=False, **options)
 
 
 def without_packages(name: str, *words: object) -> subprocess.CompletedProcess[str]:
     """The same where Python has its standard library alone, and no folder has programs."""
-    return subprocess.run(
-        [find_python(name), "-S", str(TOOLS / name), *map(str, words)],
-        capture_output=True,
-        text=True,
-        check=False,
-        env={"PATH": ""},
-    )
+    return ended([find_python(name), "-S", TOOLS / name, *words], env={"PATH": ""})
 
 
 def find_python(name: str) -> str:
     """The interpreter that a tool names."""
     return (TOOLS / name).read_text().splitlines()[0].removeprefix("#!")
-
-
-def tool_module(name: str) -> ModuleType:
-    """A tool as a module."""
-    loader = importlib.machinery.SourceFileLoader(name.replace("-", "_"), str(TOOLS / name))
-    spec = importlib.util.spec_from_loader(loader.name, loader)
-    assert spec is not None
-    made = importlib.util.module_from_spec(spec)
-    sys.modules[loader.name] = made
-    loader.exec_module(made)
-    return made
 
 
 @functools.cache
@@ -76,13 +84,11 @@ def find_proved() -> str | None:
 
 
 def network_of(
-    source: int, sinks: tuple[int, ...], ends: list[tuple[int, int]], patterns: list[tuple[int, ...]] = []
+    source: int, sinks: tuple[int, ...], ends: Sequence[tuple[int, ...]], patterns: Sequence[tuple[int, ...]] = ()
 ) -> Network:
     """A network of links with these tails and heads."""
-    from lifformats import Link
-
     count = max(max(pair) for pair in ends) + 1
-    links = tuple(Link(f"l{place}", tail, head) for place, (tail, head) in enumerate(ends))
+    links = tuple(Link(f"l{place}", *pair) for place, pair in enumerate(ends))
     listed = tuple(Pattern(f"p{place}", failed) for place, failed in enumerate(patterns, start=1))
     return Network(tuple(f"n{node}" for node in range(count)), links, source, sinks, (Pattern("none", ()), *listed))
 

@@ -1,6 +1,7 @@
 """Every command of the documents is run, and what it says is compared with what stands there."""
 from __future__ import annotations
 
+import importlib
 import os
 import re
 import shutil
@@ -9,7 +10,7 @@ from pathlib import Path
 
 import pytest
 
-from support import EXAMPLES, TOOLS, TOP, find_program, run_tool, tool_module
+from support import EXAMPLES, MODULES, TOOLS, TOP, Program, find_program, run_command, run_tool
 
 DOCUMENTS = ["README.md", "docs/TUTORIAL.md", "docs/lif.1", "tools/README.md"]
 
@@ -56,7 +57,7 @@ def top(tmp_path: Path) -> Path:
 
 
 @pytest.mark.parametrize("document", DOCUMENTS)
-def test_commands_say_what_the_document_shows(program, top: Path, document: str) -> None:
+def test_commands_say_what_the_document_shows(program: Program, top: Path, document: str) -> None:
     listed = commands(document)
     assert listed
     # One shell runs them all, as a reader's would, and says between them where one ends.
@@ -79,11 +80,10 @@ def test_commands_say_what_the_document_shows(program, top: Path, document: str)
         assert shown or status == "0" or said, f"{command} ends with {status}"
 
 
-def test_the_table_of_gains(program, top: Path) -> None:
-    """Each number of the README's table is what lif-gain says."""
-    rows = re.findall(
-        r"^\| (.*) \| (\d+) \| (\S+) \| (\S+) \| (\S+) \| (\S+) \|$", (TOP / "README.md").read_text(), re.MULTILINE
-    )
+def test_the_table_of_gains(program: Program, top: Path) -> None:
+    """Each number of the tutorial's table is what lif-gain says."""
+    page = (TOP / "docs/TUTORIAL.md").read_text()
+    rows = re.findall(r"^\| (.*) \| (\d+) \| (\S+) \| (\S+) \| (\S+) \| (\S+) \|$", page, re.MULTILINE)
     words = [
         "--source",
         "New York",
@@ -113,10 +113,11 @@ def test_the_table_of_gains(program, top: Path) -> None:
 
 
 def test_every_option_is_told(top: Path) -> None:
-    """What --help says of each tool names every option, and each tool stands in both tables."""
-    for name in ("lif-import", "lif-draw", "lif-gain", "lif-estimate"):
+    """What --help says of each tool names every option, and each tool stands in README.md and in the table of the tools."""
+    for name, module in MODULES.items():
+        described = importlib.import_module(f"lif_tools.{module}").__doc__ or ""
         done = run_tool(name, "--help")
-        assert done.returncode == 0 and tool_module(name).__doc__.split("\n")[0] in done.stdout
+        assert done.returncode == 0 and described.split("\n")[0] in done.stdout
         assert f"`tools/{name}`" in (TOP / "README.md").read_text()
         assert f"`{name}`" in (TOOLS / "README.md").read_text()
 
@@ -124,12 +125,14 @@ def test_every_option_is_told(top: Path) -> None:
 def test_output_follows_from_the_input_alone(top: Path) -> None:
     """Whatever the hashes of strings are, and however often a tool runs, it says and writes the same."""
     source = ["--source", "New York", "--sinks", "Seattle,Los Angeles", "--orient", "--fail-each", "-o", "-"]
-    calls = [
+    calls: list[list[object]] = [
         ["lif-import", top / "examples/abilene/abilene.graphml", *source],
         ["lif-draw", top / "examples/polska/polska.net", "-o", "-"],
-        ["lif-gain", top / "examples/regional/regional.net"],
+        ["lif-gain", top / "examples/butterfly/butterfly.net"],
         ["lif-estimate", top / "examples/butterfly/butterfly.lif", "--bytes", "1"],
     ]
     for call in calls:
-        outputs = {run_tool(*call, env={**os.environ, "PYTHONHASHSEED": str(seed)}).stdout for seed in range(3)}
+        name, *words = call
+        seeds = ({**os.environ, "PYTHONHASHSEED": str(seed)} for seed in range(2))
+        outputs = {run_command(str(name), *words, env=env).stdout for env in seeds}
         assert len(outputs) == 1 and outputs != {""}

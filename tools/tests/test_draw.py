@@ -1,14 +1,18 @@
 """lif-draw: what a drawing says, by its texts and strokes, and what is refused."""
 from __future__ import annotations
 
+import json
+import os
 import re
+import resource
+import time
 from pathlib import Path
 from xml.etree import ElementTree
 
 import pytest
 
-from support import EXAMPLES, bytes_of, run_tool, without_packages
-from lifformats import Code, Decoder, Operand, read_code, read_network
+from support import EXAMPLES, Program, bytes_of, layers_text, run_command, run_tool, without_packages
+from lif_tools.formats import Code, Decoder, Operand, read_code, read_network
 
 NET, CODE = EXAMPLES / "butterfly/butterfly.net", EXAMPLES / "butterfly/butterfly.lif"
 REGIONAL = EXAMPLES / "regional/regional.net"
@@ -39,8 +43,8 @@ def strokes(svg: str) -> dict[str, dict[str, str]]:
     found = {}
     for group in ElementTree.fromstring(svg).iter(f"{SVG}g"):
         if group.get("class") == "edge":
-            label = group.find(f"{SVG}text").text
-            found[label.split(":")[0]] = dict(group.find(f"{SVG}path").attrib, label=label)
+            label = group.findtext(f"{SVG}text", "")
+            found[label.split(":")[0]] = dict(next(group.iter(f"{SVG}path")).attrib, label=label)
     return found
 
 
@@ -49,7 +53,7 @@ def filled(svg: str) -> set[str]:
     found = set()
     for group in ElementTree.fromstring(svg).iter(f"{SVG}g"):
         if group.get("class") == "node" and any(part.get("fill") == "#fde9c9" for part in group):
-            found.add(group.find(f"{SVG}title").text)
+            found.add(group.findtext(f"{SVG}title", ""))
     return found
 
 
@@ -78,6 +82,12 @@ def test_the_butterfly_with_its_code() -> None:
             "d-t1: x0 + x1",
             "d-t2: x0 + x1",
             "demand t1 none cut 2",
+            "the flow: 2 paths, coloured",
+            "the side: the nodes that the cut closes off with the source",
+            "thick, with two heads: the cut, 2 links",
+            "the sink of the demand; the source has a roof",
+            "x0 ..",
+            "rows of the source, with coefficients of the code's field",
         ]
     )
     lines = strokes(svg)
@@ -114,12 +124,91 @@ def test_failed_and_dead_links_are_dashed(tmp_path: Path) -> None:
         "w: x0": False,
         "z: x0": False,
     }
+    assert {"links that fail", "links that carry nothing"} <= set(texts(drawn(net, "--code", code, "--pattern", "f")))
+    assert not {"links that fail", "links that carry nothing"} & set(texts(drawn(net, "--code", code)))
     assert {line["label"] for line in strokes(drawn(net, "--code", code)).values()} == {
         "u: x0",
         "v: x0",
         "w: x0",
         "z: 3 x0",
     }
+
+
+def test_live_draws_what_carries_alone(tmp_path: Path) -> None:
+    net, code = tmp_path / "one.net", tmp_path / "one.lif"
+    net.write_bytes(FAILING)
+    code.write_bytes(failing_code())
+    svg = drawn(net, "--code", code, "--pattern", "f", "--live")
+    assert {line["label"] for line in strokes(svg).values()} == {"w: x0", "z: x0"}
+    assert {"s", "c", "t", "demand t f cut 1; 2 of 4 links drawn"} <= set(texts(svg)) and "a" not in texts(svg)
+    # The flow that is found takes links that carry nothing by the butterfly's code, which is then said; without the code they
+    # are the ones that carry.
+    net.write_text("source s\nsink t\nlink u s a\nlink v a t\nlink w s b\nlink x b t\n")
+    operands = ((), (), (Operand(0, 1),), (Operand(2, 1),))
+    code.write_bytes(bytes_of(Code(read_network(net.read_bytes()), 8, 1, operands, (Decoder((3,), (1,)),))))
+    assert set(strokes(drawn(net, "--live"))) == {"u", "v", "w", "x"}
+    svg = drawn(net, "--code", code, "--live")
+    assert set(strokes(svg)) == {"w", "x"}
+    assert "the flow: 2 paths, coloured; 2 of 4 links drawn" in texts(svg)
+    assert "thick, with two heads: the cut, 2 links; 1 of 2 links drawn" in texts(svg)
+
+
+def test_the_format_is_that_of_the_ending(tmp_path: Path) -> None:
+    for ending, begin in ((".svg", b"<svg"), (".PNG", b"\x89PNG\r\n\x1a\n"), (".pdf", b"%PDF-"), ("", b"<svg")):
+        path = tmp_path / f"drawing{ending}"
+        assert run_tool("lif-draw", NET, "-o", path).stderr == ""
+        assert begin in path.read_bytes()[:80]
+    # Neither the time nor where it is told comes into a drawing.
+    first = (tmp_path / "drawing.pdf").read_bytes()
+    time.sleep(1)
+    run_command("lif-draw", NET, "-o", tmp_path / "drawing.pdf", env={**os.environ, "TZ": "Asia/Tokyo"})
+    assert (tmp_path / "drawing.pdf").read_bytes() == first
+    done = run_tool("lif-draw", NET, "-o", tmp_path / "drawing.jpg")
+    assert done.returncode == 2 and done.stderr.endswith("drawing.jpg: a drawing has the ending .svg, .png, .pdf\n")
+    assert not (tmp_path / "drawing.jpg").exists()
+
+
+def test_a_drawing_that_cannot_be_read_is_told_before(tmp_path: Path) -> None:
+    net = tmp_path / "large.net"
+    net.write_text(layers_text(3, 18))
+    done = run_command("lif-draw", net, "-o", tmp_path / "large.svg", env={"PATH": ""})
+    told = f"lif-draw: {net}: 666 links: so large a drawing can't be read, and may take graphviz minutes; "
+    assert done.stderr.startswith(f"{told}--live draws 54, those of the flow\nlif-draw: there is no program dot")
+    assert run_tool("lif-draw", net, "--live", "-o", tmp_path / "large.svg").stderr == ""
+
+
+def test_some_hundred_links_take_seconds(tmp_path: Path) -> None:
+    """A network of networkx's generators, with each link from the lower to the higher number."""
+    networkx = pytest.importorskip("networkx")
+    graph = networkx.barabasi_albert_graph(155, 3, seed=1)
+    net = tmp_path / "many.net"
+    lines = ["source n0", "sink n154"] + [f"link {tail}-{head} n{tail} n{head}" for tail, head in sorted(graph.edges)]
+    net.write_text("\n".join(lines) + "\n")
+    before = resource.getrusage(resource.RUSAGE_CHILDREN).ru_utime
+    assert len(strokes(drawn(net))) == graph.number_of_edges() == 456
+    assert resource.getrusage(resource.RUSAGE_CHILDREN).ru_utime - before < 5
+
+
+def test_json_has_the_same_facts() -> None:
+    # Without a drawing there is no need of graphviz.
+    done = run_command("lif-draw", NET, "--code", CODE, "--sink", "t2", "--json", env={"PATH": ""})
+    assert (done.returncode, done.stderr) == (0, "")
+    said = json.loads(done.stdout)
+    assert (said["tool"], said["sink"], said["pattern"], said["cut"], said["rate"]) == ("lif-draw", "t2", "none", 2, 2)
+    assert (said["side"], said["cross"], said["failed"], said["all_links"]) == (["s"], ["s-a", "s-b"], [], 9)
+    assert sorted(said["paths"]) == [["s-a", "a-c", "c-d", "d-t2"], ["s-b", "b-t2"]]
+    carried = {link["name"]: (link["tail"], link["head"], link["carries"], link["live"]) for link in said["links"]}
+    assert len(carried) == 9 and carried["c-d"] == ("c", "d", [1, 1], True)
+    assert said["decoders"]["t2"] == {"links": ["b-t2", "d-t2"], "rows": [[1, 1], [1, 0]]}
+
+
+def test_json_is_said_beside_a_drawing(tmp_path: Path) -> None:
+    path = tmp_path / "one.svg"
+    said = json.loads(run_tool("lif-draw", NET, "--json", "--live", "-o", path).stdout)
+    assert said["drawing"] == str(path) and "carries" not in said["links"][0] and "rate" not in said
+    assert {link["name"] for link in said["links"]} == set(strokes(path.read_text()))
+    done = run_tool("lif-draw", NET, "--json", "-o", "-")
+    assert (done.returncode, done.stdout) == (2, "")
 
 
 def test_flow_and_cut_are_those_of_the_report(tmp_path: Path) -> None:
@@ -204,7 +293,7 @@ def test_long_sums_are_told_by_their_size(tmp_path: Path) -> None:
     assert "l7: a sum of 7" in found and "x0 .. x6 of 7 links" in found
 
 
-def test_the_examples_are_drawn(program, tmp_path: Path) -> None:
+def test_the_examples_are_drawn(program: Program, tmp_path: Path) -> None:
     """The drawings of examples/ are those that the tool makes, but for where graphviz puts things."""
     for folder, name, words in (
         ("regional", "flow", ("--sink", "edge-west", "--pattern", "duct-2")),
@@ -231,7 +320,7 @@ def test_the_butterfly_is_drawn() -> None:
     assert (texts(svg), filled(svg)) == (texts(kept), filled(kept))
 
 
-def test_the_program_s_code_carries_what_is_drawn(program, tmp_path: Path) -> None:
+def test_the_program_s_code_carries_what_is_drawn(program: Program, tmp_path: Path) -> None:
     code, report = tmp_path / "made.lif", tmp_path / "made.txt"
     assert program("compile", REGIONAL, code, report).returncode == 0
     made = read_code(code.read_bytes())
@@ -242,7 +331,7 @@ def test_the_program_s_code_carries_what_is_drawn(program, tmp_path: Path) -> No
 
 
 def test_nothing_that_is_read_is_written_over(tmp_path: Path) -> None:
-    net = tmp_path / "one.net"
+    net = tmp_path / "one"
     net.write_bytes(NET.read_bytes())
     assert run_tool("lif-draw", net, "-o", net).stderr == f"lif-draw: {net}: it is read, and isn't written over\n"
     assert net.read_bytes() == NET.read_bytes()
@@ -250,11 +339,12 @@ def test_nothing_that_is_read_is_written_over(tmp_path: Path) -> None:
 
 def test_misuse_and_unknown_names() -> None:
     assert run_tool("lif-draw", NET).returncode == 2
-    assert (
-        run_tool("lif-draw", NET, "-o", "-", "--pattern", "f").stderr
-        == "lif-draw: unknown pattern: f; there are none\n"
-    )
-    assert run_tool("lif-draw", NET, "-o", "-", "--sink", "s").stderr == "lif-draw: unknown sink: s; there are t1, t2\n"
+    for words, said in (
+        (("--pattern", "f"), "unknown pattern: f; there are none"),
+        (("--sink", "s"), "unknown sink: s; there are t1, t2"),
+        (("--sink", ""), "unknown sink: ; there are t1, t2"),
+    ):
+        assert run_tool("lif-draw", NET, "-o", "-", *words).stderr == f"lif-draw: {NET}: {said}\n"
 
 
 def test_graphviz_is_named_where_it_is_missing() -> None:
@@ -263,3 +353,16 @@ def test_graphviz_is_named_where_it_is_missing() -> None:
     assert (
         done.stderr == "lif-draw: there is no program dot in the folders of PATH; on Debian: apt-get install graphviz\n"
     )
+
+
+def test_links_of_bundles_are_drawn_by_their_names(program: Program, tmp_path: Path) -> None:
+    net, code, report = (tmp_path / name for name in ("a.net", "a.lif", "a.txt"))
+    net.write_text("source s\nsink t\nlink k s t x2\nlink l s t\nfail-each\nrate 1\n")
+    assert program("compile", net, code, report).stdout == "compiled rate 1 field 8 demands 4\n"
+    # The report has the cut of the network, and the code the rate that is wanted.
+    facts = json.loads(run_tool("lif-draw", net, "--report", report, "--code", code, "--pattern", "k.2", "--json").stdout)
+    assert (facts["cut"], facts["failed"], facts["paths"], facts["rate"]) == (2, ["k.2"], [["k.1"], ["l"]], 1)
+    assert [link["name"] for link in facts["links"]] == ["k.1", "k.2", "l"]
+    # Each demand takes its first path, and so `l` carries nothing.
+    said = run_tool("lif-estimate", code, "--pattern", "k.2").stdout.splitlines()
+    assert said[:2] == ["code rate 1 field 8 demands 4", "pattern k.2 live 1 of 3 links"]

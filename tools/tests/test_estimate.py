@@ -1,15 +1,10 @@
 """lif-estimate: the numbers of codes that are counted by hand, and of what the program sends."""
 from __future__ import annotations
 
-import re
-import shutil
-import subprocess
 from pathlib import Path
 
-import pytest
-
-from support import EXAMPLES, bytes_of, find_proved, layers_text, run_tool, without_packages
-from lifformats import Code, Decoder, Link, Network, Operand, Pattern, octet_product, read_network
+from support import EXAMPLES, Program, bytes_of, run_tool, without_packages
+from lif_tools.formats import Code, Decoder, Link, Network, Operand, Pattern, octet_product, read_network
 
 CODE = EXAMPLES / "butterfly/butterfly.lif"
 
@@ -90,7 +85,7 @@ def test_rates_that_do_not_divide_have_two_decimals(tmp_path: Path) -> None:
     assert said(path)[2] == "products a byte 6.67: links 3.67, sinks 3"
 
 
-def test_what_the_program_sends(program, tmp_path: Path) -> None:
+def test_what_the_program_sends(program: Program, tmp_path: Path) -> None:
     """Generations and frames are those of `demo`, of which the code is made in the program alone."""
     lines = dict(line.split(" ", 1) for line in program("demo", 4, 2, 100_000).stdout.splitlines())
     path = tmp_path / "fan.lif"
@@ -100,40 +95,12 @@ def test_what_the_program_sends(program, tmp_path: Path) -> None:
     assert f"generations {lines['generations']}, frames {lines['frames']}," in found[4]
 
 
-@pytest.mark.parametrize("size", [0, 1_000_000, 30_000_000])
-def test_the_memory_of_send(program, tmp_path: Path, size: int) -> None:
-    """What the program takes, beyond what it takes for next to nothing, is near what was said."""
-    measure = shutil.which("time")
-    if measure is None:
-        pytest.skip("there is no program time; on Debian: apt-get install time")
-    if find_proved() is None:
-        pytest.skip("there is no proved program: rt ci or ./lif-prove makes it")
-    (tmp_path / "none").write_bytes(b"")
-    (tmp_path / "source").write_bytes(bytes(size))
-
-    def most(code: Path, source: str) -> int:
-        # The system counts pages in batches for each processor, so the least of some
-        # runs is the nearest.
-        words = [find_proved(), "send", code, "none", "1", tmp_path / source, tmp_path / "out"]
-        command = [measure, "-f", "%M", *map(str, words)]
-        runs = [subprocess.run(command, capture_output=True, text=True, check=True) for _ in range(5)]
-        return min(int(run.stderr) for run in runs) * 1024
-
-    net, code = tmp_path / "layers.net", tmp_path / "layers.lif"
-    net.write_text(layers_text(4, 12))
-    assert program("compile", net, code, tmp_path / "layers.txt").returncode == 0
-    estimated = int(re.match(r"memory of send about (\d+) bytes", said(code, "--bytes", size)[5])[1])
-    taken = most(code, "source") - most(EXAMPLES / "one-link/one.lif", "none")
-    assert estimated == pytest.approx(taken, rel=0.25, abs=500_000)
-
-
 def test_misuse_and_unknown_patterns(tmp_path: Path) -> None:
     for words in ((), (CODE, "--bytes", "-1"), (CODE, "--bytes", 67_108_865), (CODE, "--bytes", "many")):
         done = run_tool("lif-estimate", *words)
         assert done.returncode == 2 and "Traceback" not in done.stderr
-    assert (
-        run_tool("lif-estimate", CODE, "--pattern", "f").stderr == "lif-estimate: unknown pattern: f; there are none\n"
-    )
+    done = run_tool("lif-estimate", CODE, "--pattern", "f")
+    assert done.stderr == f"lif-estimate: {CODE}: unknown pattern: f; there are none\n"
     assert run_tool("lif-estimate", tmp_path).stderr == f"lif-estimate: {tmp_path}: Is a directory\n"
 
 

@@ -5,9 +5,9 @@ import itertools
 import random
 from pathlib import Path
 
-from support import network_of, text_of
-from lifformats import Network
-from lifflows import certificate, rate_under
+from support import Program, network_of, text_of
+from lif_tools.formats import Network
+from lif_tools.flows import certificate, rate_under
 
 
 def chance_network(chance: random.Random) -> Network:
@@ -58,7 +58,7 @@ def test_cuts_are_the_least() -> None:
             assert_paths(network, found.paths, pattern.links)
 
 
-def test_the_program_finds_the_same_cuts(program, tmp_path: Path) -> None:
+def test_the_program_finds_the_same_cuts(program: Program, tmp_path: Path) -> None:
     chance = random.Random(3)
     path = tmp_path / "one.net"
     for _ in range(20):

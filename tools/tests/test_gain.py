@@ -1,21 +1,28 @@
 """lif-gain: packings of trees, beside counts over all trees, and bounds where there is no time or room."""
 from __future__ import annotations
 
+import dataclasses
 import itertools
-import random
+import json
+import os
+import pty
+import subprocess
 import time
 from fractions import Fraction
 from pathlib import Path
 
 import pytest
 
-from support import EXAMPLES, combination_text, layers_text, network_of, run_tool, tool_module, without_packages
-from lifformats import Network, read_network
-from lifflows import rate_under
+from support import EXAMPLES, TOOLS, combination_text, layers_text, run_tool, without_packages
+from lif_tools import importing
+from lif_tools.formats import read_network
+from lif_tools.graphfiles import read_graph
+from lif_tools.packings import packings
+from lif_tools.trees import Effort, problem_of
 
-gain = tool_module("lif-gain")
-numpy = pytest.importorskip("numpy")
-optimize = pytest.importorskip("scipy.optimize")
+pytest.importorskip("scipy.optimize")
+
+TESTS = Path(__file__).resolve().parent
 
 
 def said(path: Path, *words: object) -> list[list[str]]:
@@ -51,55 +58,9 @@ def test_combination_networks(tmp_path: Path, middles: int, size: int) -> None:
     ]
 
 
-def chance_network(chance: random.Random) -> Network:
-    """A small network by chance; every other one is a butterfly with some links more or less."""
-    if chance.random() < 0.5:
-        ends = [(0, 1), (0, 2), (1, 5), (2, 6), (1, 3), (2, 3), (3, 4), (4, 5), (4, 6)]
-        more = [tuple(sorted(chance.sample(range(7), 2))) for _ in range(chance.randrange(3))]
-        return network_of(0, (5, 6), chance.sample(ends, chance.randrange(8, 10)) + more)
-    nodes = chance.randrange(4, 7)
-    sinks = tuple(range(nodes - chance.randrange(1, 3), nodes))
-    ends = [tuple(sorted(chance.sample(range(nodes), 2))) for _ in range(chance.randrange(nodes, 12))]
-    return network_of(0, sinks, ends)
-
-
-def all_trees(problem) -> list[frozenset[int]]:
-    """All sets of arcs that reach the sinks, and none that is in another."""
-    found: list[frozenset[int]] = []
-    for size in range(1, len(problem.arcs) + 1):
-        for arcs in itertools.combinations(range(len(problem.arcs)), size):
-            reached = {problem.source}
-            for _ in arcs:
-                reached |= {problem.arcs[arc].head for arc in arcs if problem.arcs[arc].tail in reached}
-            if set(problem.sinks) <= reached and not any(tree <= set(arcs) for tree in found):
-                found.append(frozenset(arcs))
-    return found
-
-
-def test_packings_are_the_greatest() -> None:
-    chance = random.Random(4)
-    gains = 0
-    for _ in range(120):
-        network = chance_network(chance)
-        rate = rate_under(network, ())
-        if rate == 0:
-            continue
-        problem = gain.problem_of(network, ())
-        trees = all_trees(problem)
-        uses = numpy.array([[float(arc in tree) for tree in trees] for arc in range(len(problem.arcs))])
-        rooms = [arc.room for arc in problem.arcs]
-        shared = -optimize.linprog([-1] * len(trees), A_ub=uses, b_ub=rooms).fun
-        whole = -optimize.milp(
-            [-1] * len(trees), integrality=[1] * len(trees), constraints=[optimize.LinearConstraint(uses, ub=rooms)]
-        ).fun
-        found = gain.packings(problem, rate, 60, 20_000)
-        assert [one.least == one.most for one in found] == [True, True]
-        assert [float(one.least) for one in found] == pytest.approx([shared, whole])
-        for most, seconds in ((0, 60), (20_000, 0)):
-            bounds = gain.packings(problem, rate, seconds, most)
-            assert all(bound.least <= one.least <= bound.most for bound, one in zip(bounds, found))
-        gains += found[1].least < rate
-    assert gains > 10
+def test_three_trees_are_found() -> None:
+    """The program of HiGHS that chooses a cheapest tree takes a dearer one in this network, and so found 5/2."""
+    assert said(TESTS / "data/three-trees.net") == [["none", "3", "3", "1", "3", "1"]]
 
 
 def test_parallel_links_and_dead_ends_count(tmp_path: Path) -> None:
@@ -113,22 +74,62 @@ def test_parallel_links_and_dead_ends_count(tmp_path: Path) -> None:
     ]
 
 
+def test_a_wanted_rate_bounds_all_rates(tmp_path: Path) -> None:
+    path = tmp_path / "one.net"
+    text = combination(tmp_path, 4, 2).read_text()
+    # Trees in turns bring 4/3, and one whole tree 1.
+    path.write_text(text + "rate 1\n")
+    wanted = ["rate 1 is wanted, and no number of the rates is above it"]
+    assert said(path) == [["none", "1", "1", "1", "1", "1"], wanted]
+    assert json.loads(run_tool("lif-gain", path, "--json").stdout)["wanted_rate"] == 1
+    path.write_text(text + "rate 2\n")
+    wanted = ["rate 2 is wanted, and no number of the rates is above it"]
+    assert said(path) == [["none", "2", "4/3", "3/2", "1", "2"], wanted]
+    # The rate is wanted under each pattern, also where it is listed by one line.
+    path.write_text("source s\nsink t\nlink l s t x3\nfail-each\nrate 2\n")
+    wanted = ["rate 2 is wanted, and no number of the rates is above it"]
+    one = ["2", "2", "1", "2", "1"]
+    assert said(path) == [[name, *one] for name in ("none", "l.1", "l.2", "l.3", "all")] + [wanted]
+    path.write_text("source s\nsink t\nlink l s t x3\nfail-each\nrate 3\n")
+    unmet = ["rate 3 is wanted, which the least cut of l.1 doesn't meet; lif compile makes no code"]
+    assert said(path) == [["none", "3", "3", "1", "3", "1"]] + [
+        [name, *one] for name in ("l.1", "l.2", "l.3", "all")
+    ] + [unmet]
+
+
 def test_bounds_are_said_as_such(tmp_path: Path) -> None:
     path = combination(tmp_path, 6, 3)
-    note = ["a to b: the number is between these bounds; no program was solved to the end"]
-    assert said(path, "--most", 10) == [["none", "3", "3/2 to 3", "1 to 2", "1 to 3", "1 to 3"], note]
-    assert said(path, "--seconds", 0) == [["none", "3", "1 to 3", "1 to 3", "1 to 3", "1 to 3"], note]
+    note = ["a..b: the number isn't below a nor above b; no search showed which one it is"]
+    assert said(path, "--most", 10) == [["none", "3", "3/2..3", "1..2", "1..3", "1..3"], note]
+    assert said(path, "--seconds", 0) == [["none", "3", "1..3", "1..3", "1", "3"], note]
 
 
 def test_a_large_network_has_its_numbers_or_bounds_soon(tmp_path: Path) -> None:
     path = tmp_path / "layers.net"
     path.write_text(layers_text(5, 30))
-    assert said(path, "--seconds", 2)[0][:2] == ["none", "30"]
+    assert said(path, "--seconds", 0.5)[0][:2] == ["none", "30"]
     begun = time.monotonic()
-    row = said(combination(tmp_path, 10, 5), "--seconds", 1, "--most", 1_000_000)[0]
+    row = said(combination(tmp_path, 10, 5), "--seconds", 0.5)[0]
     assert row[:2] == ["none", "5"] and time.monotonic() - begun < 60
-    least, most = (Fraction(bound) for bound in (row[2].split(" to ") * 2)[:2])
+    least, most = (Fraction(bound) for bound in (row[2].split("..") * 2)[:2])
     assert least <= Fraction(10, 6) <= most
+
+
+def test_patterns_are_named_at_a_terminal(tmp_path: Path) -> None:
+    """Each pattern stands on standard error as it is looked at, and nothing where that is no terminal."""
+    own, other = pty.openpty()
+    words = [str(TOOLS / "lif-gain"), str(EXAMPLES / "regional/regional.net")]
+    with open(tmp_path / "out", "wb") as out:
+        subprocess.run(words, stdout=out, stderr=other, check=True)
+    os.close(other)
+    named = os.read(own, 4096).decode()
+    os.close(own)
+    assert [one.strip() for one in named.split("\r") if one.strip()] == [
+        "pattern 1 of 3: none",
+        "pattern 2 of 3: duct-2",
+        "pattern 3 of 3: ring",
+    ]
+    assert (tmp_path / "out").read_text() == run_tool(*words).stdout
 
 
 def test_misuse_and_unknown_names(tmp_path: Path) -> None:
@@ -137,7 +138,7 @@ def test_misuse_and_unknown_names(tmp_path: Path) -> None:
         done = run_tool("lif-gain", *words)
         assert done.returncode == 2 and "Traceback" not in done.stderr
     done = run_tool("lif-gain", net, "--pattern", "storm")
-    assert (done.returncode, done.stderr) == (1, "lif-gain: unknown pattern: storm; there are none, duct-2, ring\n")
+    assert (done.returncode, done.stderr) == (1, f"lif-gain: {net}: unknown pattern: storm; there are none, duct-2, ring\n")
 
 
 def test_the_package_is_named() -> None:
@@ -147,19 +148,41 @@ def test_the_package_is_named() -> None:
 
 
 def test_few_choices_in_polska_gain() -> None:
-    """Of all sources with three sinks of a rate above 1, one gains, where links lead away by their number."""
-    lif_import = tool_module("lif-import")
+    """Of all sources with three sinks of a rate above 1, six gain, where links lead away by their number."""
     pytest.importorskip("networkx")
     path = str(EXAMPLES / "polska/polska.graphml")
-    graph = lif_import.read_graph(path, "graphml", None)
+    graph = read_graph(path, "graphml", None)
+    above, gained = [], []
+    for source in graph.names:
+        others = [name for name in graph.names if name != source]
+        words = importing.words_of([path, "--source", source, "--sinks", ",".join(others), "--orient", "-o", "-"])
+        network = read_network(importing.text_of_network(importing.make(graph, words)).encode())
+        for sinks in itertools.combinations(network.sinks, 3):
+            problem = problem_of(dataclasses.replace(network, sinks=sinks), ())
+            if problem.rate > 1:
+                found = packings(problem, Effort(5_000_000, time.monotonic() + 60))
+                assert found.shared.exact and found.whole.exact
+                above.append(found)
+                if found.shared.most < problem.rate:
+                    gained.append((source, {network.nodes[sink] for sink in sinks}))
+    assert (len(above), len(gained)) == (174, 6)
+    assert ("Bydgoszcz", {"Gdansk", "Katowice", "Szczecin"}) in gained
+
+
+@pytest.mark.slow
+def test_few_choices_gain_where_links_lead_as_flows_need() -> None:
+    """README.md has the numbers: of the choices of a rate above 1, and of those that gain."""
+    pytest.importorskip("networkx")
+    path = str(EXAMPLES / "polska/polska.graphml")
+    graph = read_graph(path, "graphml", None)
     above, gained = [], []
     for source in graph.names:
         for sinks in itertools.combinations([name for name in graph.names if name != source], 3):
-            words = lif_import.words_of([path, "--source", source, "--sinks", ",".join(sinks), "--orient", "-o", "-"])
-            network = read_network(lif_import.text_of(lif_import.make(graph, words)).encode())
-            rate = rate_under(network, ())
-            if rate > 1:
+            words = importing.words_of([path, "--source", source, "--sinks", ",".join(sinks), "--orient=flow", "-o", "-"])
+            problem = problem_of(read_network(importing.text_of_network(importing.make(graph, words)).encode()), ())
+            if problem.rate > 1:
                 above.append((source, sinks))
-                if gain.packings(gain.problem_of(network, ()), rate, 60, 20_000)[0].most < rate:
+                if packings(problem, Effort(5_000_000, time.monotonic() + 60)).shared.most < problem.rate:
                     gained.append((source, sinks))
-    assert (len(above), gained) == (20, [("Bydgoszcz", ("Gdansk", "Katowice", "Szczecin"))])
+    assert (len(above), len(gained)) == (1901, 33)
+    assert ("Bydgoszcz", ("Gdansk", "Katowice", "Szczecin")) in gained

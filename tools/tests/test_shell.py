@@ -1,4 +1,4 @@
-"""The completion of bash and the man page."""
+"""The completion of bash and of zsh, and the man page."""
 from __future__ import annotations
 
 import re
@@ -8,16 +8,17 @@ from pathlib import Path
 
 import pytest
 
-from support import TOOLS, TOP, bytes_of
-from lifformats import Code, Decoder, Operand, read_network
+from support import MODULES, TOOLS, TOP, bytes_of, run_tool
+from lif_tools.formats import Code, Decoder, Operand, read_network
 
 STATUSES = re.compile(r"\| `(\w+)` \| (\d+) \|")
 
 
 def completed(folder: Path, *words: str) -> list[str]:
     """What bash offers for the last word."""
+    call = "_lif" if Path(words[0]).name == "lif" else "_lif_tool"
     script = (
-        '. "$0"; COMP_WORDS=("$@"); COMP_CWORD=$(($# - 1)); _lif; '
+        f'. "$0"; COMP_WORDS=("$@"); COMP_CWORD=$(($# - 1)); {call}; '
         'if ((${#COMPREPLY[@]})); then printf "%s\\n" "${COMPREPLY[@]}"; fi'
     )
     done = subprocess.run(
@@ -71,14 +72,70 @@ def test_patterns_are_completed(folder: Path) -> None:
     assert completed(folder, "lif", "demo", "") == []
 
 
-def test_the_completion_is_that_of_the_command() -> None:
+def completed_by_zsh(folder: Path, *words: str) -> list[str]:
+    """What zsh offers for the last word, where it takes all that it is given; `files` stands before the form of files."""
+    script = (
+        'compadd() { [[ $1 == -a ]] && set -- ${(P)2}; [[ $1 == -- ]] && shift; print -l -- "$@"; }; '
+        '_files() { print -- files "$2"; }; PATH=${0:h}:$PATH; words=("$@"); CURRENT=$#; . $0'
+    )
     done = subprocess.run(
-        ["bash", "-c", '. "$0"; complete -p lif', str(TOOLS / "lif-completion.bash")],
+        ["zsh", "-fc", script, str(TOOLS / "lif-completion.zsh"), *words],
+        cwd=folder,
+        capture_output=True,
+        text=True,
+        check=False,
+    )
+    assert done.stderr == ""
+    return sorted(filter(None, done.stdout.splitlines()))
+
+
+DRAW, IMPORT, ESTIMATE = (str(TOOLS / f"lif-{name}") for name in ("draw", "import", "estimate"))
+NET = "source s\nsink t\nsink u # far\nlink l s t\nlink k s u\npattern duct l\n"
+
+# The words, and what is offered for the last one: names, and the endings of files.
+OFFERED = [
+    ((DRAW, "two.net", "--pattern", ""), ["duct", "none"], ""),
+    ((DRAW, "two.net", "--sink", ""), ["t", "u"], ""),
+    ((DRAW, "two.net", "--code", ""), ["my code.lif", "old"], "*.lif"),
+    ((ESTIMATE, "my\\ code.lif", "--pattern", ""), ["duct", "dust", "none"], ""),
+    ((ESTIMATE, ""), ["my code.lif", "old"], "*.lif"),
+    ((ESTIMATE, "--bytes", ""), [], ""),
+    ((IMPORT, "--field", ""), ["16", "8"], ""),
+    ((IMPORT, "--format", ""), ["dot", "gml", "graphml", "json"], ""),
+    ((IMPORT, "--capacity", ""), [], ""),
+]
+
+
+def test_words_of_the_tools_are_completed(folder: Path) -> None:
+    (folder / "two.net").write_text(NET)
+    for words, offered, _ in OFFERED:
+        assert (words, completed(folder, *words)) == (words, offered)
+    options = set(re.findall(r"--[a-z-]+", run_tool("lif-draw", "--help").stdout.split("positional")[0])) | {"--help"}
+    assert set(completed(folder, DRAW, "two.net", "--")) == options
+    assert completed(folder, DRAW, "--l") == ["--live"]
+
+
+def test_zsh_completes_the_words_of_the_tools(folder: Path) -> None:
+    if shutil.which("zsh") is None:
+        pytest.skip("there is no program zsh; on Debian: apt-get install zsh")
+    (folder / "two.net").write_text(NET)
+    for words, offered, files in OFFERED:
+        assert (words, completed_by_zsh(folder, *words)) == (words, [f"files {files}"] if files else offered)
+    assert completed_by_zsh(folder, DRAW, "-") == sorted(completed(folder, DRAW, "--"))
+    assert completed_by_zsh(folder, "lif", "") == completed(folder, "lif", "")
+    assert completed_by_zsh(folder, "lif", "send", "my\\ code.lif", "") == ["duct", "dust", "none"]
+
+
+def test_the_completion_is_that_of_the_commands() -> None:
+    names = ["lif", *MODULES]
+    done = subprocess.run(
+        ["bash", "-c", '. "$0"; complete -p "$@"', str(TOOLS / "lif-completion.bash"), *names],
         capture_output=True,
         text=True,
         check=True,
     )
-    assert done.stdout == "complete -F _lif lif\n"
+    assert done.stdout.splitlines() == ["complete -F _lif lif"] + [f"complete -F _lif_tool {name}" for name in MODULES]
+    assert (TOOLS / "lif-completion.zsh").read_text().startswith(f"#compdef {' '.join(names)}\n")
 
 
 def page() -> str:
@@ -105,10 +162,10 @@ def test_the_man_page_is_well_formed() -> None:
 
 
 def test_the_man_page_has_every_word_and_every_status() -> None:
-    usage = re.search(r"`usage: lif (.*?)`", (TOP / "docs/FORMATS.md").read_text())[1].replace("\\", "")
-    for form in usage.split(" | "):
+    (usage,) = re.findall(r"`usage: lif (.*?)`", (TOP / "docs/FORMATS.md").read_text())
+    for form in usage.replace("\\", "").split(" | "):
         word, *names = form.split()
         assert f".Cm {word}\n.Ar {' '.join(names)}\n" in page()
-    statuses = STATUSES.findall((TOP / "README.md").read_text())
-    assert len(statuses) == 15
+    statuses = STATUSES.findall((TOP / "docs/FORMATS.md").read_text())
+    assert len(statuses) == 16
     assert [number for _, number in statuses] == re.findall(r"^\.It (\d+)$", page(), re.MULTILINE)

@@ -1,16 +1,17 @@
 """What the tools beside lif share: their messages, their files, and the packages that they need."""
 from __future__ import annotations
 
+import argparse
 import importlib
-import io
+import json
 import os
 import shutil
 import sys
-from pathlib import Path
 from types import ModuleType
-from typing import Callable, NoReturn, Sequence
+from typing import Mapping, Sequence
 
-from lifformats import MOST_CODE_BYTES, MOST_TEXT_BYTES, Code, Network, Refused, cycle_of, read_code, read_network
+from lif_tools import VERSION
+from lif_tools.formats import MOST_CODE_BYTES, MOST_TEXT_BYTES, Code, Network, Refused, cycle_of, read_code, read_network
 
 
 # How many names a message lists.
@@ -21,30 +22,27 @@ class ToolError(Exception):
     """What a tool can't do; its text is the line that is said."""
 
 
-def run(main: Callable[[Sequence[str]], None]) -> NoReturn:
-    """Runs a tool with the words of the command line, and ends with its status: 0, or 1 where it says an error.
+def words_parser(tool: str, what: str | None) -> argparse.ArgumentParser:
+    """What reads the words of a tool, with those that every tool has; its own are to be added."""
+    parser = argparse.ArgumentParser(
+        prog=tool, description=what, formatter_class=argparse.RawDescriptionHelpFormatter, allow_abbrev=False
+    )
+    parser.add_argument("--version", action="version", version=f"{tool} of lif {VERSION}", help="say the version and end")
+    parser.add_argument("--json", action="store_true", help="say the same facts as one object of JSON")
+    return parser
 
-    Words that are no form end with 2, by `argparse`.
-    """
+
+def print_json(tool: str, facts: Mapping[str, object]) -> None:
+    """Says facts as one object of JSON. A fraction is a text, as `3/2`, and one that is a whole number too."""
+    print(json.dumps({"tool": tool, "version": VERSION, **dict(facts)}, indent=1, default=str))
+
+
+def notice(text: str) -> None:
+    """Says a line on standard error, where that takes it."""
     try:
-        for stream in (sys.stdout, sys.stderr):
-            if isinstance(stream, io.TextIOWrapper):
-                stream.reconfigure(errors="backslashreplace")
-        main(sys.argv[1:])
-        sys.stdout.flush()
-    except ToolError as error:
-        print(f"{Path(sys.argv[0]).name}: {printable(str(error))}", file=sys.stderr)
-        sys.exit(1)
-    except (MemoryError, RecursionError):
-        print(f"{Path(sys.argv[0]).name}: there is no memory for so much", file=sys.stderr)
-        sys.exit(1)
-    except BrokenPipeError:
-        # Whoever read the output has gone; nothing is to be written at the end.
-        os.dup2(os.open(os.devnull, os.O_WRONLY), sys.stdout.fileno())
-        sys.exit(1)
-    except KeyboardInterrupt:
-        sys.exit(130)
-    sys.exit(0)
+        print(f"{os.path.basename(sys.argv[0])}: {printable(text)}", file=sys.stderr, flush=True)
+    except OSError:
+        os.dup2(os.open(os.devnull, os.O_WRONLY), 2)
 
 
 def module(name: str, package: str) -> ModuleType:
@@ -92,13 +90,22 @@ def write_text(path: str, text: str, *inputs: str) -> None:
     """Writes a text to a file that is none of the inputs, or to standard output where the path is `-`."""
     if path == "-":
         sys.stdout.write(text)
+    else:
+        write_bytes(path, text.encode("utf-8", "backslashreplace"), *inputs)
+
+
+def write_bytes(path: str, content: bytes, *inputs: str) -> None:
+    """Writes bytes to a file that is none of the inputs, or to standard output where the path is `-`."""
+    if path == "-":
+        sys.stdout.flush()
+        sys.stdout.buffer.write(content)
         return
     try:
         for one in inputs:
             if os.path.exists(path) and os.path.exists(one) and os.path.samefile(path, one):
                 raise ToolError(f"{path}: it is read, and isn't written over")
-        with open(path, "w", encoding="utf-8", errors="backslashreplace", newline="\n") as file:
-            file.write(text)
+        with open(path, "wb") as file:
+            file.write(content)
     except OSError as error:
         raise ToolError(f"{path}: {error.strerror}") from None
 
@@ -123,17 +130,19 @@ def load_code(path: str) -> Code:
         raise ToolError(f"{path}: {refused}") from None
 
 
-def pattern_number(network: Network, name: str) -> int:
-    """The number of a pattern."""
+def pattern_number(path: str, network: Network, name: str) -> int:
+    """The number of a pattern of a file's network."""
     for number, pattern in enumerate(network.patterns):
         if pattern.name == name:
             return number
-    raise ToolError(f"unknown pattern: {name}; there are {listed([pattern.name for pattern in network.patterns])}")
+    names = [pattern.name for pattern in network.patterns]
+    raise ToolError(f"{path}: unknown pattern: {name}; there are {listed(names)}")
 
 
-def sink_number(network: Network, name: str) -> int:
-    """The number of a sink."""
+def sink_number(path: str, network: Network, name: str) -> int:
+    """The number of a sink of a file's network."""
     for number, node in enumerate(network.sinks):
         if network.nodes[node] == name:
             return number
-    raise ToolError(f"unknown sink: {name}; there are {listed([network.nodes[node] for node in network.sinks])}")
+    names = [network.nodes[node] for node in network.sinks]
+    raise ToolError(f"{path}: unknown sink: {name}; there are {listed(names)}")

@@ -3,9 +3,21 @@ from __future__ import annotations
 
 from collections import deque
 from dataclasses import dataclass
-from typing import Collection
+from typing import Collection, Iterable, Mapping
 
-from lifformats import Network
+from lif_tools.formats import Network
+
+
+def reachable(start: Iterable[int], ways: Mapping[int, Iterable[int]]) -> set[int]:
+    """The nodes that are reached from some, by the nodes that each leads to."""
+    found = set(start)
+    queue = list(found)
+    while queue:
+        for node in ways.get(queue.pop(), ()):
+            if node not in found:
+                found.add(node)
+                queue.append(node)
+    return found
 
 
 @dataclass(frozen=True)

@@ -7,6 +7,7 @@ from __future__ import annotations
 import dataclasses
 import functools
 import heapq
+import itertools
 import re
 import sys
 from array import array
@@ -16,7 +17,11 @@ from typing import Callable, Iterable, Iterator, Sequence
 MOST_NODES = 4096
 MOST_LINKS = 8192
 MOST_PATTERNS = 4095
+# How many links all listed patterns of a network text may have together.
+MOST_MEMBERS = 2_097_152
 MOST_RATE = 32
+# How much of a line its refusal shows.
+MOST_SHOWN = 100
 MOST_TEXT_BYTES = 4_194_304
 MOST_CODE_BYTES = 268_435_456
 MOST_SOURCE_BYTES = 67_108_864
@@ -52,7 +57,7 @@ class Pattern:
 
 @dataclass(frozen=True)
 class Network:
-    """A network. Pattern 0 is `none`; the field is the one that the text asks for, if it does."""
+    """A network. Pattern 0 is `none`; the field and the rate are those that the text asks for, if it does."""
 
     nodes: tuple[str, ...]
     links: tuple[Link, ...]
@@ -60,6 +65,7 @@ class Network:
     sinks: tuple[int, ...]
     patterns: tuple[Pattern, ...]
     field: int | None = None
+    rate: int | None = None
 
     def demands(self) -> int:
         """The number of sinks times that of patterns, with `none`."""
@@ -117,15 +123,18 @@ class Refused(Exception):
 
 @dataclass
 class _Draft:
-    """The part of a network that the lines so far say."""
+    """The part of a network that the lines so far say. `named` has the links of each name of a link or of a bundle."""
 
     nodes: dict[bytes, int] = dataclasses.field(default_factory=dict)
     links: list[Link] = dataclasses.field(default_factory=list)
-    numbers: dict[bytes, int] = dataclasses.field(default_factory=dict)
+    named: dict[bytes, range] = dataclasses.field(default_factory=dict)
     patterns: dict[bytes, Pattern] = dataclasses.field(default_factory=lambda: {NONE.encode(): Pattern(NONE, ())})
+    members: int = 0
     sinks: dict[int, None] = dataclasses.field(default_factory=dict)
     source: int | None = None
     field: int | None = None
+    rate: int | None = None
+    fail_each: bool = False
 
 
 # Refusals, each with whether it holds.
@@ -135,18 +144,21 @@ _Faults = Iterator[tuple[bool, str]]
 def read_network(text: bytes) -> Network:
     """The network of a text, or the refusal of the first line that isn't good."""
     draft = _Draft()
-    lines = text.split(b"\n")
-    for number, line in enumerate(lines[:-1] if lines[-1] == b"" else lines, start=1):
-        _read_line(draft, number, line)
+    for number, line in enumerate(text.split(b"\n"), start=1):
+        if line:
+            _read_line(draft, number, line)
     return _whole(draft)
 
 
 def _read_line(draft: _Draft, number: int, line: bytes) -> None:
     rest = line.removesuffix(b"\r").split(b"#", 1)[0]
-    words = [word for word in re.split(rb"[ \t]+", rest) if word]
+    # Of what is no text nothing but its bytes is looked at, so the words stand between spaces and tabs.
+    words = rest.split()
     for holds, name in _line_faults(draft, rest, words):
         if holds:
             shown = rest.decode("ascii", "backslashreplace").strip()
+            if len(shown) > MOST_SHOWN:
+                shown = f"{shown[:MOST_SHOWN]}.."
             raise Refused(name, f"line {number}: {name}: {shown}")
     if words:
         _add(draft, words)
@@ -158,51 +170,110 @@ def _line_faults(draft: _Draft, rest: bytes, words: list[bytes]) -> _Faults:
     if not words:
         return
     yield not _has_form(words), "BadLine"
-    kind, names = words[0], words[1:]
-    if kind == b"field":
-        yield draft.field is not None, "SecondField"
-        return
-    yield not all(NAME.fullmatch(name) for name in names), "BadName"
-    yield from {b"source": _source_faults, b"sink": _sink_faults, b"link": _link_faults, b"pattern": _pattern_faults}[
-        kind
-    ](draft, names)
+    yield from _FAULTS[words[0]](draft, words[1:])
 
 
 def _has_form(words: list[bytes]) -> bool:
-    counts = {b"field": 2, b"source": 2, b"sink": 2, b"link": 4}
-    if words[0] == b"pattern":
-        return len(words) >= 3
-    return counts.get(words[0]) == len(words) and (words[0] != b"field" or words[1] in (b"8", b"16"))
+    kind, count = words[0], len(words)
+    if kind == b"field":
+        return words[1:] in ([b"8"], [b"16"])
+    if kind == b"rate":
+        return count == 2 and _number(words[1], MOST_RATE) is not None
+    if kind == b"link":
+        return count == 4 or (count == 5 and _bundle_count(words[4]) is not None)
+    if kind == b"pattern":
+        return count >= 3
+    return {b"source": 2, b"sink": 2, b"fail-each": 1}.get(kind) == count
+
+
+def _number(word: bytes, most: int) -> int | None:
+    """The number from 1 to the most that a word is in digits, if it is one, with any zeros ahead."""
+    digits = word.lstrip(b"0")
+    if not re.fullmatch(rb"[0-9]+", word) or not 1 <= len(digits) <= len(str(most)):
+        return None
+    return int(digits) if int(digits) <= most else None
+
+
+def _bundle_count(word: bytes) -> int | None:
+    """How many links a bundle has, by its last word."""
+    return _number(word[1:], MOST_LINKS) if word.startswith(b"x") else None
+
+
+def _are_names(words: Iterable[bytes]) -> bool:
+    return all(NAME.fullmatch(word) for word in set(words))
 
 
 def _too_many_nodes(draft: _Draft, names: Iterable[bytes]) -> bool:
-    return len(draft.nodes.keys() | set(names)) > MOST_NODES
+    return len(draft.nodes) + sum(name not in draft.nodes for name in set(names)) > MOST_NODES
+
+
+def _field_faults(draft: _Draft, words: list[bytes]) -> _Faults:
+    yield draft.field is not None, "SecondField"
+
+
+def _rate_faults(draft: _Draft, words: list[bytes]) -> _Faults:
+    yield draft.rate is not None, "SecondRate"
 
 
 def _source_faults(draft: _Draft, names: list[bytes]) -> _Faults:
+    yield not _are_names(names), "BadName"
     yield draft.source is not None, "SecondSource"
     yield _too_many_nodes(draft, names), "TooMany Nodes"
 
 
 def _sink_faults(draft: _Draft, names: list[bytes]) -> _Faults:
+    yield not _are_names(names), "BadName"
     yield draft.nodes.get(names[0]) in draft.sinks, "DuplicateSink"
     yield _too_many_nodes(draft, names), "TooMany Nodes"
 
 
-def _link_faults(draft: _Draft, names: list[bytes]) -> _Faults:
-    name, tail, head = names
-    yield name in draft.numbers, "DuplicateLink"
+def _link_faults(draft: _Draft, words: list[bytes]) -> _Faults:
+    name, tail, head = words[:3]
+    made = _link_names(words)
+    # The last name that a bundle makes is its longest.
+    yield not _are_names((name, tail, head, made[-1])), "BadName"
+    yield not draft.named.keys().isdisjoint((name, *made)), "DuplicateLink"
     yield tail == head, "SelfLoop"
     yield _too_many_nodes(draft, (tail, head)), "TooMany Nodes"
-    yield len(draft.links) >= MOST_LINKS, "TooMany Links"
+    yield len(draft.links) + len(made) > MOST_LINKS, "TooMany Links"
+
+
+def _link_names(words: list[bytes]) -> list[bytes]:
+    """The names of the links of a line: its own, or those that its bundle makes."""
+    count = _bundle_count(words[3]) if len(words) == 4 else None
+    return [words[0]] if count is None else [b"%s.%d" % (words[0], number) for number in range(1, count + 1)]
 
 
 def _pattern_faults(draft: _Draft, names: list[bytes]) -> _Faults:
+    yield not _are_names(names), "BadName"
     name, links = names[0], names[1:]
     yield name in draft.patterns, "DuplicatePattern"
-    yield not all(link in draft.numbers for link in links), "UnknownLink"
-    yield len(set(links)) < len(links), "RepeatedLink"
+    yield not draft.named.keys() >= set(links), "UnknownLink"
+    members = sum(len(draft.named[link]) for link in links)
+    # Of more members than links one stands twice; so those that are gathered are never more.
+    yield members > len(draft.links) or len(set(_members(draft, links))) < members, "RepeatedLink"
     yield len(draft.patterns) > MOST_PATTERNS, "TooMany Patterns"
+    yield draft.members + members > MOST_MEMBERS, "TooMany Members"
+
+
+def _members(draft: _Draft, names: list[bytes]) -> list[int]:
+    """The links that the words of a pattern name, in rising order."""
+    return sorted(itertools.chain.from_iterable(draft.named[name] for name in names))
+
+
+def _fail_each_faults(draft: _Draft, words: list[bytes]) -> _Faults:
+    yield draft.fail_each, "SecondFailEach"
+
+
+_FAULTS: dict[bytes, Callable[[_Draft, list[bytes]], _Faults]] = {
+    b"field": _field_faults,
+    b"rate": _rate_faults,
+    b"source": _source_faults,
+    b"sink": _sink_faults,
+    b"link": _link_faults,
+    b"pattern": _pattern_faults,
+    b"fail-each": _fail_each_faults,
+}
 
 
 def _add(draft: _Draft, words: list[bytes]) -> None:
@@ -214,16 +285,29 @@ def _add(draft: _Draft, words: list[bytes]) -> None:
 
     if kind == b"field":
         draft.field = int(names[0])
+    elif kind == b"rate":
+        draft.rate = _number(names[0], MOST_RATE)
     elif kind == b"source":
         draft.source = node(names[0])
     elif kind == b"sink":
         draft.sinks[node(names[0])] = None
     elif kind == b"link":
-        tail = node(names[1])
-        draft.numbers[names[0]] = len(draft.links)
-        draft.links.append(Link(names[0].decode(), tail, node(names[2])))
+        _add_links(draft, names, node(names[1]), node(names[2]))
+    elif kind == b"pattern":
+        pattern = Pattern(names[0].decode(), tuple(_members(draft, names[1:])))
+        draft.patterns[names[0]] = pattern
+        draft.members += len(pattern.links)
     else:
-        draft.patterns[names[0]] = Pattern(names[0].decode(), tuple(sorted(draft.numbers[link] for link in names[1:])))
+        draft.fail_each = True
+
+
+def _add_links(draft: _Draft, words: list[bytes], tail: int, head: int) -> None:
+    """Adds the links of a line, and what stands for the name of their bundle."""
+    names, first = _link_names(words), len(draft.links)
+    draft.named[words[0]] = range(first, first + len(names))
+    for number, name in enumerate(names, start=first):
+        draft.named[name] = range(number, number + 1)
+        draft.links.append(Link(name.decode(), tail, head))
 
 
 def _whole(draft: _Draft) -> Network:
@@ -234,9 +318,19 @@ def _whole(draft: _Draft) -> Network:
         raise Refused("NoSink", "NoSink")
     if draft.source in draft.sinks:
         raise Refused("SinkIsSource", f"SinkIsSource {nodes[draft.source]}")
-    return Network(
-        nodes, tuple(draft.links), draft.source, tuple(draft.sinks), tuple(draft.patterns.values()), draft.field
-    )
+    patterns = tuple(draft.patterns.values()) + (_single_failures(draft) if draft.fail_each else ())
+    return Network(nodes, tuple(draft.links), draft.source, tuple(draft.sinks), patterns, draft.field, draft.rate)
+
+
+def _single_failures(draft: _Draft) -> tuple[Pattern, ...]:
+    """For each link the pattern in which it fails alone, with its name."""
+    for link in draft.links:
+        if link.name.encode() in draft.patterns:
+            raise Refused("PatternNamed", f"PatternNamed {link.name}")
+    count = len(draft.patterns) - 1 + len(draft.links)
+    if count > MOST_PATTERNS:
+        raise Refused("TooManyPatterns", f"TooManyPatterns {count}")
+    return tuple(Pattern(link.name, (number,)) for number, link in enumerate(draft.links))
 
 
 def order_of(network: Network) -> list[int]:
