@@ -34,18 +34,19 @@ def build(crate: str, program: str, room: Path) -> bool:
     pipe = room / "net"
     os.mkfifo(pipe)
     begun = time.time_ns()
-    with open(room / "said", "wb") as said:
-        # What is typed at the terminal doesn't come to rt, so that it is told once to end.
-        rt = subprocess.Popen(
-            ["rt", "try", "--", "order", str(pipe)],
-            cwd=crate,
-            env={**os.environ, "TMPDIR": str(room)},
-            stdin=subprocess.DEVNULL,
-            stdout=said,
-            stderr=said,
-            start_new_session=True,
-        )
+    rt = None
     try:
+        with open(room / "said", "wb") as said:
+            # What is typed at the terminal doesn't come to rt, so that it is told once to end.
+            rt = subprocess.Popen(
+                ["rt", "try", "--", "order", str(pipe)],
+                cwd=crate,
+                env={**os.environ, "TMPDIR": str(room)},
+                stdin=subprocess.DEVNULL,
+                stdout=said,
+                stderr=said,
+                start_new_session=True,
+            )
         held = None
         while held is None and rt.poll() is None:
             time.sleep(LOOKED_EACH)
@@ -64,8 +65,9 @@ def build(crate: str, program: str, room: Path) -> bool:
     finally:
         for number in ENDING:
             signal.signal(number, signal.SIG_IGN)
-        rt.terminate()
-        rt.wait()
+        if rt is not None:
+            rt.terminate()
+            rt.wait()
 
 
 def main(crate: str, program: str) -> None:
@@ -74,7 +76,10 @@ def main(crate: str, program: str) -> None:
     print("lif: there is no proved program: one is built that isn't proved, in about a minute", file=sys.stderr)
     print("lif: it is checked at each step and slow: a second for some 300 kB through a small network", file=sys.stderr)
     try:
+        # A signal that comes while the folder is made is heard once it would be removed.
+        signal.pthread_sigmask(signal.SIG_BLOCK, ENDING)
         with tempfile.TemporaryDirectory(prefix="lif-") as room:
+            signal.pthread_sigmask(signal.SIG_UNBLOCK, ENDING)
             is_built = build(crate, program, Path(room))
     except OSError as error:
         print(f"lif: {error.filename or 'rt'}: {error.strerror}", file=sys.stderr)
