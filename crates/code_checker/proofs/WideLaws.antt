@@ -1,28 +1,29 @@
 -- Laws of rows of 64 bytes: their elements, and rows with zeros behind them.
-use Rattle.std.specs.Prelude.{◌≡◌, ℕ, ◌<◌, ◌≤◌, ◌+◌, ◌-◌, ◌*◌, ◌==◌, List, [], ◌∷◌, ◌++◌, length, map, slice_index, if◌then◌else◌}
+use Rattle.std.specs.Prelude.{◌≡◌, ℕ, ◌<◌, ◌≤◌, ◌+◌, ◌-◌, ◌*◌, ◌/◌, ◌==◌, List, [], ◌∷◌, ◌++◌, length, map, slice_index, if◌then◌else◌}
 use Rattle.std.proofs.Common.{arith, refl, sym, ap, ◌∙◌, set, inl, inr}
 use Rattle.std.proofs.lemmas.Bool.{cases_eq, cases_lt, eq-eqb, ne_eqb}
 use Rattle.std.proofs.lemmas.List.{ext_get_or, get_or-append_right, get_or-replicate, get_or-set_other, get_or-set_same, get_or_append_left, length-append, length-replicate, length-set, replicate-append-replicate}
-use Rattle.gf_tables.specs.Product.{bytes_of_element}
+use Rattle.gf_tables.specs.Product.{bytes_of_element, bytes_of_width, width_of}
 use Rattle.gf_tables.specs.declared.kind.FieldKind.{FieldKind}
 use Rattle.gf_tables.specs.declared.kind.FieldKind.TheVariants.{Eight, Sixteen}
+use Rattle.gf_tables.specs.declared.kind.Width.TheVariants.{One, Two}
 use Rattle.field_rows.proofs.BytesLaws.{get_or-pairs_of, length-pairs_of}
 use Rattle.linear_algebra.proofs.CombinationLaws.{length-combination}
 use Rattle.linear_algebra.proofs.ElementsLaws.{elements_of-zero_row}
 use Rattle.linear_algebra.proofs.RowLaws.{AreElements-head, AreElements-tail, add_rows-append, length-add_rows, length-scale_row, scale_row-append, scale_row-zero_row, slice_index-unit_row, slice_index-zero_row, unit_row-IsRow, zero_row-zero_row}
-use Rattle.linear_algebra.specs.Elements.{elements_of}
+use Rattle.linear_algebra.specs.Elements.{elements_of, numbers_of_bytes}
 use Rattle.linear_algebra.specs.Rows.{add_rows, combination, scale_row, unit_row, zero_row, AreElements, AreRows}
 use Rattle.code_checker.specs.WideRows.{wide_bytes, wide_width, widened}
 
 -- so many bytes are so many elements
 pub wide_elements : (field : FieldKind) → wide_bytes ≡ bytes_of_element field * wide_width field
-wide_elements Eight = refl
-wide_elements Sixteen = refl
+wide_elements field =
+    elim (width_of field) as (λ width. wide_bytes ≡ bytes_of_width width * (wide_bytes / bytes_of_width width)) [ One ↦ refl | Two ↦ refl ]
 
 -- there is room for the highest rate
 pub wide_room : (field : FieldKind) → 32 ≤ wide_width field
-wide_room Eight = omega arith
-wide_room Sixteen = omega arith
+wide_room field =
+    elim (width_of field) as (λ width. 32 ≤ wide_bytes / bytes_of_width width) [ One ↦ omega arith | Two ↦ omega arith ]
 
 -- the elements of zeros
 pub elements_of-zeros : (field : FieldKind) → elements_of field (zero_row wide_bytes) ≡ zero_row (wide_width field)
@@ -38,7 +39,7 @@ one_at n place k below inside = elim (cases_eq place k) [
 ]
 
 -- they are a unit row of octets
-pub unit_octets : (place : ℕ) → place < 64 → elements_of Eight (set (zero_row 64) place 1) ≡ unit_row 64 place
+pub unit_octets : (place : ℕ) → place < 64 → numbers_of_bytes One (set (zero_row 64) place 1) ≡ unit_row 64 place
 unit_octets place below =
     let bytes : List ℕ = set (zero_row 64) place 1 in
     let long : length bytes ≡ 64 = length-set (zero_row 64) place 1 ∙ length-replicate {A = ℕ} 64 0 in
@@ -67,7 +68,7 @@ pair_at place k below inside =
     ]
 
 -- and a unit row of pairs
-pub unit_pairs : (place : ℕ) → place < 32 → elements_of Sixteen (set (zero_row 64) (2 * place + 1) 1) ≡ unit_row 32 place
+pub unit_pairs : (place : ℕ) → place < 32 → numbers_of_bytes Two (set (zero_row 64) (2 * place + 1) 1) ≡ unit_row 32 place
 unit_pairs place below =
     let bytes : List ℕ = set (zero_row 64) (2 * place + 1) 1 in
     let even : length bytes ≡ 2 * 32 = length-set (zero_row 64) (2 * place + 1) 1 ∙ length-replicate {A = ℕ} 64 0 in

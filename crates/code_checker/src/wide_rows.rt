@@ -4,7 +4,7 @@ ghost use Rattle.code_checker.specs.WideRows.{wide_width};
 ghost use Rattle.linear_algebra.specs.Elements.{elements_of};
 ghost use Rattle.linear_algebra.specs.Rows.{unit_row};
 
-use gf_tables::FieldKind;
+use gf_tables::{FieldKind, Width};
 
 /// The row with 1 at a place and zeros elsewhere.
 pub(crate) fn unit_row(field: FieldKind, place: u32) -> [u8; 64]
@@ -12,9 +12,9 @@ pub(crate) fn unit_row(field: FieldKind, place: u32) -> [u8; 64]
     ensures { elements_of field result ≡ unit_row (wide_width field) place }
 {
     let mut row = [0; 64];
-    match field {
-        FieldKind::Eight => row[place as usize] = 1,
-        FieldKind::Sixteen => row[2 * place as usize + 1] = 1,
+    match field.width() {
+        Width::One => row[place as usize] = 1,
+        Width::Two => row[2 * place as usize + 1] = 1,
     }
     row
 }
@@ -25,8 +25,8 @@ pub(crate) fn element_at(field: FieldKind, row: &[u8; 64], place: u32) -> u32
     ensures { result ≡ slice_index (elements_of field row.now) place }
 {
     let at = place as usize;
-    match field {
-        FieldKind::Eight => row[at] as u32,
-        FieldKind::Sixteen => 256 * row[2 * at] as u32 + row[2 * at + 1] as u32,
+    match field.width() {
+        Width::One => row[at] as u32,
+        Width::Two => 256 * row[2 * at] as u32 + row[2 * at + 1] as u32,
     }
 }

@@ -1,23 +1,23 @@
 -- Pieces of rows, as bytes and as elements, and sums of them.
-use Rattle.std.specs.Prelude.{◌≡◌, ◌<◌, ◌≤◌, ◌*◌, ◌-◌, ℕ, List, [], ◌∷◌, length, map, take, drop}
+use Rattle.std.specs.Prelude.{◌≡◌, ◌<◌, ◌≤◌, ◌*◌, ◌/◌, ◌-◌, ℕ, List, [], ◌∷◌, length, map, take, drop}
 use Rattle.std.proofs.Common.{refl, sym, ap, subst, ◌∙◌, arith}
 use Rattle.std.proofs.lemmas.List.{drop-replicate, length-drop, length-take-le, take-replicate}
 use Rattle.std.proofs.lemmas.List.Elements.{All-drop, All-take}
-use Rattle.gf_tables.specs.Product.{bytes_of_element, size_of}
+use Rattle.gf_tables.specs.Product.{bytes_of_element, bytes_of_width, size_of, width_of}
 use Rattle.gf_tables.specs.declared.kind.FieldKind.{FieldKind}
-use Rattle.gf_tables.specs.declared.kind.FieldKind.TheVariants.{Eight, Sixteen}
+use Rattle.gf_tables.specs.declared.kind.Width.TheVariants.{One, Two}
 use Rattle.linear_algebra.specs.Elements.{elements_of, bytes_of_row}
 use Rattle.linear_algebra.specs.Rows.{combination, zero_row, AreRows}
 use Rattle.linear_algebra.proofs.CombinationLaws.{take-combination, drop-combination}
 use Rattle.linear_algebra.proofs.ElementsLaws.{bytes_of_row-drop, bytes_of_row-take, elements_of-bytes_of_row, elements_of-drop, elements_of-take}
 use Rattle.coded_traffic.specs.CodeBlocks.{row_width}
-use Rattle.generation_frame.specs.Blocks.{piece_bytes, piece_of_row}
+use Rattle.generation_frame.specs.Blocks.{piece_bytes, piece_of_row, row_bytes}
 use Rattle.coded_traffic.specs.Traffic.{piece_width}
 
 -- the bytes of a piece are those of its elements
 pub piece_bytes-piece_width : (field : FieldKind) → bytes_of_element field * piece_width field ≡ piece_bytes
-piece_bytes-piece_width Eight = refl
-piece_bytes-piece_width Sixteen = refl
+piece_bytes-piece_width field =
+    elim (width_of field) as (λ width. bytes_of_width width * (piece_bytes / bytes_of_width width) ≡ piece_bytes) [ One ↦ refl | Two ↦ refl ]
 
 -- a piece of a row of elements
 abbrev pub elements_in : FieldKind → ℕ → List ℕ → List ℕ
@@ -25,8 +25,11 @@ elements_in field piece row = take (piece_width field) (drop (piece * piece_widt
 
 -- where a piece begins, in bytes and in elements
 begin : (field : FieldKind) (piece : ℕ) → bytes_of_element field * (piece * piece_width field) ≡ piece * piece_bytes
-begin Eight piece = omega arith
-begin Sixteen piece = omega arith
+begin field piece =
+    elim (width_of field) as (λ width. bytes_of_width width * (piece * (piece_bytes / bytes_of_width width)) ≡ piece * piece_bytes) [
+      | One ↦ omega arith
+      | Two ↦ omega arith
+    ]
 
 -- a piece of the bytes of a row
 pub piece_of_row-bytes : (field : FieldKind) (piece : ℕ) (row : List ℕ) → piece_of_row (bytes_of_row field row) piece ≡ bytes_of_row field (elements_in field piece row)
@@ -51,8 +54,11 @@ elements_of-piece_of_row field piece row =
 
 -- a piece lies within a row
 within_row : (field : FieldKind) (piece : ℕ) → piece < 8 → piece_width field ≤ row_width field - piece * piece_width field
-within_row Eight piece low = omega (arith, low)
-within_row Sixteen piece low = omega (arith, low)
+within_row field piece low =
+    elim (width_of field) as (λ width. piece_bytes / bytes_of_width width ≤ row_bytes / bytes_of_width width - piece * (piece_bytes / bytes_of_width width)) [
+      | One ↦ omega (arith, low)
+      | Two ↦ omega (arith, low)
+    ]
 
 -- a piece of a sum of rows is the sum of their pieces
 pub elements_in-combination : (field : FieldKind) (piece : ℕ) (coefficients : List ℕ) (rows : List (List ℕ)) → piece < 8 → AreRows field (row_width field) rows

@@ -1,11 +1,11 @@
 -- Laws of rows of bytes that stand one after another.
-use Rattle.std.specs.Prelude.{◌≡◌, ℕ, ◌+◌, ◌*◌, ◌%◌, ◌<◌, ◌≤◌, List, length, drop, replicate}
+use Rattle.std.specs.Prelude.{◌≡◌, ℕ, ◌+◌, ◌*◌, ◌/◌, ◌%◌, ◌<◌, ◌≤◌, List, length, drop, replicate}
 use Rattle.std.proofs.Common.{arith, refl, ap, ◌∙◌}
 use Rattle.std.proofs.lemmas.List.{length-take-le, length-drop}
 use Rattle.std.proofs.lemmas.List.Elements.{All-take, All-drop}
-use Rattle.gf_tables.specs.Product.{bytes_of_element}
+use Rattle.gf_tables.specs.Product.{bytes_of_element, bytes_of_width, width_of}
 use Rattle.gf_tables.specs.declared.kind.FieldKind.{FieldKind}
-use Rattle.gf_tables.specs.declared.kind.FieldKind.TheVariants.{Eight, Sixteen}
+use Rattle.gf_tables.specs.declared.kind.Width.TheVariants.{One, Two}
 use Rattle.field_rows.specs.Bytes.{elements_of}
 use Rattle.linear_algebra.specs.Elements.{AreBytes}
 use Rattle.linear_algebra.proofs.ElementsLaws.{elements_of-IsRow, elements_of-zero_row}
@@ -16,13 +16,12 @@ use Rattle.coded_traffic.specs.CodeBlocks.{row_width, row_of, elements_at}
 
 -- a row has so many elements
 pub row_bytes-row_width : (field : FieldKind) → row_bytes ≡ bytes_of_element field * row_width field
-row_bytes-row_width Eight = refl
-row_bytes-row_width Sixteen = refl
+row_bytes-row_width field =
+    elim (width_of field) as (λ width. row_bytes ≡ bytes_of_width width * (row_bytes / bytes_of_width width)) [ One ↦ refl | Two ↦ refl ]
 
 -- the bytes of a row are whole elements
 pub whole_row : (field : FieldKind) → row_bytes % bytes_of_element field ≡ 0
-whole_row Eight = refl
-whole_row Sixteen = refl
+whole_row field = elim (width_of field) as (λ width. row_bytes % bytes_of_width width ≡ 0) [ One ↦ refl | Two ↦ refl ]
 
 -- a row of so many lies within them
 pub row_lies_within : (rows : List ℕ) (count place : ℕ) → length rows ≡ count * row_bytes → place < count → place * row_bytes + row_bytes ≤ length rows

@@ -1,12 +1,12 @@
 -- The traffic of a code under a pattern: what its live links carry of numbered blocks, piece after piece.
-use Rattle.std.specs.Prelude.{Bool, List, [], filter, flat_map, if◌then◌else◌, length, map, slice_index_or, true, ℕ, ◌&&◌, ◌*◌, ◌+◌, ◌-◌, ◌<◌, ◌==◌, ◌≡◌, ◌≤◌}
+use Rattle.std.specs.Prelude.{Bool, List, [], filter, flat_map, if◌then◌else◌, length, map, slice_index_or, true, ℕ, ◌&&◌, ◌*◌, ◌+◌, ◌-◌, ◌/◌, ◌<◌, ◌==◌, ◌≡◌, ◌≤◌}
 use Rattle.std.specs.List.{range_with_len}
 use Rattle.gf_tables.specs.declared.kind.FieldKind.{FieldKind}
-use Rattle.gf_tables.specs.declared.kind.FieldKind.TheVariants.{Eight, Sixteen}
+use Rattle.gf_tables.specs.Product.{bytes_of_element}
 use Rattle.linear_algebra.specs.Elements.{elements_of, bytes_of_row}
 use Rattle.linear_algebra.specs.Rows.{combination}
 use Rattle.lif_outside.specs.declared.links.Flight.{Flight}
-use Rattle.generation_frame.specs.Blocks.{most_blocks, piece_of_row, pieces}
+use Rattle.generation_frame.specs.Blocks.{most_blocks, piece_bytes, piece_of_row, pieces}
 use Rattle.generation_frame.specs.Frames.{frame_of}
 use Rattle.generation_frame.specs.declared.frame.Packet.{Packet}
 use Rattle.net_model.specs.Walks.{leaves_source}
@@ -18,8 +18,7 @@ use Rattle.coded_traffic.specs.CodeBlocks.{block_elements, row_of}
 
 -- how many elements a piece has
 abbrev pub piece_width : FieldKind → ℕ
-piece_width Eight = 128
-piece_width Sixteen = 64
+piece_width field = piece_bytes / bytes_of_element field
 
 -- what a link carries of a piece of a block under a pattern: that piece of its value
 abbrev pub payload_in : Code → ℕ → List ℕ → ℕ → ℕ → List ℕ

@@ -1,9 +1,10 @@
 -- Laws of rows of elements as bytes. The length of bytes is whole where it is a multiple of the bytes of an element.
 use Rattle.std.specs.Prelude.{◌≡◌, ℕ, zero, suc, ◌+◌, ◌*◌, ◌/◌, ◌%◌, List, [], ◌∷◌, length, replicate, get_or}
 use Rattle.std.proofs.Common.{arith, refl, ap, ◌∙◌}
-use Rattle.gf_tables.specs.Product.{bytes_of_element}
+use Rattle.gf_tables.specs.Product.{bytes_of_element, bytes_of_width, width_of}
 use Rattle.gf_tables.specs.declared.kind.FieldKind.{FieldKind}
-use Rattle.gf_tables.specs.declared.kind.FieldKind.TheVariants.{Eight, Sixteen}
+use Rattle.gf_tables.specs.declared.kind.FieldKind.TheVariants.{Sixteen}
+use Rattle.gf_tables.specs.declared.kind.Width.TheVariants.{One, Two}
 use Rattle.linear_algebra.specs.Elements.{AreBytes}
 use Rattle.linear_algebra.proofs.ElementsLaws.{bytes_of_row-elements_of}
 use Rattle.field_rows.specs.Bytes.{pairs_of, elements_of, bytes_of_elements}
@@ -18,8 +19,11 @@ pub use Rattle.linear_algebra.proofs.ElementsLaws.{bytes_of_row-add_rows as byte
 
 -- a whole number of bytes is that of so many elements
 pub whole_bytes : (field : FieldKind) (n : ℕ) → n % bytes_of_element field ≡ 0 → n ≡ bytes_of_element field * (n / bytes_of_element field)
-whole_bytes Eight n whole = omega arith
-whole_bytes Sixteen n whole = omega arith
+whole_bytes field =
+    elim (width_of field) as (λ width. (n : ℕ) → n % bytes_of_width width ≡ 0 → n ≡ bytes_of_width width * (n / bytes_of_width width)) [
+      | One ↦ λ n whole. omega arith
+      | Two ↦ λ n whole. omega arith
+    ]
 
 -- zeros of whole length are elements that are zeros
 pub elements_of-zeros : (field : FieldKind) (n : ℕ) → n % bytes_of_element field ≡ 0 → elements_of field (replicate n 0) ≡ replicate (n / bytes_of_element field) 0

@@ -6,6 +6,7 @@ pub mod ProductLaws
 pub mod Powers
 pub mod PowersLaws
 pub mod TablesTest
+pub mod Poly11B
 pub mod Poly11D
 pub mod NoRoot
 pub mod Field

@@ -1,9 +1,9 @@
 -- What the compiler makes of a network: a code of the wanted rate, or else of the network's, which no code of it
 -- exceeds, and certificates of the network's rate.
-use Rattle.std.specs.Prelude.{◌≡◌, ◌<◌, ◌≤◌, ◌+◌, ◌==◌, ℕ, List, Bool, true, false, length, slice_get, slice_index, All, Some, if◌then◌else◌}
-use Rattle.gf_tables.specs.Product.{mark_of, size_of}
+use Rattle.std.specs.Prelude.{◌≡◌, ◌<◌, ◌≤◌, ◌+◌, ℕ, List, Bool, true, false, length, slice_get, slice_index, All, Some, unwrap_or}
+use Rattle.gf_tables.specs.Product.{kind_of_mark, size_of}
 use Rattle.gf_tables.specs.declared.kind.FieldKind.{FieldKind}
-use Rattle.gf_tables.specs.declared.kind.FieldKind.TheVariants.{Eight, Sixteen}
+use Rattle.gf_tables.specs.declared.kind.FieldKind.TheVariants.{Eight}
 use Rattle.net_model.specs.Demands.{demand_count}
 use Rattle.net_model.specs.Renumbering.{HasEachOnce, IsRenumbered, old_number}
 use Rattle.net_model.specs.Walks.{IsAcyclic}
@@ -19,9 +19,9 @@ use Rattle.node_program.specs.declared.Operand.{Operand}
 use Rattle.node_program.specs.declared.code.Code.{Code}
 use Rattle.topo_order.specs.Order.{order_of}
 
--- the kind of field that a mark in code files stands for
+-- the kind of field that a mark in code files stands for: every kind is that of its own mark
 abbrev pub marked_kind : ℕ → FieldKind
-marked_kind mark = if mark == mark_of Sixteen then Sixteen else Eight
+marked_kind mark = unwrap_or (kind_of_mark mark) Eight
 
 -- a path of some certificate, among so many of its first
 pub record IsPrintedPath (rate : ℕ) (certs : List Cert) (number : ℕ) (path : List ℕ) : Type 0 where
@@ -60,7 +60,7 @@ abbrev pub IsOfPaths : List ℕ → List Cert → Code → ℕ → Operand → T
 IsOfPaths order certs code link operand =
     Feeds (leaves_source code.net link) order code.rate certs operand.from link
 
--- a code whose network is this one, with its links in some order, over either field
+-- a code whose network is this one, with its links in some order, over any field
 pub record IsCodeOf (net : Net) (code : Code) : Type 0 where
   pub order : List ℕ
   pub once : HasEachOnce (length net.links) order

@@ -1,9 +1,10 @@
 //! The compiler: a network to a code of the wanted rate, or else of its own, the least cut of a demand.
-ghost use Rattle.std.specs.Prelude.{◌≡◌, ◌≤◌, ℕ, [], IfErr, IfOk, IsTrue, OnErr, length};
+ghost use Rattle.std.specs.Prelude.{◌≡◌, ◌≢◌, ◌≤◌, ℕ, [], IfErr, IfOk, IsTrue, OnErr, length};
 ghost use Rattle.counted_steps.specs.Steps.{RoseByAtMost};
 ghost use Rattle.cut_witness.specs.Certificate.{AreCertificates};
 ghost use Rattle.failure_patterns.specs.Rate.{IsRate};
 ghost use Rattle.gf_tables.specs.Kind.{IsOfKind};
+ghost use Rattle.gf_tables.specs.declared.kind.FieldKind.TheVariants.{Nine};
 ghost use Rattle.link_chains.specs.Wiring.{IsWiring};
 ghost use Rattle.net_model.specs.Demands.{demand_count};
 ghost use Rattle.net_model.specs.Limits.{highest_rate};
@@ -102,10 +103,10 @@ fn build<F: Field, L: Ledger>(
     Ok(Code::of(net, rate, kind_of::<F>(), operands, decoders))
 }
 
-/// An accepted code over the field `F`, one of the two that codes are over, with the certificates of the network's
+/// An accepted code over the field `F`, one of the two that a network can name, with the certificates of the network's
 /// demands. The code's network is the given one with its links in order, and no wanted rate. The code's rate is the
 /// wanted one, where there is one, and else the rate of the network: the least value of the certificates, which is the
-/// least cut of a demand. No accepted code of the network has a higher rate than that, over either field.
+/// least cut of a demand. No accepted code of the network has a higher rate than that, over any field.
 /// There is such a code for every network without a cycle that has at most as many demands as the field has elements,
 /// whose rate is at least 1, and whose codes' rate is at most that and at most 32; else the refusal says which of this
 /// doesn't hold (Jaggi et al. 2005, for demands with failed links). Each product and each inverse counts a step where
@@ -118,7 +119,8 @@ pub fn compile<F: Field, G: Gate + Sync, L: Ledger, R: Threads + Sync>(
     gate: &G,
     steps: &mut Steps<L>,
 ) -> Result<(Code, Vec<Cert>), CompileRefusal>
-    requires { IsOfKind (marked_kind F.MARK) F.SIZE F.BYTES F.MARK F.product }
+    requires field { IsOfKind (marked_kind F.MARK) F.SIZE F.BYTES F.MARK F.product }
+    requires named { marked_kind F.MARK ≢ Nine }
     ensures compiled { IfOk result (λ made.
         IsCompiled net.now (marked_kind F.MARK) made.0 made.1.items) }
     ensures refused { IfErr result (IsRefusal net.now F.SIZE) }
@@ -144,6 +146,7 @@ pub fn compile_along<F: Field, G: Gate + Sync, L: Ledger, R: Threads + Sync>(
     steps: &mut Steps<L>,
 ) -> Result<(Code, Vec<Cert>), CompileRefusal>
     requires field { IsOfKind (marked_kind F.MARK) F.SIZE F.BYTES F.MARK F.product }
+    requires named { marked_kind F.MARK ≢ Nine }
     requires wiring { IsWiring net.now.links (length net.now.nodes) wiring.now }
     requires order { order.now ≡ order_of net.now.links }
     requires acyclic { IsAcyclic net.now.links }

@@ -3,10 +3,11 @@ use Rattle.std.specs.Prelude.{◌≡◌, ℕ, zero, suc, ◌<◌, ◌+◌, ◌*�
 use Rattle.std.proofs.Common.{arith, refl, sym, ap, ◌∙◌}
 use Rattle.std.proofs.lemmas.List.Elements.{All-nil, All-cons, All-head, All-tail, All-map}
 use Rattle.std.proofs.lemmas.Nat.{xor_shr, xor_mod, xor_block}
-use Rattle.gf_tables.specs.Product.{size_of, bytes_of_element}
+use Rattle.gf_tables.specs.Product.{size_of, bytes_of_element, width_of, size_of_width, bytes_of_width}
 use Rattle.gf_tables.specs.declared.kind.FieldKind.{FieldKind}
-use Rattle.gf_tables.specs.declared.kind.FieldKind.TheVariants.{Eight, Sixteen}
-use Rattle.linear_algebra.specs.Elements.{numbers, AreBytes, pairs_of_bytes, bytes_of_pairs, elements_of, bytes_of_row}
+use Rattle.gf_tables.specs.declared.kind.FieldKind.TheVariants.{Sixteen}
+use Rattle.gf_tables.specs.declared.kind.Width.TheVariants.{One, Two}
+use Rattle.linear_algebra.specs.Elements.{numbers, AreBytes, pairs_of_bytes, bytes_of_pairs, numbers_of_bytes, bytes_of_numbers, elements_of, bytes_of_row}
 use Rattle.linear_algebra.specs.Rows.{add_rows, zero_row, AreElements, IsRow}
 
 -- the numbers of elements are below the size where each number is
@@ -45,8 +46,11 @@ pairs_of_bytes-bytes_of_pairs (n ∷ row) = rw (whole n, pairs_of_bytes-bytes_of
 
 -- the bytes of a row give back the row
 pub elements_of-bytes_of_row : (field : FieldKind) (row : List ℕ) → elements_of field (bytes_of_row field row) ≡ row
-elements_of-bytes_of_row Eight row = refl
-elements_of-bytes_of_row Sixteen row = pairs_of_bytes-bytes_of_pairs row
+elements_of-bytes_of_row field =
+    elim (width_of field) as (λ width. (row : List ℕ) → numbers_of_bytes width (bytes_of_numbers width row) ≡ row) [
+      | One ↦ λ row. refl
+      | Two ↦ pairs_of_bytes-bytes_of_pairs
+    ]
 
 -- the bytes of the numbers of two bytes each are the bytes
 bytes_of_pairs-pairs_of_bytes : (n : ℕ) (bytes : List ℕ) → AreBytes bytes → length bytes ≡ 2 * n → bytes_of_pairs (pairs_of_bytes bytes) ≡ bytes
@@ -61,8 +65,11 @@ bytes_of_pairs-pairs_of_bytes (suc n) (high ∷ low ∷ bytes) h even =
 -- the elements of whole elements' bytes give back the bytes
 pub bytes_of_row-elements_of : (field : FieldKind) (n : ℕ) (bytes : List ℕ) → AreBytes bytes → length bytes ≡ bytes_of_element field * n
     → bytes_of_row field (elements_of field bytes) ≡ bytes
-bytes_of_row-elements_of Eight n bytes h even = refl
-bytes_of_row-elements_of Sixteen n bytes h even = bytes_of_pairs-pairs_of_bytes n bytes h even
+bytes_of_row-elements_of field =
+    elim (width_of field) as (λ width. (n : ℕ) (bytes : List ℕ) → AreBytes bytes → length bytes ≡ bytes_of_width width * n → bytes_of_numbers width (numbers_of_bytes width bytes) ≡ bytes) [
+      | One ↦ λ n bytes h even. refl
+      | Two ↦ bytes_of_pairs-pairs_of_bytes
+    ]
 
 -- as many numbers as there are pairs of bytes
 length-pairs_of_bytes : (n : ℕ) (bytes : List ℕ) → length bytes ≡ 2 * n → length (pairs_of_bytes bytes) ≡ n
@@ -73,8 +80,11 @@ length-pairs_of_bytes (suc n) (high ∷ low ∷ bytes) even = ap suc (length-pai
 
 -- the number of elements of whole elements' bytes
 pub length-elements_of : (field : FieldKind) (n : ℕ) (bytes : List ℕ) → length bytes ≡ bytes_of_element field * n → length (elements_of field bytes) ≡ n
-length-elements_of Eight n bytes even = omega arith
-length-elements_of Sixteen n bytes even = length-pairs_of_bytes n bytes even
+length-elements_of field =
+    elim (width_of field) as (λ width. (n : ℕ) (bytes : List ℕ) → length bytes ≡ bytes_of_width width * n → length (numbers_of_bytes width bytes) ≡ n) [
+      | One ↦ λ n bytes even. omega arith
+      | Two ↦ length-pairs_of_bytes
+    ]
 
 -- two bytes for each number
 length-bytes_of_pairs : (row : List ℕ) → length (bytes_of_pairs row) ≡ 2 * length row
@@ -83,8 +93,11 @@ length-bytes_of_pairs (n ∷ row) = ap (λ k. suc (suc k)) (length-bytes_of_pair
 
 -- the number of bytes of a row
 pub length-bytes_of_row : (field : FieldKind) (row : List ℕ) → length (bytes_of_row field row) ≡ bytes_of_element field * length row
-length-bytes_of_row Eight row = omega arith
-length-bytes_of_row Sixteen row = length-bytes_of_pairs row
+length-bytes_of_row field =
+    elim (width_of field) as (λ width. (row : List ℕ) → length (bytes_of_numbers width row) ≡ bytes_of_width width * length row) [
+      | One ↦ λ row. omega arith
+      | Two ↦ length-bytes_of_pairs
+    ]
 
 -- two bytes are an element
 pairs_of_bytes-elements : (bytes : List ℕ) → AreBytes bytes → AreElements Sixteen (pairs_of_bytes bytes)
@@ -98,8 +111,11 @@ pairs_of_bytes-elements (high ∷ low ∷ bytes) h =
 
 -- the elements of bytes are elements
 pub elements_of-AreElements : (field : FieldKind) (bytes : List ℕ) → AreBytes bytes → AreElements field (elements_of field bytes)
-elements_of-AreElements Eight bytes h = h
-elements_of-AreElements Sixteen bytes h = pairs_of_bytes-elements bytes h
+elements_of-AreElements field =
+    elim (width_of field) as (λ width. (bytes : List ℕ) → AreBytes bytes → All (λ n. n < size_of_width width) (numbers_of_bytes width bytes)) [
+      | One ↦ λ bytes h. h
+      | Two ↦ pairs_of_bytes-elements
+    ]
 
 -- as many elements as there are places, of their bytes, are a row
 pub elements_of-IsRow : (field : FieldKind) (width : ℕ) (bytes : List ℕ) → AreBytes bytes → length bytes ≡ bytes_of_element field * width
@@ -119,8 +135,11 @@ bytes_of_pairs-bytes (n ∷ row) h =
 
 -- the bytes of elements are bytes
 pub bytes_of_row-AreBytes : (field : FieldKind) (row : List ℕ) → AreElements field row → AreBytes (bytes_of_row field row)
-bytes_of_row-AreBytes Eight row h = h
-bytes_of_row-AreBytes Sixteen row h = bytes_of_pairs-bytes row h
+bytes_of_row-AreBytes field =
+    elim (width_of field) as (λ width. (row : List ℕ) → All (λ n. n < size_of_width width) row → AreBytes (bytes_of_numbers width row)) [
+      | One ↦ λ row h. h
+      | Two ↦ bytes_of_pairs-bytes
+    ]
 
 -- the exclusive or of two numbers goes by their bytes
 pub xor_of_pairs : (a b c d : ℕ) → b < 256 → d < 256 → 256 * bit_xor a c + bit_xor b d ≡ bit_xor (256 * a + b) (256 * c + d)
@@ -149,8 +168,11 @@ pairs_of_bytes-add_rows (a ∷ b ∷ xs) (c ∷ d ∷ ys) h k =
 -- the elements of the exclusive or of bytes are the sum of the elements
 pub elements_of-add_rows : (field : FieldKind) (xs ys : List ℕ) → AreBytes xs → AreBytes ys
     → elements_of field (add_rows xs ys) ≡ add_rows (elements_of field xs) (elements_of field ys)
-elements_of-add_rows Eight xs ys h k = refl
-elements_of-add_rows Sixteen xs ys h k = pairs_of_bytes-add_rows xs ys h k
+elements_of-add_rows field =
+    elim (width_of field) as (λ width. (xs ys : List ℕ) → AreBytes xs → AreBytes ys → numbers_of_bytes width (add_rows xs ys) ≡ add_rows (numbers_of_bytes width xs) (numbers_of_bytes width ys)) [
+      | One ↦ λ xs ys h k. refl
+      | Two ↦ pairs_of_bytes-add_rows
+    ]
 
 -- the bytes of a sum of numbers are the exclusive or of their bytes
 bytes_of_pairs-add_rows : (xs ys : List ℕ) → bytes_of_pairs (add_rows xs ys) ≡ add_rows (bytes_of_pairs xs) (bytes_of_pairs ys)
@@ -160,8 +182,11 @@ bytes_of_pairs-add_rows (x ∷ xs) (y ∷ ys) = rw (xor_shr x y 8, xor_mod x y 8
 
 -- the bytes of a sum of rows are the exclusive or of their bytes
 pub bytes_of_row-add_rows : (field : FieldKind) (xs ys : List ℕ) → bytes_of_row field (add_rows xs ys) ≡ add_rows (bytes_of_row field xs) (bytes_of_row field ys)
-bytes_of_row-add_rows Eight xs ys = refl
-bytes_of_row-add_rows Sixteen xs ys = bytes_of_pairs-add_rows xs ys
+bytes_of_row-add_rows field =
+    elim (width_of field) as (λ width. (xs ys : List ℕ) → bytes_of_numbers width (add_rows xs ys) ≡ add_rows (bytes_of_numbers width xs) (bytes_of_numbers width ys)) [
+      | One ↦ λ xs ys. refl
+      | Two ↦ bytes_of_pairs-add_rows
+    ]
 
 -- the first numbers are those of their bytes
 pairs_of_bytes-take : (k : ℕ) (bytes : List ℕ) → pairs_of_bytes (take (2 * k) bytes) ≡ take k (pairs_of_bytes bytes)
@@ -172,8 +197,11 @@ pairs_of_bytes-take (suc k) (high ∷ low ∷ bytes) = rw (two_more k, pairs_of_
 
 -- the first elements are those of their bytes
 pub elements_of-take : (field : FieldKind) (k : ℕ) (bytes : List ℕ) → elements_of field (take (bytes_of_element field * k) bytes) ≡ take k (elements_of field bytes)
-elements_of-take Eight k bytes = let one : 1 * k ≡ k = omega arith in ap (λ n. take n bytes) one
-elements_of-take Sixteen k bytes = pairs_of_bytes-take k bytes
+elements_of-take field =
+    elim (width_of field) as (λ width. (k : ℕ) (bytes : List ℕ) → numbers_of_bytes width (take (bytes_of_width width * k) bytes) ≡ take k (numbers_of_bytes width bytes)) [
+      | One ↦ λ k bytes. let one : 1 * k ≡ k = omega arith in ap (λ n. take n bytes) one
+      | Two ↦ pairs_of_bytes-take
+    ]
 
 -- the numbers from a place on are those of their bytes
 pairs_of_bytes-drop : (k : ℕ) (bytes : List ℕ) → pairs_of_bytes (drop (2 * k) bytes) ≡ drop k (pairs_of_bytes bytes)
@@ -184,8 +212,11 @@ pairs_of_bytes-drop (suc k) (high ∷ low ∷ bytes) = rw (two_more k) (pairs_of
 
 -- the elements from a place on are those of their bytes
 pub elements_of-drop : (field : FieldKind) (k : ℕ) (bytes : List ℕ) → elements_of field (drop (bytes_of_element field * k) bytes) ≡ drop k (elements_of field bytes)
-elements_of-drop Eight k bytes = let one : 1 * k ≡ k = omega arith in ap (λ n. drop n bytes) one
-elements_of-drop Sixteen k bytes = pairs_of_bytes-drop k bytes
+elements_of-drop field =
+    elim (width_of field) as (λ width. (k : ℕ) (bytes : List ℕ) → numbers_of_bytes width (drop (bytes_of_width width * k) bytes) ≡ drop k (numbers_of_bytes width bytes)) [
+      | One ↦ λ k bytes. let one : 1 * k ≡ k = omega arith in ap (λ n. drop n bytes) one
+      | Two ↦ pairs_of_bytes-drop
+    ]
 
 -- the numbers of pairs of bytes and then others
 pairs_of_bytes-append : (n : ℕ) (xs ys : List ℕ) → length xs ≡ 2 * n → pairs_of_bytes (xs ++ ys) ≡ pairs_of_bytes xs ++ pairs_of_bytes ys
@@ -197,8 +228,11 @@ pairs_of_bytes-append (suc n) (high ∷ low ∷ xs) ys even = rw (pairs_of_bytes
 -- the elements of whole elements' bytes and then others
 pub elements_of-append : (field : FieldKind) (n : ℕ) (xs ys : List ℕ) → length xs ≡ bytes_of_element field * n
     → elements_of field (xs ++ ys) ≡ elements_of field xs ++ elements_of field ys
-elements_of-append Eight n xs ys even = refl
-elements_of-append Sixteen n xs ys even = pairs_of_bytes-append n xs ys even
+elements_of-append field =
+    elim (width_of field) as (λ width. (n : ℕ) (xs ys : List ℕ) → length xs ≡ bytes_of_width width * n → numbers_of_bytes width (xs ++ ys) ≡ numbers_of_bytes width xs ++ numbers_of_bytes width ys) [
+      | One ↦ λ n xs ys even. refl
+      | Two ↦ pairs_of_bytes-append
+    ]
 
 -- the bytes of numbers and then others
 bytes_of_pairs-append : (xs ys : List ℕ) → bytes_of_pairs (xs ++ ys) ≡ bytes_of_pairs xs ++ bytes_of_pairs ys
@@ -207,8 +241,11 @@ bytes_of_pairs-append (n ∷ xs) ys = rw (bytes_of_pairs-append xs ys) refl
 
 -- the bytes of a row and then another
 pub bytes_of_row-append : (field : FieldKind) (xs ys : List ℕ) → bytes_of_row field (xs ++ ys) ≡ bytes_of_row field xs ++ bytes_of_row field ys
-bytes_of_row-append Eight xs ys = refl
-bytes_of_row-append Sixteen xs ys = bytes_of_pairs-append xs ys
+bytes_of_row-append field =
+    elim (width_of field) as (λ width. (xs ys : List ℕ) → bytes_of_numbers width (xs ++ ys) ≡ bytes_of_numbers width xs ++ bytes_of_numbers width ys) [
+      | One ↦ λ xs ys. refl
+      | Two ↦ bytes_of_pairs-append
+    ]
 
 -- the bytes of the first numbers
 bytes_of_pairs-take : (k : ℕ) (row : List ℕ) → bytes_of_pairs (take k row) ≡ take (2 * k) (bytes_of_pairs row)
@@ -218,8 +255,11 @@ bytes_of_pairs-take (suc k) (n ∷ row) = rw (two_more k, bytes_of_pairs-take k 
 
 -- the bytes of the first elements
 pub bytes_of_row-take : (field : FieldKind) (k : ℕ) (row : List ℕ) → bytes_of_row field (take k row) ≡ take (bytes_of_element field * k) (bytes_of_row field row)
-bytes_of_row-take Eight k row = let one : 1 * k ≡ k = omega arith in ap (λ n. take n row) (sym one)
-bytes_of_row-take Sixteen k row = bytes_of_pairs-take k row
+bytes_of_row-take field =
+    elim (width_of field) as (λ width. (k : ℕ) (row : List ℕ) → bytes_of_numbers width (take k row) ≡ take (bytes_of_width width * k) (bytes_of_numbers width row)) [
+      | One ↦ λ k row. let one : 1 * k ≡ k = omega arith in ap (λ n. take n row) (sym one)
+      | Two ↦ bytes_of_pairs-take
+    ]
 
 -- the bytes of the numbers from a place on
 bytes_of_pairs-drop : (k : ℕ) (row : List ℕ) → bytes_of_pairs (drop k row) ≡ drop (2 * k) (bytes_of_pairs row)
@@ -229,8 +269,11 @@ bytes_of_pairs-drop (suc k) (n ∷ row) = rw (two_more k) (bytes_of_pairs-drop k
 
 -- the bytes of the elements from a place on
 pub bytes_of_row-drop : (field : FieldKind) (k : ℕ) (row : List ℕ) → bytes_of_row field (drop k row) ≡ drop (bytes_of_element field * k) (bytes_of_row field row)
-bytes_of_row-drop Eight k row = let one : 1 * k ≡ k = omega arith in ap (λ n. drop n row) (sym one)
-bytes_of_row-drop Sixteen k row = bytes_of_pairs-drop k row
+bytes_of_row-drop field =
+    elim (width_of field) as (λ width. (k : ℕ) (row : List ℕ) → bytes_of_numbers width (drop k row) ≡ drop (bytes_of_width width * k) (bytes_of_numbers width row)) [
+      | One ↦ λ k row. let one : 1 * k ≡ k = omega arith in ap (λ n. drop n row) (sym one)
+      | Two ↦ bytes_of_pairs-drop
+    ]
 
 -- the bytes of zeros are zeros
 bytes_of_pairs-zero_row : (width : ℕ) → bytes_of_pairs (zero_row width) ≡ zero_row (2 * width)
@@ -239,8 +282,11 @@ bytes_of_pairs-zero_row (suc width) = rw (two_more width, bytes_of_pairs-zero_ro
 
 -- the bytes of the row of zeros are zeros
 pub bytes_of_row-zero_row : (field : FieldKind) (width : ℕ) → bytes_of_row field (zero_row width) ≡ zero_row (bytes_of_element field * width)
-bytes_of_row-zero_row Eight width = let one : 1 * width ≡ width = omega arith in ap zero_row (sym one)
-bytes_of_row-zero_row Sixteen width = bytes_of_pairs-zero_row width
+bytes_of_row-zero_row field =
+    elim (width_of field) as (λ width. (count : ℕ) → bytes_of_numbers width (zero_row count) ≡ zero_row (bytes_of_width width * count)) [
+      | One ↦ λ count. let one : 1 * count ≡ count = omega arith in ap zero_row (sym one)
+      | Two ↦ bytes_of_pairs-zero_row
+    ]
 
 -- the elements of zeros are zeros
 pub elements_of-zero_row : (field : FieldKind) (width : ℕ) → elements_of field (zero_row (bytes_of_element field * width)) ≡ zero_row width

@@ -10,15 +10,16 @@ use Rattle.net_model.specs.declared.net.Net.{Net}
 use Rattle.net_model.specs.declared.net.FieldChoice.{FieldChoice}
 use Rattle.net_model.specs.declared.net.FieldChoice.TheVariants as choice
 use Rattle.gf_tables.specs.declared.kind.FieldKind.{FieldKind}
-use Rattle.gf_tables.specs.declared.kind.FieldKind.TheVariants.{Eight, Sixteen}
+use Rattle.gf_tables.specs.declared.kind.FieldKind.TheVariants.{Eight, Nine, Sixteen}
 use Rattle.gf_tables.specs.Product.{size_of}
 use Rattle.net_model.specs.Demands.{demand_count, sinks_of_demands}
 use Rattle.node_program.specs.declared.Operand.{Operand}
 use Rattle.node_program.specs.declared.Decoder.{Decoder}
 
--- the choice that names a kind of field
+-- the choice that the network of a code over a kind of field names: no network can name the field of FIPS 197
 abbrev pub choice_of : FieldKind → FieldChoice
 choice_of Eight = choice.Eight
+choice_of Nine = choice.Any
 choice_of Sixteen = choice.Sixteen
 
 -- whether the link of a number leads into a node

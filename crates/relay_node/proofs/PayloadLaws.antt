@@ -3,26 +3,25 @@ use Rattle.std.specs.Prelude.{◌≡◌, ◌<◌, ◌%◌, ◌*◌, ◌+◌, ℕ
 use Rattle.std.proofs.Common.{refl, sym, ap, ◌∙◌, add-one, arith, get_or}
 use Rattle.std.proofs.lemmas.List.{get_or-map, length-map, take_all}
 use Rattle.field_rows.proofs.BytesLaws.{bytes_of_elements-elements_of}
-use Rattle.gf_tables.specs.Product.{bytes_of_element}
+use Rattle.gf_tables.specs.Product.{bytes_of_element, bytes_of_width, width_of}
 use Rattle.gf_tables.specs.declared.kind.FieldKind.{FieldKind}
-use Rattle.gf_tables.specs.declared.kind.FieldKind.TheVariants.{Eight, Sixteen}
+use Rattle.gf_tables.specs.declared.kind.Width.TheVariants.{One, Two}
 use Rattle.generation_frame.specs.Blocks.{piece_bytes}
 use Rattle.linear_algebra.proofs.CombinationLaws.{combination-take_more}
 use Rattle.linear_algebra.proofs.ElementsLaws.{elements_of-zero_row, length-elements_of}
 use Rattle.linear_algebra.specs.Elements.{AreBytes, bytes_of_row, elements_of}
 use Rattle.linear_algebra.specs.Rows.{add_rows, combination, scale_row, zero_row}
+use Rattle.coded_traffic.proofs.PieceLaws.{piece_bytes-piece_width}
 use Rattle.coded_traffic.specs.Traffic.{piece_width}
 use Rattle.relay_node.specs.Summed.{IsSummed, coefficients_of, rows_of, total_of}
 use Rattle.relay_node.specs.declared.summands.Summand.{Summand}
 
 -- the bytes of a piece are whole elements
 piece-width : (field : FieldKind) → piece_bytes ≡ bytes_of_element field * piece_width field
-piece-width Eight = refl
-piece-width Sixteen = refl
+piece-width field = sym (piece_bytes-piece_width field)
 
 pub whole_piece : (field : FieldKind) → piece_bytes % bytes_of_element field ≡ 0
-whole_piece Eight = refl
-whole_piece Sixteen = refl
+whole_piece field = elim (width_of field) as (λ width. piece_bytes % bytes_of_width width ≡ 0) [ One ↦ refl | Two ↦ refl ]
 
 -- nothing is added up yet
 pub summed-none : (field : FieldKind) (summands : List Summand) (came : Summand → List ℕ) → IsSummed field summands came 0 (replicate piece_bytes 0)

@@ -1,5 +1,5 @@
 -- Laws of sums of the rows that are held for links.
-use Rattle.std.specs.Prelude.{◌≡◌, ◌<◌, ◌≤◌, ◌+◌, ◌*◌, ℕ, Bool, true, false, List, [], ◌∷◌, ◌++◌, length, map, take, drop, if◌then◌else◌}
+use Rattle.std.specs.Prelude.{◌≡◌, ◌<◌, ◌≤◌, ◌+◌, ◌*◌, ◌/◌, ℕ, Bool, true, false, List, [], ◌∷◌, ◌++◌, length, map, take, drop, if◌then◌else◌}
 use Rattle.std.specs.List.{concat, range_with_len}
 use Rattle.std.proofs.Common.{arith, refl, sym, ap, ◌∙◌, get_or, add-one}
 use Rattle.std.proofs.lemmas.List.{append-nil, length-replicate, length-take-le}
@@ -8,13 +8,13 @@ use borrow.Rule.Slice.PartMut.{put_mid}
 use Rattle.std.proofs.lemmas.List.Folds.{concat-append}
 use Rattle.std.proofs.lemmas.List.FromFn.{get_or-map-range_with_len, length-map-range_with_len, map-range_with_len_more}
 use Rattle.std.proofs.lemmas.Simd.{map-map}
-use Rattle.gf_tables.specs.Product.{bytes_of_element, size_of}
+use Rattle.gf_tables.specs.Product.{bytes_of_element, bytes_of_width, size_of, width_of}
 use Rattle.gf_tables.specs.declared.kind.FieldKind.{FieldKind}
-use Rattle.gf_tables.specs.declared.kind.FieldKind.TheVariants.{Eight, Sixteen}
+use Rattle.gf_tables.specs.declared.kind.Width.TheVariants.{One, Two}
 use Rattle.linear_algebra.proofs.CombinationLaws.{combination-take_more}
 use Rattle.linear_algebra.proofs.ElementsLaws.{bytes_of_row-append, elements_of-append, length-elements_of}
 use Rattle.linear_algebra.proofs.RowLaws.{add_rows-zero_row, scale_row-zero_row}
-use Rattle.linear_algebra.specs.Elements.{bytes_of_row, elements_of}
+use Rattle.linear_algebra.specs.Elements.{bytes_of_numbers, bytes_of_row, elements_of}
 use Rattle.linear_algebra.specs.Matrices.{matrix_times}
 use Rattle.linear_algebra.specs.Rows.{add_rows, combination, scale_row, zero_row}
 use Rattle.generation_frame.specs.Blocks.{row_bytes}
@@ -95,8 +95,11 @@ module _ (field : FieldKind) (rate : ℕ) (entries : List ℕ) (values : List (L
 
 -- so many rows of bytes are so many rows of elements
 pub whole_rows : (field : FieldKind) (i : ℕ) → i * row_bytes ≡ bytes_of_element field * (i * row_width field)
-whole_rows Eight i = omega arith
-whole_rows Sixteen i = omega arith
+whole_rows field i =
+    elim (width_of field) as (λ width. i * row_bytes ≡ bytes_of_width width * (i * (row_bytes / bytes_of_width width))) [
+      | One ↦ omega arith
+      | Two ↦ omega arith
+    ]
 
 -- the elements of rows of which one more was written
 pub elements_of-written : (field : FieldKind) (i k : ℕ) (rows row : List ℕ) → i * row_bytes ≤ length rows → length row ≡ row_bytes
@@ -107,6 +110,5 @@ elements_of-written field i k rows row within wide =
 
 -- the bytes of rows, one after another
 pub bytes_of_row-concat : (field : FieldKind) (rows : List (List ℕ)) → bytes_of_row field (concat rows) ≡ concat (map (bytes_of_row field) rows)
-bytes_of_row-concat Eight [] = refl
-bytes_of_row-concat Sixteen [] = refl
+bytes_of_row-concat field [] = elim (width_of field) as (λ width. bytes_of_numbers width [] ≡ []) [ One ↦ refl | Two ↦ refl ]
 bytes_of_row-concat field (row ∷ rows) = bytes_of_row-append field row (concat rows) ∙ ap (λ (rest : List ℕ). bytes_of_row field row ++ rest) (bytes_of_row-concat field rows)

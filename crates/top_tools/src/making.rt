@@ -1,6 +1,7 @@
 //! A code of a network and its report, as they are written.
-ghost use Rattle.std.specs.Prelude.{◌≡◌, ◌<◌, IfErr, IfOk, IsNone, length};
+ghost use Rattle.std.specs.Prelude.{◌≡◌, ◌≢◌, ◌<◌, IfErr, IfOk, IsNone, length};
 ghost use Rattle.gf_tables.specs.Kind.{IsOfKind};
+ghost use Rattle.gf_tables.specs.declared.kind.FieldKind.TheVariants.{Nine};
 ghost use Rattle.lif_compiler.specs.Compiled.{IsCompiled, marked_kind};
 ghost use Rattle.lif_compiler.specs.Refused.{IsRefusal};
 ghost use Rattle.link_chains.specs.Wiring.{IsWiring};
@@ -107,6 +108,7 @@ fn code_in<F: Field, G: Gate + Sync, L: Ledger, R: Threads + Sync>(
     blank: Blank,
 ) -> Result<(Code, Vec<Cert>), CompileRefusal>
     requires field { IsOfKind (marked_kind F.MARK) F.SIZE F.BYTES F.MARK F.product }
+    requires named { marked_kind F.MARK ≢ Nine }
     requires wiring { IsWiring net.now.links (length net.now.nodes) wiring.now }
     requires order { order.now ≡ order_of net.now.links }
     requires acyclic { IsAcyclic net.now.links }
@@ -131,6 +133,7 @@ fn make_over<'a, F: Field, G: Gate + Sync, R: Threads + Sync>(
     gate: &G,
 ) -> Result<Made<'a>, Outcome<'a>>
     requires field { IsOfKind (marked_kind F.MARK) F.SIZE F.BYTES F.MARK F.product }
+    requires named { marked_kind F.MARK ≢ Nine }
     requires served { IsServedBy net.now (marked_kind F.MARK) }
     requires wiring { IsWiring net.now.links (length net.now.nodes) wiring.now }
     requires order { order.now ≡ order_of net.now.links }

@@ -2,7 +2,7 @@ use Rattle.std.proofs.Common.{◌≡◌, ◌*◌, arith, length, sym}
 use Rattle.field_rows.proofs.BytesLaws.{get_or-pairs_of}
 use Rattle.code_checker.proofs.wide_rows.element_at.Goals as goal
 
-pub returns-in-Sixteen : goal.returns-in-Sixteen
-returns-in-Sixteen c =
+pub returns-in-Two : goal.returns-in-Two
+returns-in-Two c =
     let even : length c.args.row.now ≡ 2 * 32 = omega (arith, c.told-row) in
-    rw c.in-Sixteen.is (sym (get_or-pairs_of 32 c.args.place c.args.row.now even))
+    rw c.in-Two.is (sym (get_or-pairs_of 32 c.args.place c.args.row.now even))

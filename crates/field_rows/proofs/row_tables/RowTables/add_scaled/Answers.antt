@@ -18,6 +18,12 @@ returns-in-Eight-clause-sum c =
     let below : c.args.by < 256 = rw c.in-Eight.is at c.requires.element in
     rw (c.in-Eight.is, c.add_scaled.ensures, c.of_octet.ensures) refl
 
+pub returns-in-Nine-clause-sum : goal.returns-in-Nine-clause-sum
+unfolding product
+returns-in-Nine-clause-sum c =
+    let below : c.args.by < 256 = rw c.in-Nine.is at c.requires.element in
+    rw (c.in-Nine.is, c.add_scaled-in-Nine.ensures, c.of_octet-in-Nine.ensures) refl
+
 pub returns-in-Sixteen-clause-sum : goal.returns-in-Sixteen-clause-sum
 returns-in-Sixteen-clause-sum c =
     let from = c.args.from.now in
