@@ -1,35 +1,37 @@
 -- What a code file says of a code, how that is spelled, and when it's said of a code.
-use Rattle.std.specs.Prelude.{◌≡◌, ℕ, None, List, ◌++◌}
+use Rattle.std.specs.Prelude.{◌≡◌, ℕ, None, List, ◌∷◌, ◌++◌}
 use Rattle.std.specs.List.{concat}
 use Rattle.net_model.specs.Network.{IsNetwork}
 use Rattle.net_model.specs.declared.net.Net.{Net}
 use Rattle.node_program.specs.Code.{IsCode, choice_of}
 use Rattle.node_program.specs.declared.code.Code.{Code}
-use Rattle.code_items.specs.Items.{Item, operand_table_items, decoder_table_items}
+use Rattle.code_items.specs.Items.{Item, byte_item, operand_table_items, decoders_items}
 use Rattle.code_items.specs.Reading.{Front}
 use Rattle.code_items.specs.Spelling.{front_of, front_items_in}
-use Rattle.code_file.specs.Items.{code_mark, code_version}
+use Rattle.code_file.specs.Items.{code_mark}
 use Rattle.code_file.specs.Reading.{Contents}
 
--- what the file of a code says
-abbrev pub contents_in : Code → Contents
-contents_in code = record {
+-- what the file of a code in a version says
+abbrev pub contents_in : ℕ → Code → Contents
+contents_in version code = record {
+  version = version;
   front = front_of code.net code.rate code.field;
   operands = code.operands;
   decoders = code.decoders;
 }
 
--- the front, the operands and the decoders
-unfoldable pub items_in : Contents → List Item
-items_in contents =
+-- the mark, the version, the front, the operands and the decoders
+unfoldable pub items_said : Contents → List Item
+items_said contents =
     let field = contents.front.field in
-    front_items_in code_mark code_version contents.front
+    code_mark ∷ byte_item contents.version
+    ∷ (front_items_in contents.front
     ++ (operand_table_items field contents.operands
-    ++ decoder_table_items field contents.decoders)
+    ++ decoders_items contents.version field contents.decoders))
 
 -- the file that says this
 unfoldable pub spelling_of : Contents → List ℕ
-spelling_of contents = concat (items_in contents)
+spelling_of contents = concat (items_said contents)
 
 -- the parts are those of a network
 abbrev pub IsNetworkFront : Front → Type 0

@@ -11,7 +11,9 @@ ghost use Rattle.code_file.specs.Spelling.{contents_in, AreContents};
 ghost use Rattle.code_items.specs.declared.refusal.CodeRefusal.TheVariants.{OutOfMemory};
 
 use crate::parts::Parts;
-use code_items::{CodeRefusal, Front, Rest, read_decoders, read_front, read_operand_table};
+use code_items::{
+    CodeRefusal, Front, Rest, read_decoders, read_front, read_operand_table, read_version,
+};
 use net_model::Net;
 use node_program::{Code, DecoderTable, OperandTable, choice_of};
 use std::alloc::Global;
@@ -22,20 +24,21 @@ pub const CODE_LIMIT: usize = 268_435_456;
 /// What stands at the front of a code file.
 pub(crate) const MARK: &[u8] = b"LIFC";
 
-/// The version behind it.
-pub(crate) const VERSION: u8 = 1;
+// The versions that can stand behind it.
+const VERSIONS: &[u8] = &[1, 2];
 
 // All behind the front.
 fn tables(
     alloc: Global,
+    version: u8,
     front: &Front,
     rest: Rest,
 ) -> Result<(OperandTable, DecoderTable), CodeRefusal>
-    ensures { Gives (contents_with front.now) result
-        (contents_behind (front_seen front.now) (left_of rest.entry)) }
+    ensures { Gives (contents_with version front.now) result
+        (contents_behind version (front_seen front.now) (left_of rest.entry)) }
 {
     let (operands, rest) = read_operand_table(alloc, front, rest)?;
-    let (decoders, rest) = read_decoders(alloc, front, rest)?;
+    let (decoders, rest) = read_decoders(alloc, version, front, rest)?;
     if !rest.bytes.is_empty() {
         return Err(CodeRefusal::TrailingBytes { at: rest.at });
     }
@@ -48,9 +51,11 @@ fn read_parts(alloc: Global, bytes: &[u8]) -> Result<Parts, CodeRefusal>
     requires { length bytes.now ≤ code_limit }
     ensures { Gives contents_seen result (contents_of bytes.now) }
 {
-    let (front, rest) = read_front(alloc, MARK, VERSION, Rest { at: 0, bytes })?;
-    let (operands, decoders) = tables(alloc, &front, rest)?;
+    let (version, rest) = read_version(MARK, VERSIONS, Rest { at: 0, bytes })?;
+    let (front, rest) = read_front(alloc, version, rest)?;
+    let (operands, decoders) = tables(alloc, version, &front, rest)?;
     Ok(Parts {
+        version,
         front,
         operands,
         decoders,
@@ -60,9 +65,10 @@ fn read_parts(alloc: Global, bytes: &[u8]) -> Result<Parts, CodeRefusal>
 // The code of its parts.
 fn code_of(parts: Parts) -> Code
     requires { AreContents (contents_seen parts) }
-    ensures { contents_in result ≡ contents_seen parts }
+    ensures { contents_in parts.version result ≡ contents_seen parts }
 {
     let Parts {
+        version: _,
         front,
         operands,
         decoders,
@@ -80,7 +86,7 @@ fn code_of(parts: Parts) -> Code
     Code::of(net, rate, field, operands, decoders)
 }
 
-/// The code whose file the bytes are. A refusal is that of the first item that isn't good, and
+/// The code of which the bytes are a file, in either version. A refusal is that of the first item that isn't good, and
 /// comes only where the bytes are no code's file.
 pub fn read_code(alloc: Global, bytes: &[u8]) -> Result<Code, CodeRefusal>
     requires { length bytes.now ≤ code_limit }

@@ -6,5 +6,7 @@ pub mod Parts
 pub mod Reading
 pub mod RefusalNames
 pub mod Room
+pub mod Shared
+pub mod Sharing
 pub mod Spelling
 pub mod Written

@@ -1,13 +1,17 @@
 -- Reading the parts of a code file from left to right. Which item comes next is determined by the
 -- items before it. An item whose bytes aren't all there is truncated; else it is refused by the first
 -- of its conditions that holds. The refusal of a part is that of the first item that isn't good.
-use Rattle.std.specs.Prelude.{ℕ, zero, suc, ◌+◌, ◌*◌, Bool, true, not, ◌||◌, ◌==◌, nat_lt, List, [], ◌∷◌, ◌++◌, false, length, map, take, drop, replicate, slice_index, codes, Result, Ok, Err, if◌then◌else◌}
-use Rattle.std.specs.Int.{w16, from_be_bytes}
+use Rattle.std.specs.Prelude.{ℕ, zero, suc, ◌+◌, ◌-◌, ◌*◌, Bool, true, not, ◌||◌, ◌&&◌, ◌==◌, nat_lt, List, [], ◌∷◌, ◌++◌, false, length, map, take, drop, replicate, slice_index, codes, is_none, unwrap_or, Result, Ok, Err, if◌then◌else◌}
+use Rattle.std.specs.Int.{w16, w32, from_be_bytes}
 use Rattle.std.specs.List.{list_any, flat_map}
+use Rattle.std.specs.Option.{option_map_or}
 use Rattle.std.specs.Str.{bytes_eq}
 use Rattle.failure_patterns.specs.UsedField.{pair_demands}
 use Rattle.gf_tables.specs.declared.kind.FieldKind.{FieldKind}
-use Rattle.gf_tables.specs.declared.kind.FieldKind.TheVariants.{Eight, Sixteen}
+use Rattle.gf_tables.specs.Product.{bytes_of_element, kind_of_mark, width_of}
+use Rattle.gf_tables.specs.declared.kind.FieldKind.TheVariants.{Eight, Nine, Sixteen}
+use Rattle.gf_tables.specs.declared.kind.Width.{Width}
+use Rattle.gf_tables.specs.declared.kind.Width.TheVariants.{One, Two}
 use Rattle.net_model.specs.Limits.{highest_rate, most_links, most_listed, most_nodes}
 use Rattle.net_model.specs.Lists.{is_among}
 use Rattle.net_model.specs.Name.{is_name}
@@ -16,8 +20,9 @@ use Rattle.net_model.specs.declared.Pattern.{Pattern}
 use Rattle.node_program.specs.Code.{leads_into}
 use Rattle.node_program.specs.declared.Operand.{Operand}
 use Rattle.node_program.specs.declared.Decoder.{Decoder}
+use Rattle.code_items.specs.Sharing.{decoder_of, is_shared, shares}
 use Rattle.code_items.specs.declared.refusal.CodeRefusal.{CodeRefusal}
-use Rattle.code_items.specs.declared.refusal.CodeRefusal.TheVariants.{BadMagic, BadVersion, Truncated, BadField, BadRate, BadName, BadIndex, OutOfOrder, NotRising, ZeroCoefficient, BadOperand, TooMany}
+use Rattle.code_items.specs.declared.refusal.CodeRefusal.TheVariants.{BadMagic, BadVersion, Truncated, BadField, BadRate, BadName, BadIndex, OutOfOrder, NotRising, ZeroCoefficient, BadOperand, TooMany, NotFirst, Written}
 
 -- what is left of a file, and the place of its first byte
 pub record Rest : Type 0 where
@@ -62,7 +67,7 @@ item size rest conditions =
     if nat_lt (length rest.bytes) size then Err (Truncated rest.at)
     else refused_first (conditions bytes) (bytes, behind size rest)
 
--- a number of one byte, and of two
+-- a number of one byte, of two, and of four
 unfoldable pub byte_at : Rest → (ℕ → Conditions) → Reading ℕ
 byte_at rest conditions = do
   it ← item 1 rest (λ bytes. conditions (slice_index bytes 0))
@@ -73,10 +78,19 @@ number_at rest conditions = do
   it ← item 2 rest (λ bytes. conditions (from_be_bytes w16 bytes))
   Ok (from_be_bytes w16 it.0, it.1)
 
+unfoldable pub long_at : Rest → (ℕ → Conditions) → Reading ℕ
+long_at rest conditions = do
+  it ← item 4 rest (λ bytes. conditions (from_be_bytes w32 bytes))
+  Ok (from_be_bytes w32 it.0, it.1)
+
+-- a number of a width
+abbrev pub width_at : Width → Rest → (ℕ → Conditions) → Reading ℕ
+width_at One = byte_at
+width_at Two = number_at
+
 -- the number of an element
 abbrev pub element_at : FieldKind → Rest → (ℕ → Conditions) → Reading ℕ
-element_at Eight = byte_at
-element_at Sixteen = number_at
+element_at field = width_at (width_of field)
 
 -- a count that has a limit
 abbrev pub count_at : ℕ → Rest → Reading ℕ
@@ -110,12 +124,22 @@ other_name_at earlier rest = name_at rest (λ name. list_any (bytes_eq name) ear
 abbrev pub Part : Type 0 → Type 0
 Part X = List X → Rest → Reading X
 
+-- A part for each of these, one after another, each in view of the earlier ones: these and the parts that are read.
+unfoldable pub each_after_at :
+    {X Y : Type 0} → (List Y → X → Rest → Reading Y) → List Y → List X → Rest → Reading (List Y)
+each_after_at part earlier [] rest = Ok (earlier, rest)
+each_after_at part earlier (x ∷ xs) rest = do
+  one ← part earlier x rest
+  each_after_at part (earlier ++ one.0 ∷ []) xs one.1
+
 -- so many parts one after another
-unfoldable pub repeated_at : {X : Type 0} → Part X → ℕ → List X → Rest → Reading (List X)
-repeated_at part zero earlier rest = Ok (earlier, rest)
-repeated_at part (suc count) earlier rest = do
-  one ← part earlier rest
-  repeated_at part count (earlier ++ one.0 ∷ []) one.1
+abbrev pub repeated_at : {X : Type 0} → Part X → ℕ → List X → Rest → Reading (List X)
+repeated_at part count earlier =
+    each_after_at (λ earlier _. part earlier) earlier (replicate count (tt {0}))
+
+-- a part for each of these, in order
+abbrev pub each_at : {X Y : Type 0} → (X → Rest → Reading Y) → List X → Rest → Reading (List Y)
+each_at part xs = each_after_at (λ _ x. part x) [] xs
 
 -- a number is above the last of a list
 abbrev pub is_above_last : List ℕ → ℕ → Bool
@@ -133,18 +157,27 @@ pub record Front : Type 0 where
   pub sinks : List ℕ
   pub patterns : List Pattern
 
--- the mark and the version
-unfoldable pub mark_at : List ℕ → ℕ → Rest → Result Rest CodeRefusal
-mark_at mark version rest = do
+-- the mark, and a version behind it that is one of those which it allows
+unfoldable pub mark_at : List ℕ → List ℕ → Rest → Reading ℕ
+mark_at mark versions rest = do
   it ← item 4 rest (λ bytes. (not (bytes_eq bytes mark), BadMagic) ∷ [])
-  number ← byte_at it.1 (λ n. (not (n == version), BadVersion) ∷ [])
-  Ok number.1
+  byte_at it.1 (λ n. (not (is_among versions n), BadVersion) ∷ [])
+
+-- a code over the field can stand in a file of the version: the field of FIPS 197 came with version 2
+abbrev pub has_field : ℕ → FieldKind → Bool
+has_field version Eight = true
+has_field version Nine = not (version == 1)
+has_field version Sixteen = true
+
+-- a number is that of a field in files of the version
+abbrev pub is_field : ℕ → ℕ → Bool
+is_field version number = option_map_or (has_field version) (kind_of_mark number) false
 
 -- the field
-unfoldable pub field_at : Rest → Reading FieldKind
-field_at rest = do
-  number ← byte_at rest (λ n. (not ((n == 8) || (n == 16)), BadField) ∷ [])
-  Ok ((if number.0 == 8 then Eight else Sixteen), number.1)
+unfoldable pub field_at : ℕ → Rest → Reading FieldKind
+field_at version rest = do
+  number ← byte_at rest (λ n. (not (is_field version n), BadField) ∷ [])
+  Ok (unwrap_or (kind_of_mark number.0) Eight, number.1)
 
 -- the rate
 abbrev pub rate_at : Rest → Reading ℕ
@@ -232,11 +265,10 @@ patterns_at links sinks rest = do
   count ← pattern_count_at sinks rest
   counted_patterns_at links count.0 count.1
 
--- all up to the operands
-unfoldable pub front_at : List ℕ → ℕ → Rest → Reading Front
-front_at mark version start = do
-  rest ← mark_at mark version start
-  field ← field_at rest
+-- all behind the version and up to the operands
+unfoldable pub front_at : ℕ → Rest → Reading Front
+front_at version rest = do
+  field ← field_at version rest
   rate ← rate_at field.1
   nodes ← nodes_at rate.1
   links ← links_at (length nodes.0) nodes.1
@@ -291,15 +323,6 @@ operands_at_link front link rest = do
   count ← count_at most_links rest
   operands_at front link count.0 count.1
 
--- a part for each of these, in order
-unfoldable pub each_at :
-    {X Y : Type 0} → (X → Rest → Reading Y) → List X → Rest → Reading (List Y)
-each_at part [] rest = Ok ([], rest)
-each_at part (x ∷ xs) rest = do
-  one ← part x rest
-  others ← each_at part xs one.1
-  Ok (one.0 ∷ others.0, others.1)
-
 -- the operands of each link
 abbrev pub operand_table_at : Front → Rest → Reading (List (List Operand))
 operand_table_at front = each_at (operands_at_link front) front.links
@@ -333,6 +356,39 @@ demand_sinks front = flat_map (λ sink. replicate (length front.patterns) sink) 
 abbrev pub decoders_at : Front → List ℕ → Rest → Reading (List Decoder)
 decoders_at front = each_at (decoder_at front)
 
--- the decoder of each demand
-abbrev pub decoder_table_at : Front → Rest → Reading (List Decoder)
-decoder_table_at front = decoders_at front (demand_sinks front)
+-- When a number that names an earlier demand is refused, where these are the sinks of the demands: it is one more than the
+-- demand's number, and 0 names none.
+abbrev pub same_conditions : List ℕ → List Decoder → ℕ → ℕ → ℕ → Conditions
+same_conditions sinks earlier sink at zero = []
+same_conditions sinks earlier sink at (suc demand) =
+    (not (nat_lt demand (length earlier)), BadIndex at)
+    ∷ (not (slice_index sinks demand == sink), BadOperand at)
+    ∷ (shares earlier demand, NotFirst at) ∷ []
+
+-- a decoder that no earlier demand has; the place of its last entry is that of the refusal
+unfoldable pub new_decoder_at : Front → List Decoder → ℕ → Rest → Reading Decoder
+new_decoder_at front earlier sink rest = do
+  decoder ← decoder_at front sink rest
+  let last = decoder.1.at - bytes_of_element front.field in
+  refused_first ((is_shared earlier decoder.0, Written last) ∷ []) decoder
+
+-- the decoder of the demand that a number names, or the one that follows where it is 0
+abbrev pub named_decoder_at : Front → List Decoder → ℕ → ℕ → Rest → Reading Decoder
+named_decoder_at front earlier sink zero rest = new_decoder_at front earlier sink rest
+named_decoder_at front earlier sink (suc demand) rest = Ok (decoder_of earlier demand, rest)
+
+-- the decoder of a demand, in version 2
+unfoldable pub shared_decoder_at : Front → List ℕ → List Decoder → ℕ → Rest → Reading Decoder
+shared_decoder_at front sinks earlier sink rest = do
+  same ← long_at rest (same_conditions sinks earlier sink rest.at)
+  named_decoder_at front earlier sink same.0 same.1
+
+-- a decoder for each of the sinks, in version 2
+abbrev pub shared_decoders_at : Front → List ℕ → Rest → Reading (List Decoder)
+shared_decoders_at front sinks = each_after_at (shared_decoder_at front sinks) [] sinks
+
+-- the decoder of each demand, by the version
+abbrev pub decoder_table_at : ℕ → Front → Rest → Reading (List Decoder)
+decoder_table_at version front =
+    if version == 1 then decoders_at front (demand_sinks front)
+    else shared_decoders_at front (demand_sinks front)

@@ -1,7 +1,7 @@
 -- The names of refusals, and the numbers that stand with them.
 use Rattle.std.specs.Prelude.{ℕ, List, Option, Some, None, codes}
 use Rattle.code_items.specs.declared.refusal.CodeRefusal.{CodeRefusal}
-use Rattle.code_items.specs.declared.refusal.CodeRefusal.TheVariants.{BadMagic, BadVersion, Truncated, BadField, BadRate, BadName, BadIndex, OutOfOrder, NotRising, ZeroCoefficient, BadOperand, TooMany, TrailingBytes, OutOfMemory}
+use Rattle.code_items.specs.declared.refusal.CodeRefusal.TheVariants.{BadMagic, BadVersion, Truncated, BadField, BadRate, BadName, BadIndex, OutOfOrder, NotRising, ZeroCoefficient, BadOperand, TooMany, TrailingBytes, OutOfMemory, NotFirst, Written}
 
 abbrev pub refusal_name : CodeRefusal → List ℕ
 refusal_name BadMagic = codes "BadMagic"
@@ -18,6 +18,8 @@ refusal_name (BadOperand at) = codes "BadOperand"
 refusal_name (TooMany at) = codes "TooMany"
 refusal_name (TrailingBytes at) = codes "TrailingBytes"
 refusal_name OutOfMemory = codes "OutOfMemory"
+refusal_name (NotFirst at) = codes "NotFirst"
+refusal_name (Written at) = codes "Written"
 
 -- the place, or the number of the link
 abbrev pub refusal_number : CodeRefusal → Option ℕ
@@ -35,3 +37,5 @@ refusal_number (BadOperand at) = Some at
 refusal_number (TooMany at) = Some at
 refusal_number (TrailingBytes at) = Some at
 refusal_number OutOfMemory = None
+refusal_number (NotFirst at) = Some at
+refusal_number (Written at) = Some at

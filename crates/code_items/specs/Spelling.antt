@@ -19,12 +19,11 @@ front_of net rate field = record {
   patterns = net.patterns;
 }
 
--- The mark, the version, the field, the rate, the nodes, the links, the source, the sinks and the
--- listed patterns.
-unfoldable pub front_items_in : Item → ℕ → Front → List Item
-front_items_in mark version front =
+-- The field, the rate, the nodes, the links, the source, the sinks and the listed patterns.
+unfoldable pub front_items_in : Front → List Item
+front_items_in front =
     let listed = drop 1 front.patterns in
-    mark ∷ byte_item version ∷ byte_item (mark_of front.field) ∷ byte_item front.rate
+    byte_item (mark_of front.field) ∷ byte_item front.rate
     ∷ number_item (length front.nodes) ∷ (map name_item front.nodes
     ++ (number_item (length front.links) ∷ (flat_map link_items front.links
     ++ (number_item front.source ∷ number_item (length front.sinks) ∷ (map number_item front.sinks

@@ -1,5 +1,5 @@
 -- What is written, and that the numbers of elements fit the field.
-use Rattle.std.specs.Prelude.{◌≡◌, ℕ, Bool, nat_lt, List, ◌++◌, Vec, Result, OnOk}
+use Rattle.std.specs.Prelude.{◌≡◌, ◌*◌, ◌&&◌, ◌==◌, ℕ, Bool, length, nat_lt, List, ◌++◌, Vec, Result, OnOk}
 use Rattle.std.specs.List.{concat, list_all}
 use Rattle.std.specs.Global.{Global}
 use Rattle.gf_tables.specs.Product.{size_of}
@@ -15,6 +15,11 @@ Adds result old new items = OnOk result (new.items ≡ old.items ++ concat items
 -- each coefficient is an element
 abbrev pub are_elements : FieldKind → List Operand → Bool
 are_elements field operands = list_all (λ operand. nat_lt operand.times (size_of field)) operands
+
+-- the decoder has so many links, and so many times so many entries
+abbrev pub has_size : ℕ → Decoder → Bool
+has_size rate decoder =
+    (length decoder.links == rate) && (length decoder.entries == rate * rate)
 
 -- each entry is an element
 abbrev pub has_elements : FieldKind → Decoder → Bool

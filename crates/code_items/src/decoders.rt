@@ -10,6 +10,7 @@ use crate::operands::leads_into;
 use crate::parts::Front;
 use crate::rest::Rest;
 use crate::rising::is_above_last;
+use crate::shared_decoders::shared_decoders;
 use gf_tables::FieldKind;
 use net_model::LinkList;
 use node_program::{Decoder, Entries};
@@ -75,9 +76,9 @@ fn entries<'a>(
     Ok((entries, rest))
 }
 
-// The decoder of a demand.
+/// The decoder of a demand.
 #[tactic(auto, unfolding(crate::specs::Reading::decoder_at))]
-fn decoder<'a>(
+pub(crate) fn decoder<'a>(
     alloc: Global,
     front: &Front,
     sink: u32,
@@ -136,15 +137,20 @@ fn counted_decoders<'a>(
     Ok((decoders, rest))
 }
 
-/// The decoder of each demand of a front, in the order of the demands, and what is left. A refusal is that of the first item that
-/// isn't good.
+/// The decoder of each demand of a front, in the order of the demands, as a file of the version says it, and what is left. A
+/// refusal is that of the first item that isn't good.
 pub fn read_decoders<'a>(
     alloc: Global,
+    version: u8,
     front: &Front,
     rest: Rest<'a>,
 ) -> Result<(Vec<Decoder>, Rest<'a>), CodeRefusal>
-    ensures { ReadsAll result (decoder_table_at (front_seen front.now)) rest.entry }
+    ensures { ReadsAll result (decoder_table_at version (front_seen front.now)) rest.entry }
 {
     let sinks = sinks_of_demands(alloc, front)?;
-    counted_decoders(alloc, front, &sinks, rest)
+    if version == 1 {
+        counted_decoders(alloc, front, &sinks, rest)
+    } else {
+        shared_decoders(alloc, front, &sinks, rest)
+    }
 }

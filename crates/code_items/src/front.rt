@@ -1,8 +1,8 @@
 //! A code file up to the operands.
-ghost use Rattle.std.specs.Prelude.{◌≤◌, IfOk};
+ghost use Rattle.std.specs.Prelude.{◌≡◌, ◌≤◌, IfOk};
 ghost use Rattle.net_model.specs.Limits.{highest_rate};
-ghost use Rattle.code_items.specs.Reading.{mark_at, field_at, rate_at, front_at};
-ghost use Rattle.code_items.specs.Gives.{Gives, left_of, ReadsAs, Reads};
+ghost use Rattle.code_items.specs.Reading.{mark_at, has_field, field_at, rate_at, front_at};
+ghost use Rattle.code_items.specs.Gives.{ReadsAs, Reads};
 ghost use Rattle.code_items.specs.Parts.{front_seen};
 
 use crate::CodeRefusal;
@@ -16,31 +16,44 @@ use gf_tables::FieldKind;
 use net_model::HIGHEST_RATE;
 use std::alloc::Global;
 
-// The mark and the version.
+/// The version behind a mark of four bytes, which is one of those that the mark allows, and what is left.
 #[tactic(auto, using(crate::proofs::Checks::item_checked, crate::proofs::Checks::byte_checked), unfolding(crate::specs::Reading::mark_at))]
-fn mark<'a>(mark: &[u8], version: u8, rest: Rest<'a>) -> Result<Rest<'a>, CodeRefusal>
-    ensures { Gives left_of result (mark_at mark.now version (left_of rest.entry)) }
+pub fn read_version<'a>(
+    mark: &[u8],
+    versions: &[u8],
+    start: Rest<'a>,
+) -> Result<(u8, Rest<'a>), CodeRefusal>
+    ensures { Reads result (mark_at mark.now versions.now) start.entry }
 {
-    let (bytes, rest) = item(rest, 4)?;
+    let (bytes, rest) = item(start, 4)?;
     if bytes != mark {
         return Err(CodeRefusal::BadMagic);
     }
-    let (number, rest) = byte(rest)?;
-    if number != version {
+    let (version, rest) = byte(rest)?;
+    if !versions.contains(&version) {
         return Err(CodeRefusal::BadVersion);
     }
-    Ok(rest)
+    Ok((version, rest))
+}
+
+// Whether a code over the field can stand in a file of the version.
+fn has_field(version: u8, field: FieldKind) -> bool
+    ensures { result ≡ has_field version field }
+{
+    match field {
+        FieldKind::Eight | FieldKind::Sixteen => true,
+        FieldKind::Nine => version != 1,
+    }
 }
 
 // The field.
 #[tactic(auto, using(crate::proofs::Checks::byte_checked), unfolding(crate::specs::Reading::field_at))]
-fn field<'a>(rest: Rest<'a>) -> Result<(FieldKind, Rest<'a>), CodeRefusal>
-    ensures { Reads result field_at rest.entry }
+fn field<'a>(version: u8, rest: Rest<'a>) -> Result<(FieldKind, Rest<'a>), CodeRefusal>
+    ensures { Reads result (field_at version) rest.entry }
 {
     let (number, after) = byte(rest)?;
-    match number {
-        8 => Ok((FieldKind::Eight, after)),
-        16 => Ok((FieldKind::Sixteen, after)),
+    match FieldKind::of_mark(number) {
+        Some(field) if has_field(version, field) => Ok((field, after)),
         _ => Err(CodeRefusal::BadField),
     }
 }
@@ -59,19 +72,17 @@ fn rate<'a>(rest: Rest<'a>) -> Result<(u32, Rest<'a>), CodeRefusal>
     Ok((rate, after))
 }
 
-/// All up to the operands, behind a mark of four bytes and a version: what stands there, and what is left. A refusal is that of
-/// the first item that isn't good.
+/// All behind the version and up to the operands: what stands there, and what is left. A refusal is that of the first item that
+/// isn't good.
 #[tactic(auto, unfolding(crate::specs::Reading::front_at))]
 pub fn read_front<'a>(
     alloc: Global,
-    sign: &[u8],
     version: u8,
     start: Rest<'a>,
 ) -> Result<(Front, Rest<'a>), CodeRefusal>
-    ensures { ReadsAs front_seen result (front_at sign.now version) start.entry }
+    ensures { ReadsAs front_seen result (front_at version) start.entry }
 {
-    let rest = mark(sign, version, start)?;
-    let (field, rest) = field(rest)?;
+    let (field, rest) = field(version, start)?;
     let (rate, rest) = rate(rest)?;
     let (nodes, rest) = nodes(alloc, rest)?;
     let (links, rest) = links(alloc, nodes.len(), rest)?;

@@ -1,12 +1,12 @@
 //! The next items of a file: numbers and elements.
 ghost use Rattle.std.specs.Prelude.{◌≡◌, ◌<◌, ◌≤◌, length, IfOk};
 ghost use Rattle.gf_tables.specs.Product.{size_of};
-ghost use Rattle.code_items.specs.Reading.{any, item, byte_at, number_at, element_at, count_at, positive_count_at, index_at};
+ghost use Rattle.code_items.specs.Reading.{any, item, byte_at, number_at, long_at, element_at, count_at, positive_count_at, index_at};
 ghost use Rattle.code_items.specs.Gives.{ReadsAs, Reads};
 
 use crate::CodeRefusal;
 use crate::rest::Rest;
-use gf_tables::FieldKind;
+use gf_tables::{FieldKind, Width};
 
 /// The next item, of so many bytes.
 #[tactic(auto, unfolding(crate::specs::Reading::item))]
@@ -45,17 +45,29 @@ pub(crate) fn number<'a>(rest: Rest<'a>) -> Result<(u16, Rest<'a>), CodeRefusal>
     Ok((u16::from_be_bytes([item[0], item[1]]), after))
 }
 
+/// A number of four bytes.
+#[tactic(auto, unfolding(crate::specs::Reading::long_at))]
+pub(crate) fn long<'a>(rest: Rest<'a>) -> Result<(u32, Rest<'a>), CodeRefusal>
+    ensures { Reads result (any long_at) rest.entry }
+{
+    let (item, after) = item(rest, 4)?;
+    Ok((
+        u32::from_be_bytes([item[0], item[1], item[2], item[3]]),
+        after,
+    ))
+}
+
 /// The number of an element.
 pub(crate) fn element<'a>(field: FieldKind, rest: Rest<'a>) -> Result<(u32, Rest<'a>), CodeRefusal>
     ensures gives { Reads result (any (element_at field)) rest.entry }
     ensures below { IfOk result (λ x. x.0 < size_of field) }
 {
-    match field {
-        FieldKind::Eight => {
+    match field.width() {
+        Width::One => {
             let (number, after) = byte(rest)?;
             Ok((u32::from(number), after))
         }
-        FieldKind::Sixteen => {
+        Width::Two => {
             let (number, after) = number(rest)?;
             Ok((u32::from(number), after))
         }

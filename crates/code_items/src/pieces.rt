@@ -2,11 +2,11 @@
 ghost use Rattle.std.specs.Prelude.{◌≡◌, ◌<◌, ◌++◌, drop, map, nat_lt, IsTrue, OnOk};
 ghost use Rattle.std.specs.List.{list_all};
 ghost use Rattle.gf_tables.specs.Product.{size_of};
-ghost use Rattle.code_items.specs.Items.{number_item, name_item, element_item};
+ghost use Rattle.code_items.specs.Items.{number_item, long_item, name_item, element_item};
 ghost use Rattle.code_items.specs.Written.{Adds};
 
 use byteorder::{BigEndian, ByteOrder};
-use gf_tables::FieldKind;
+use gf_tables::{FieldKind, Width};
 use net_model::{Name, Net, Pattern};
 use std::alloc::AllocError;
 
@@ -17,6 +17,15 @@ pub(crate) fn put_number(out: &mut Vec<u8>, number: usize) -> Result<(), AllocEr
     let mut bytes = [0; 8];
     BigEndian::write_u64(&mut bytes, number as u64);
     out.extend_from_slice(&bytes[6..])
+}
+
+/// Adds a number in four bytes.
+pub(crate) fn put_long(out: &mut Vec<u8>, number: u32) -> Result<(), AllocError>
+    ensures { OnOk result (out.new.items ≡ out.old.items ++ long_item number) }
+{
+    let mut bytes = [0; 4];
+    BigEndian::write_u32(&mut bytes, number);
+    out.extend_from_slice(&bytes)
 }
 
 /// Adds numbers.
@@ -57,9 +66,9 @@ pub(crate) fn put_element(
     requires { element < size_of field }
     ensures { OnOk result (out.new.items ≡ out.old.items ++ element_item field element) }
 {
-    match field {
-        FieldKind::Eight => Ok(out.push(element as u8)?),
-        FieldKind::Sixteen => put_number(out, element as usize),
+    match field.width() {
+        Width::One => Ok(out.push(element as u8)?),
+        Width::Two => put_number(out, element as usize),
     }
 }
 

@@ -10,13 +10,13 @@ pub enum CodeRefusal {
     /// The mark isn't `LIFC`.
     #[error("the mark isn't that of a code file")]
     BadMagic,
-    /// The version isn't 1.
+    /// The version isn't one that the mark allows.
     #[error("the version isn't known")]
     BadVersion,
     /// The bytes of an item aren't all there.
     #[error("the file ends within the item at byte {at}")]
     Truncated { at: u64 },
-    /// The field is neither 8 nor 16.
+    /// The field is none that a file of the version can have.
     #[error("the field isn't known")]
     BadField,
     /// The rate isn't 1 to 32.
@@ -49,6 +49,12 @@ pub enum CodeRefusal {
     /// There was no memory.
     #[error("there is no memory")]
     OutOfMemory,
+    /// A demand is said to have the decoder of one that has itself that of an earlier one.
+    #[error("the number at byte {at} doesn't name the first demand with its decoder")]
+    NotFirst { at: u64 },
+    /// A decoder is written that an earlier demand has.
+    #[error("the decoder that ends with the entry at byte {at} is that of an earlier demand")]
+    Written { at: u64 },
 }
 
 impl CodeRefusal {
@@ -75,6 +81,8 @@ impl CodeRefusal {
             CodeRefusal::TooMany { .. } => "TooMany",
             CodeRefusal::TrailingBytes { .. } => "TrailingBytes",
             CodeRefusal::OutOfMemory => "OutOfMemory",
+            CodeRefusal::NotFirst { .. } => "NotFirst",
+            CodeRefusal::Written { .. } => "Written",
         }
     }
 
@@ -97,6 +105,8 @@ impl CodeRefusal {
             CodeRefusal::TooMany { at } => Some(at),
             CodeRefusal::TrailingBytes { at } => Some(at),
             CodeRefusal::OutOfMemory => None,
+            CodeRefusal::NotFirst { at } => Some(at),
+            CodeRefusal::Written { at } => Some(at),
         }
     }
 }

@@ -1,12 +1,13 @@
 //! How much room the parts of a code file take.
-ghost use Rattle.std.specs.Prelude.{◌≡◌, map};
+ghost use Rattle.std.specs.Prelude.{◌≡◌, [], map};
 ghost use Rattle.std.specs.List.{flat_map};
 ghost use Rattle.gf_tables.specs.Product.{bytes_of_element};
-ghost use Rattle.code_items.specs.Items.{name_item, link_items, pattern_items, operand_list_items, decoder_items, operand_table_items, decoder_table_items};
+ghost use Rattle.code_items.specs.Items.{name_item, link_items, pattern_items, operand_list_items, decoder_items, demand_items, operand_table_items, decoder_table_items, shared_table_items};
 ghost use Rattle.code_items.specs.Room.{room_of, IsFrontRoom};
+ghost use Rattle.code_items.specs.Sharing.{sames_after};
 
 use crate::pieces::listed;
-use gf_tables::FieldKind;
+use gf_tables::{FieldKind, Width};
 use net_model::{Link, Name, Net, Pattern};
 use node_program::{Decoder, OperandList};
 
@@ -14,9 +15,9 @@ use node_program::{Decoder, OperandList};
 fn element_room(field: FieldKind) -> usize
     ensures { result ≡ bytes_of_element field }
 {
-    match field {
-        FieldKind::Eight => 1,
-        FieldKind::Sixteen => 2,
+    match field.width() {
+        Width::One => 1,
+        Width::Two => 2,
     }
 }
 
@@ -90,13 +91,37 @@ pub fn operands_room(field: FieldKind, table: &[OperandList]) -> usize
     room
 }
 
-/// How much room decoders take, in bytes, or the greatest number of the machine where that is less.
+/// How much room decoders take in version 1, in bytes, or the greatest number of the machine where that is less.
 pub fn decoders_room(field: FieldKind, decoders: &[Decoder]) -> usize
     ensures { result ≡ room_of (decoder_table_items field decoders.now) }
 {
     let mut room: usize = 0;
     for decoder in decoders {
         room = room.saturating_add(decoder_room(field, decoder));
+    }
+    room
+}
+
+// How much room a demand takes in version 2, where this is its same.
+fn demand_room(field: FieldKind, same: u32, decoder: &Decoder) -> usize
+    ensures { result ≡ room_of (demand_items field same decoder.now) }
+{
+    if same == 0 {
+        decoder_room(field, decoder).saturating_add(4)
+    } else {
+        4
+    }
+}
+
+/// How much room decoders take in version 2, where these are the sames of their demands, in bytes, or the greatest number of
+/// the machine where that is less.
+pub fn shared_decoders_room(field: FieldKind, decoders: &[Decoder], sames: &[u32]) -> usize
+    requires { sames.now ≡ sames_after [] decoders.now }
+    ensures { result ≡ room_of (shared_table_items field [] decoders.now) }
+{
+    let mut room: usize = 0;
+    for (decoder, same) in decoders.iter().zip(sames) {
+        room = room.saturating_add(demand_room(field, *same, decoder));
     }
     room
 }

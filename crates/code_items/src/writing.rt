@@ -1,12 +1,13 @@
 //! Writing the parts of a code file.
-ghost use Rattle.std.specs.Prelude.{◌≡◌, ◌<◌, IsTrue};
+ghost use Rattle.std.specs.Prelude.{◌≡◌, ◌<◌, [], IsTrue};
 ghost use Rattle.std.specs.List.{flat_map, list_all};
-ghost use Rattle.gf_tables.specs.Product.{mark_of, size_of};
-ghost use Rattle.code_items.specs.Items.{link_items, pattern_items, operand_items, operands_items, operand_list_items, decoder_items, head_items, front_items, operand_table_items, decoder_table_items};
+ghost use Rattle.gf_tables.specs.Product.{size_of};
+ghost use Rattle.code_items.specs.Items.{link_items, pattern_items, operand_items, operands_items, operand_list_items, decoder_items, demand_items, head_items, front_items, operand_table_items, decoder_table_items, shared_table_items};
+ghost use Rattle.code_items.specs.Sharing.{sames_after};
 ghost use Rattle.code_items.specs.Written.{Adds, are_elements, has_elements};
 
 use crate::pieces::{
-    listed, put_element, put_elements, put_name, put_names, put_number, put_numbers,
+    listed, put_element, put_elements, put_long, put_name, put_names, put_number, put_numbers,
 };
 use gf_tables::FieldKind;
 use net_model::{Link, Net, Pattern};
@@ -109,7 +110,7 @@ fn put_decoder(out: &mut Vec<u8>, field: FieldKind, decoder: &Decoder) -> Result
     put_elements(out, field, decoder.entries.as_slice())
 }
 
-/// Adds decoders. Where memory runs out, some may have been added.
+/// Adds decoders as in version 1. Where memory runs out, some may have been added.
 pub fn put_decoders(
     out: &mut Vec<u8>,
     field: FieldKind,
@@ -124,14 +125,38 @@ pub fn put_decoders(
     Ok(())
 }
 
-// The number of a field in code files.
-fn mark_byte(field: FieldKind) -> u8
-    ensures { result ≡ mark_of field }
+// Adds what stands for a demand in version 2, where this is its same.
+fn put_demand(
+    out: &mut Vec<u8>,
+    field: FieldKind,
+    same: u32,
+    decoder: &Decoder,
+) -> Result<(), AllocError>
+    requires { IsTrue (has_elements field decoder.now) }
+    ensures { Adds result out.old out.new (demand_items field same decoder.now) }
 {
-    match field {
-        FieldKind::Eight => 8,
-        FieldKind::Sixteen => 16,
+    put_long(out, same)?;
+    if same == 0 {
+        put_decoder(out, field, decoder)?;
     }
+    Ok(())
+}
+
+/// Adds decoders as in version 2, where these are the sames of their demands. Where memory runs out, some may have been added.
+pub fn put_shared_decoders(
+    out: &mut Vec<u8>,
+    field: FieldKind,
+    decoders: &[Decoder],
+    sames: &[u32],
+) -> Result<(), AllocError>
+    requires elements { IsTrue (list_all (has_elements field) decoders.now) }
+    requires sames { sames.now ≡ sames_after [] decoders.now }
+    ensures { Adds result out.old out.new (shared_table_items field [] decoders.now) }
+{
+    for (decoder, same) in decoders.iter().zip(sames) {
+        put_demand(out, field, *same, decoder)?;
+    }
+    Ok(())
 }
 
 // Adds the mark, the version, the field and the rate.
@@ -146,7 +171,7 @@ fn put_head(
     ensures { Adds result out.old out.new (head_items mark.now version field rate) }
 {
     out.extend_from_slice(mark)?;
-    Ok(out.extend_from_slice(&[version, mark_byte(field), rate as u8])?)
+    Ok(out.extend_from_slice(&[version, field.mark(), rate as u8])?)
 }
 
 /// Adds all up to the operands. Where memory runs out, some may have been added.
