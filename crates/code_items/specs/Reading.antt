@@ -369,8 +369,7 @@ same_conditions sinks earlier sink at (suc demand) =
 unfoldable pub new_decoder_at : Front → List Decoder → ℕ → Rest → Reading Decoder
 new_decoder_at front earlier sink rest = do
   decoder ← decoder_at front sink rest
-  let last = decoder.1.at - bytes_of_element front.field in
-  refused_first ((is_shared earlier decoder.0, Written last) ∷ []) decoder
+  refused_first ((is_shared earlier decoder.0, Written (decoder.1.at - bytes_of_element front.field)) ∷ []) decoder
 
 -- the decoder of the demand that a number names, or the one that follows where it is 0
 abbrev pub named_decoder_at : Front → List Decoder → ℕ → ℕ → Rest → Reading Decoder

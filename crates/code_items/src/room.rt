@@ -11,8 +11,8 @@ use gf_tables::{FieldKind, Width};
 use net_model::{Link, Name, Net, Pattern};
 use node_program::{Decoder, OperandList};
 
-// How many bytes an element takes.
-fn element_room(field: FieldKind) -> usize
+/// How many bytes an element takes.
+pub(crate) fn element_room(field: FieldKind) -> usize
     ensures { result ≡ bytes_of_element field }
 {
     match field.width() {

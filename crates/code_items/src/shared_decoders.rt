@@ -1,5 +1,5 @@
 //! The decoders of demands that share them, as a file of version 2 says them.
-ghost use Rattle.std.specs.Prelude.{◌≡◌, ◌++◌, ◌∷◌, [], ◌≤◌, IfOk, OnOk, length};
+ghost use Rattle.std.specs.Prelude.{◌≡◌, ◌++◌, ◌∷◌, [], ◌≤◌, IfOk, List, length};
 ghost use Rattle.node_program.specs.declared.Decoder.{Decoder as SpecDecoder};
 ghost use Rattle.code_items.specs.Gives.{Reads, ReadsAll};
 ghost use Rattle.code_items.specs.Parts.{front_seen};
@@ -12,10 +12,73 @@ use crate::decoders::decoder;
 use crate::items::long;
 use crate::parts::Front;
 use crate::rest::Rest;
+use crate::room::element_room;
 use name_index::Names;
 use node_program::{Decoder, Entries};
 use net_model::LinkList;
 use std::alloc::{AllocError, Global};
+
+// One more than the number of an earlier demand of the sink, which is the first with its decoder, or 0. Of each earlier demand the
+// marks say whether it is the first.
+fn read_same<'a>(
+    sinks: &[u32],
+    firsts: &[bool],
+    sink: u32,
+    rest: Rest<'a>,
+) -> Result<(u32, Rest<'a>), CodeRefusal>
+    requires { length firsts.now ≤ length sinks.now }
+    ensures reads { (earlier : List SpecDecoder) → AreFirsts firsts.now earlier
+        → Reads result (λ rest. long_at rest (same_conditions sinks.now earlier sink rest.at)) rest.entry }
+    ensures earlier { IfOk result (λ x. x.0 ≤ length firsts.now) }
+{
+    let (same, after) = long(rest)?;
+    if let Some(demand) = same.checked_sub(1) {
+        let demand = demand as usize;
+        match firsts.get(demand) {
+            None => return Err(CodeRefusal::BadIndex { at: rest.at }),
+            Some(_) if sinks[demand] != sink => {
+                return Err(CodeRefusal::BadOperand { at: rest.at });
+            }
+            Some(false) => return Err(CodeRefusal::NotFirst { at: rest.at }),
+            Some(true) => {}
+        }
+    }
+    Ok((same, after))
+}
+
+// The decoder that follows, which no earlier demand has. Its bytes are added to those of the earlier ones.
+fn new_decoder<'a>(
+    alloc: Global,
+    front: &Front,
+    texts: &mut Names<'a>,
+    sink: u32,
+    start: Rest<'a>,
+) -> Result<(Decoder, Rest<'a>), CodeRefusal>
+    ensures reads { (earlier : List SpecDecoder)
+        → AreTexts front.now.field front.now.rate texts.old earlier
+        → Reads result (new_decoder_at (front_seen front.now) earlier sink) start.entry }
+    ensures texts { (earlier : List SpecDecoder)
+        → AreTexts front.now.field front.now.rate texts.old earlier
+        → IfOk result (λ x. AreTexts front.now.field front.now.rate texts.new (earlier ++ x.0 ∷ [])) }
+{
+    let (decoder, rest) = decoder(alloc, front, sink, start)?;
+    let size = start.bytes.len() - rest.bytes.len();
+    if !texts.add(&start.bytes[..size])? {
+        let last = rest.at - element_room(front.field) as u64;
+        return Err(CodeRefusal::Written { at: last });
+    }
+    Ok((decoder, rest))
+}
+
+// The same decoder once more.
+fn copy_of(alloc: Global, decoder: &Decoder) -> Result<Decoder, AllocError>
+    ensures { IfOk result (λ copy. copy ≡ decoder.now) }
+{
+    Ok(Decoder {
+        links: LinkList::of(decoder.links.as_slice().to_vec(alloc)?),
+        entries: Entries::of(decoder.entries.as_slice().to_vec(alloc)?),
+    })
+}
 
 /// A decoder for each of the sinks.
 pub(crate) fn shared_decoders<'a>(
