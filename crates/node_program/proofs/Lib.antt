@@ -5,5 +5,6 @@ pub mod VectorLaws
 pub mod DecodingLaws
 pub mod LiveLaws
 pub mod LinkLaws
+pub mod AdjacentLaws
 pub mod CarrySteps
 pub mod VectorSteps
