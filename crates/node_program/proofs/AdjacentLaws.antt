@@ -1,5 +1,5 @@
 -- How many pairs of links in order there can be of which one leads into the node that the other leaves.
-use Rattle.std.specs.Prelude.{◌≡◌, ◌≢◌, ◌<◌, ◌≤◌, ◌+◌, ◌*◌, ◌-◌, ◌==◌, ℕ, suc, Bool, true, false, cond, List, [], ◌∷◌, length, get_or}
+use Rattle.std.specs.Prelude.{◌≡◌, ◌≢◌, ◌<◌, ◌≤◌, ◌+◌, ◌*◌, ◌-◌, ◌==◌, ℕ, suc, Bool, true, false, cond, List, [], ◌∷◌, length, get_or, count_by}
 use Rattle.std.specs.List.{sum_by}
 use Rattle.std.proofs.Common.{refl, sym, ap, ◌∙◌, arith, inl, inr}
 use Rattle.std.proofs.lemmas.Bool.{cases_eq, cases_lt, eqb-true, ne_eqb}
@@ -10,11 +10,15 @@ use Rattle.net_model.specs.Walks.{head_of, tail_of}
 use Rattle.net_model.specs.declared.Link.{Link}
 use Rattle.node_program.proofs.LinkLaws.{apart_behind}
 use Rattle.node_program.proofs.OperandLaws.{order_behind}
-use Rattle.node_program.specs.Adjacent.{adjacent_count, into_count, out_count}
+use Rattle.node_program.specs.Adjacent.{adjacent_count, into_count}
 use Rattle.node_program.specs.Code.{are_in_order}
 
+-- how many links leave a node
+abbrev out_count : List Link → ℕ → ℕ
+out_count links node = count_by (λ link. node == link.tail) links
+
 -- one link more is counted at its head and at its tail
-into_count-cons : (link : Link) (links : List Link) (node : ℕ) → into_count (link ∷ links) node ≡ cond (link.head == node) 1 0 + into_count links node
+pub into_count-cons : (link : Link) (links : List Link) (node : ℕ) → into_count (link ∷ links) node ≡ cond (link.head == node) 1 0 + into_count links node
 into_count-cons link links node = sum_by-cons (λ a. cond (a.head == node) 1 0) link links
 
 out_count-cons : (link : Link) (links : List Link) (node : ℕ) → out_count (link ∷ links) node ≡ cond (node == link.tail) 1 0 + out_count links node

@@ -6,5 +6,6 @@ pub mod DecodingLaws
 pub mod LiveLaws
 pub mod LinkLaws
 pub mod AdjacentLaws
+pub mod OperandCounts
 pub mod CarrySteps
 pub mod VectorSteps

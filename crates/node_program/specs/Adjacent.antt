@@ -7,10 +7,6 @@ use Rattle.net_model.specs.declared.Link.{Link}
 abbrev pub into_count : List Link → ℕ → ℕ
 into_count links node = count_by (λ link. link.head == node) links
 
--- how many links leave a node
-abbrev pub out_count : List Link → ℕ → ℕ
-out_count links node = count_by (λ link. node == link.tail) links
-
 -- how many pairs of links there are of which the first leads into the node that the second leaves
 abbrev pub adjacent_count : List Link → ℕ
 adjacent_count links = sum_by (λ link. into_count links link.tail) links
