@@ -17,10 +17,11 @@ use Rattle.node_program.specs.Code.{are_in_order}
 abbrev out_count : List Link → ℕ → ℕ
 out_count links node = count_by (λ link. node == link.tail) links
 
--- one link more is counted at its head and at its tail
+-- one link more that leads into a node is counted there
 pub into_count-cons : (link : Link) (links : List Link) (node : ℕ) → into_count (link ∷ links) node ≡ cond (link.head == node) 1 0 + into_count links node
 into_count-cons link links node = sum_by-cons (λ a. cond (a.head == node) 1 0) link links
 
+-- and one that leaves a node is counted there
 out_count-cons : (link : Link) (links : List Link) (node : ℕ) → out_count (link ∷ links) node ≡ cond (node == link.tail) 1 0 + out_count links node
 out_count-cons link links node = sum_by-cons (λ a. cond (node == a.tail) 1 0) link links
 
@@ -41,6 +42,7 @@ more_pairs link links (b ∷ others) =
     omega (arith, sum_by-cons (λ b. into_count (link ∷ links) b.tail) b others, sum_by-cons (λ b. into_count links b.tail) b others,
       into_count-cons link links b.tail, out_count-cons b others link.head, more_pairs link links others)
 
+-- one link more before all others of an order
 adjacent_count-cons : (tails : List ℕ) (link : Link) (links : List Link) → are_in_order tails (link ∷ links) ≡ true
     → adjacent_count (link ∷ links) ≡ out_count links link.head + adjacent_count links
 adjacent_count-cons tails link links order =
@@ -67,7 +69,7 @@ apart_tails (link ∷ links) one other apart =
     here true false apart = omega arith
     here false b apart = omega (arith, counted_once b)
 
--- some number is at least how many links leave each node, and by it the pairs are few
+-- some number is at least how many links leave each node, and the pairs are at most that number times how many other links there are
 most_out : (tails : List ℕ) (links : List Link) → are_in_order tails links ≡ true
     → (most : ℕ) × ((node : ℕ) → out_count links node ≤ most) × (adjacent_count links + most * most ≤ most * length links)
 most_out tails [] order = (0, (λ node. omega arith), omega arith)

@@ -1,7 +1,7 @@
 -- How many operands a draft has at most.
 use Rattle.std.specs.Prelude.{◌≡◌, ◌<◌, ◌≤◌, ◌+◌, ◌*◌, ◌==◌, ℕ, zero, suc, Bool, true, false, ◌&&◌, cond, nat_lt, if◌then◌else◌, List, [], ◌∷◌, drop, length, map}
 use Rattle.std.specs.List.{list_all, sum_by}
-use Rattle.std.proofs.Common.{refl, sym, ap, ◌∙◌, arith}
+use Rattle.std.proofs.Common.{◌∙◌, arith}
 use Rattle.std.proofs.lemmas.Bool.{and_parts, false≢true, ltb-true}
 use Rattle.std.proofs.lemmas.List.{length-map}
 use Rattle.std.proofs.lemmas.List.Folds.{list_all-map}
@@ -28,7 +28,7 @@ fewer_behind (link ∷ links) node zero (suc y) into above =
 fewer_behind (link ∷ links) node (suc x) zero into above = absurd (omega arith)
 fewer_behind (link ∷ links) node (suc x) (suc y) into above = fewer_behind links node x y into (omega arith)
 
--- rising numbers of links into a node are at most as many as the links into it
+-- rising numbers of links into a node are at most as many as the links into it from the first number on
 few_from : (links : List Link) (node x : ℕ) (xs : List ℕ) → is_rising (x ∷ xs) ≡ true → list_all (leads_into links node) (x ∷ xs) ≡ true
     → length (x ∷ xs) ≤ into_count (drop x links) node
 few_from links node x [] rising into =
@@ -41,6 +41,7 @@ few_from links node x (y ∷ ys) rising into =
     let rest = few_from links node y ys parts.1 here.1 in
     omega arith
 
+-- and at most as many as all the links into it
 few_into : (links : List Link) (node : ℕ) (xs : List ℕ) → is_rising xs ≡ true → list_all (leads_into links node) xs ≡ true → length xs ≤ into_count links node
 few_into links node [] rising into = omega arith
 few_into links node (x ∷ xs) rising into =
