@@ -1,5 +1,5 @@
 -- Lists whose items each fit in view of the earlier ones, in the words of networks and codes.
-use Rattle.std.specs.Prelude.{◌≡◌, ℕ, ◌+◌, ◌<◌, ◌≤◌, Bool, true, false, ◌||◌, ◌==◌, nat_lt, List, [], ◌∷◌, ◌++◌, length, map}
+use Rattle.std.specs.Prelude.{◌≡◌, ℕ, ◌<◌, Bool, true, false, ◌||◌, ◌==◌, nat_lt, List, [], ◌∷◌, ◌++◌, map}
 use Rattle.std.specs.List.{list_all, list_any, AllByRecursion}
 use Rattle.std.specs.Str.{bytes_eq}
 use Rattle.std.proofs.Common.{refl, sym, subst, ap, ◌∙◌, arith}
@@ -162,23 +162,6 @@ is_rising-from_AllAfter (x ∷ xs) all = rising_behind [] x xs all.1
 pub AllAfter-from_is_rising : (xs : List ℕ) → is_rising xs ≡ true → AllAfter Rises [] xs
 AllAfter-from_is_rising [] rising = tt
 AllAfter-from_is_rising (x ∷ xs) rising = (refl, rises_behind [] x xs rising)
-
--- rising numbers below a bound are at most as many
-rising_fits : (x : ℕ) (xs : List ℕ) (bound : ℕ) → is_rising (x ∷ xs) ≡ true → list_all (λ n. nat_lt n bound) (x ∷ xs) ≡ true → x + length (x ∷ xs) ≤ bound
-rising_fits x [] bound rising below =
-    let here : x < bound = ltb-true x bound (and_parts _ _ below).0 in
-    omega arith
-rising_fits x (y ∷ ys) bound rising below =
-    let parts = and_parts _ _ rising in
-    let above : x < y = ltb-true x y (and_parts _ _ parts.0).0 in
-    let later : list_all (λ n. nat_lt n bound) (y ∷ ys) ≡ true = (and_parts (nat_lt x bound) (list_all (λ n. nat_lt n bound) (y ∷ ys)) below).1 in
-    let rest : y + length (y ∷ ys) ≤ bound = rising_fits y ys bound parts.1 later in
-    omega arith
-
--- so there are no more than the bound
-pub length-is_rising : (xs : List ℕ) (bound : ℕ) → is_rising xs ≡ true → list_all (λ n. nat_lt n bound) xs ≡ true → length xs ≤ bound
-length-is_rising [] bound rising below = omega arith
-length-is_rising (x ∷ xs) bound rising below = omega (arith, rising_fits x xs bound rising below)
 
 -- ---- the order of links
 

@@ -14,6 +14,7 @@ use Rattle.net_model.specs.Lists.{are_distinct, is_rising, is_among}
 use Rattle.std.proofs.lemmas.Cmp.{nat_eq_equiv}
 use Rattle.item_list.proofs.Tests.{list_all-implied, list_any-map}
 use Rattle.net_model.proofs.ListLaws.{length-are_distinct, is_among-same}
+use Rattle.net_model.proofs.RisingLaws.{length-is_rising}
 use Rattle.net_model.specs.Network.{are_names, is_link_among, is_sink_among, is_listed_pattern, are_patterns, IsNetwork}
 use Rattle.net_model.specs.declared.Link.{Link}
 use Rattle.net_model.specs.declared.Pattern.{Pattern}
@@ -27,7 +28,7 @@ use Rattle.code_items.specs.Spelling.{front_of}
 use Rattle.code_items.proofs.Readers.{AllAfter, EachFits}
 use Rattle.code_items.proofs.FrontReaders.{NameAfter, LinkAfter, SinkAfter, LinkNumberAfter, PatternAfter}
 use Rattle.code_items.proofs.PartReaders.{OperandAfter, AreOperandsRead, DecoderLinkAfter, IsDecoderRead, IsFrontRead}
-use Rattle.code_items.proofs.AfterLaws.{Rises, LeadsOn, AllAfter-weaker, AllAfter-both, AllAfter-map, AllAfter-from_map, AllAfter-from_list_all, list_all-from_AllAfter, are_distinct-from_AllAfter, AllAfter-from_are_distinct, are_names-from_AllAfter, AllAfter-from_are_names, is_rising-from_AllAfter, AllAfter-from_is_rising, length-is_rising, are_in_order-from_AllAfter, AllAfter-from_are_in_order}
+use Rattle.code_items.proofs.AfterLaws.{Rises, LeadsOn, AllAfter-weaker, AllAfter-both, AllAfter-map, AllAfter-from_map, AllAfter-from_list_all, list_all-from_AllAfter, are_distinct-from_AllAfter, AllAfter-from_are_distinct, are_names-from_AllAfter, AllAfter-from_are_names, is_rising-from_AllAfter, AllAfter-from_is_rising, are_in_order-from_AllAfter, AllAfter-from_are_in_order}
 
 -- ---- links
 

@@ -1,12 +1,10 @@
--- Laws of counts: of the items of a list that pass a test, of a number in a list, and of rising numbers.
-use Rattle.std.specs.Prelude.{◌≡◌, ◌≢◌, ◌<◌, ◌≤◌, ◌+◌, ◌/◌, ◌%◌, ◌==◌, ℕ, Bool, true, false, not, cond, ◌&&◌, IsTrue, All, List, [], ◌∷◌, length, count_by}
+-- Laws of counts: of the items of a list that pass a test, and of a number in a list.
+use Rattle.std.specs.Prelude.{◌≡◌, ◌≢◌, ◌<◌, ◌+◌, ◌/◌, ◌%◌, ◌==◌, ℕ, Bool, true, false, not, cond, ◌&&◌, List, [], ◌∷◌, length, count_by}
 use Rattle.std.specs.List.{list_all}
 use Rattle.std.proofs.Common.{refl, sym, ap, ◌∙◌, arith, inl, inr}
-use Rattle.std.proofs.lemmas.Bool.{and_parts, cases_eq, eq-eqb, ltb-true, ne_eqb}
-use Rattle.std.proofs.lemmas.List.Elements.{All-head, All-tail}
+use Rattle.std.proofs.lemmas.Bool.{cases_eq, eq-eqb, ne_eqb}
 use Rattle.std.proofs.lemmas.List.Sums.{sum_by-cons}
 use Rattle.generation_frame.specs.Blocks.{pieces}
-use Rattle.net_model.specs.Lists.{is_rising}
 use Rattle.due_sums.specs.Counts.{count_of, reads_of}
 use Rattle.due_sums.specs.Waiting.{due_number}
 
@@ -98,16 +96,3 @@ reads_of-own readers sum piece = count_by-same (λ one. due_number one piece == 
 pub reads_of-other : (readers : List ℕ) (sum piece other : ℕ) → piece < pieces → other < pieces → other ≢ piece → reads_of readers piece (due_number sum other) ≡ 0
 reads_of-other readers sum piece other low low' apart =
     count_by-none (λ one. due_number one piece == due_number sum other) readers (λ one. ne_eqb _ _ (λ is. apart (omega (arith, is, low, low'))))
-
--- rising numbers below a bound are at most as many
-rising_fits : (x : ℕ) (xs : List ℕ) (bound : ℕ) → is_rising (x ∷ xs) ≡ true → All (λ number. number < bound) (x ∷ xs) → x + length (x ∷ xs) ≤ bound
-rising_fits x [] bound rising below = omega (arith, All-head (λ number. number < bound) x [] below)
-rising_fits x (y ∷ ys) bound rising below =
-    let parts = and_parts _ _ rising in
-    let above : x < y = ltb-true x y (and_parts _ _ parts.0).0 in
-    let rest = rising_fits y ys bound parts.1 (All-tail (λ number. number < bound) x (y ∷ ys) below) in
-    omega arith
-
-pub length-is_rising : (xs : List ℕ) (bound : ℕ) → IsTrue (is_rising xs) → All (λ number. number < bound) xs → length xs ≤ bound
-length-is_rising [] bound rising below = omega arith
-length-is_rising (x ∷ xs) bound rising below = omega (arith, rising_fits x xs bound rising below)

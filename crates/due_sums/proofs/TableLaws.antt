@@ -1,25 +1,29 @@
 -- Laws of the counts of a generation: of one that nothing has come of, and of one that a piece of an input comes to.
-use Rattle.std.specs.Prelude.{◌≡◌, ◌≢◌, ◌<◌, ◌≤◌, ◌+◌, ◌*◌, ◌/◌, ◌%◌, ◌^◌, ◌&&◌, ◌==◌, ℕ, Bool, true, false, not, All, List, [], Vec, length, slice_index, slice_index_or}
+use Rattle.std.specs.Prelude.{◌≡◌, ◌≢◌, ◌<◌, ◌≤◌, ◌+◌, ◌*◌, ◌/◌, ◌%◌, ◌^◌, ◌&&◌, ◌==◌, ℕ, Bool, true, false, not, All, List, [], Vec, length, nat_lt, slice_index, slice_index_or}
 use Rattle.std.specs.Global.{Global}
 use Rattle.std.specs.List.{list_all}
 use Rattle.std.specs.Vec.{with_items}
 use Rattle.std.proofs.Common.{refl, sym, ap, ◌∙◌, arith, inl, inr, subst}
-use Rattle.std.proofs.lemmas.Bool.{cases_eq, cases_lt, eq-eqb, eqb-true, ne_eqb, not_from_false, not_from_true}
+use Rattle.std.proofs.lemmas.Bool.{cases_eq, cases_lt, eq-eqb, eqb-true, lt-ltb, ne_eqb, not_from_false, not_from_true}
 use Rattle.std.proofs.lemmas.List.{get_or_past, with_items_is}
-use Rattle.std.proofs.lemmas.List.Sums.{sum_by-le-sum_by}
+use Rattle.std.proofs.lemmas.List.Sums.{list_all-from_AllPass, sum_by-le-sum_by}
 use Rattle.generation_frame.specs.Blocks.{pieces}
 use Rattle.held_rows.specs.Held.{Held, Holds, HoldsNone, is_held, place, row_count}
+use Rattle.net_model.proofs.RisingLaws.{length-is_rising}
 use Rattle.least_set.specs.Members.{HasNone, Members, bit_of}
 use Rattle.due_sums.specs.Counts.{AreReaders, CountsDown, IsCounted, IsDone, IsFresh, IsTable, count_of, missing_of, reads_of}
 use Rattle.due_sums.specs.Groups.{AreGroups}
 use Rattle.due_sums.specs.Waiting.{AreSums, due_number}
 use Rattle.due_sums.specs.declared.due_sums.Table.{Table}
-use Rattle.due_sums.proofs.CountLaws.{one_if, count_by-all, count_by-falls, count_by-same, due_number-of, due_number-sum, length-is_rising, list_all-from_count, list_all-from_some, reads_of-other, reads_of-own}
+use Rattle.due_sums.proofs.CountLaws.{one_if, count_by-all, count_by-falls, count_by-same, due_number-of, due_number-sum, list_all-from_count, list_all-from_some, reads_of-other, reads_of-own}
 use Rattle.due_sums.proofs.GroupLaws.{HasGroup, group_of, group_over}
 
 -- a sum has at most as many inputs as there are
 pub few_inputs : (inputs : ℕ) (sums : List (List ℕ)) → AreSums inputs sums → inputs < 2 ^ 32 → All (λ sum. length sum < 2 ^ 32) sums
-few_inputs inputs sums work few k d within = omega (arith, few, length-is_rising (slice_index_or sums k d) inputs (work.rising k d within) (work.below k d within))
+few_inputs inputs sums work few k d within =
+    let sum = slice_index_or sums k d in
+    let below = list_all-from_AllPass (λ input. nat_lt input inputs) sum (λ j e inside. lt-ltb _ _ (work.below k d within j e inside)) in
+    omega (arith, few, length-is_rising sum inputs (work.rising k d within) below)
 
 -- where nothing has come, all inputs are missing
 missing_of-none : (held : Held) (inputs : List ℕ) (piece : ℕ) → HoldsNone held → missing_of held inputs piece ≡ length inputs

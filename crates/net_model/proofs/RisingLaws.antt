@@ -1,6 +1,6 @@
 -- Laws of rising lists of numbers: by their places, and of a sorted list with each number once.
 use Rattle.std.specs.Prelude.{◌≡◌, ◌<◌, ◌≤◌, ◌==◌, ℕ, zero, suc, true, List, [], ◌∷◌, length, nat_eq, nat_lt}
-use Rattle.std.specs.List.{Contains, dedup}
+use Rattle.std.specs.List.{Contains, dedup, list_all}
 use Rattle.std.specs.List.Sorted.{IsSorted, IsStrictlyIncreasing}
 use Rattle.std.specs.Ordering.{nat_cmp}
 use Rattle.std.proofs.Common.{arith, refl, ◌∙◌, get_or}
@@ -41,6 +41,14 @@ rising-place xs (suc i) rising within =
     let before = rising-place xs i rising (omega arith) in
     let above = rising-below xs i (suc i) rising (omega arith) within in
     omega (arith, before, above)
+
+-- so rising numbers below a bound are at most as many
+pub length-is_rising : (xs : List ℕ) (bound : ℕ) → is_rising xs ≡ true → list_all (λ n. nat_lt n bound) xs ≡ true → length xs ≤ bound
+length-is_rising [] bound rising below = omega arith
+length-is_rising (x ∷ xs) bound rising below =
+    let last = ltb-true _ bound (AllPass-from_list_all (λ n. nat_lt n bound) (x ∷ xs) below (length xs) 0 (omega arith)) in
+    let place = rising-place (x ∷ xs) (length xs) rising (omega arith) in
+    omega (arith, last, place)
 
 -- a list with smaller numbers at earlier places rises
 pub is_rising-from_places : (xs : List ℕ) → ((i j d : ℕ) → i < j → j < length xs → get_or xs i d < get_or xs j d) → is_rising xs ≡ true

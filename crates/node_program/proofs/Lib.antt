@@ -5,5 +5,7 @@ pub mod VectorLaws
 pub mod DecodingLaws
 pub mod LiveLaws
 pub mod LinkLaws
+pub mod AdjacentLaws
+pub mod OperandCounts
 pub mod CarrySteps
 pub mod VectorSteps

@@ -20,7 +20,7 @@ abbrev leads_from : List Link → ℕ → ℕ → Bool
 leads_from links node link = option_map_or (λ l. l.tail == node) (slice_get links link) false
 
 -- the links after the first are in order behind it
-order_behind : (tails : List ℕ) (link : Link) (links : List Link) → are_in_order tails (link ∷ links) ≡ true → are_in_order (link.tail ∷ tails) links ≡ true
+pub order_behind : (tails : List ℕ) (link : Link) (links : List Link) → are_in_order tails (link ∷ links) ≡ true → are_in_order (link.tail ∷ tails) links ≡ true
 order_behind tails link links order = (and_parts _ _ order).1
 
 -- no link leads into the tail of an earlier one

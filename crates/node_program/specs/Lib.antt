@@ -3,6 +3,7 @@ pub mod Value
 pub mod CodeValue
 pub mod Decoding
 pub mod Operands
+pub mod Adjacent
 pub mod Carried
 pub mod Vectors
 pub use Rattle.net_model.specs.Demands
