@@ -60,15 +60,16 @@ length-filter-some test (x ∷ xs) some =
     cond_both (test x) (x ∷ filter test xs) (filter test xs) (λ l. 0 < length l) (λ _. omega arith)
     (λ fails. length-filter-some test xs (sym (ap (λ b. b || list_any test xs) fails) ∙ some))
 
+-- what fails a test counts nothing
+pub uncounted : (passed : Bool) → passed ≡ false → cond passed 1 0 ≤ 0
+uncounted true fails = cc
+uncounted false fails = omega arith
+
 -- where no item passes, the count is zero
 pub count_by-none : {X : Type 0} (p : X → Bool) (xs : List X) → All (λ x. p x ≡ false) xs → count_by p xs ≡ 0
 count_by-none p xs none =
     let most = sum_by-le (λ x. cond (p x) 1 0) 0 xs (λ k d within. uncounted (p (get_or xs k d)) (none k d within)) in
     omega (arith, most)
-  where
-    uncounted : (b : Bool) → b ≡ false → cond b 1 0 ≤ 0
-    uncounted true fails = cc
-    uncounted false fails = omega arith
 
 -- what each item of two lists has, each of both in a row has
 pub AllByRecursion-append : {X : Type 0} (P : X → Type 0) (xs ys : List X) → AllByRecursion P xs → AllByRecursion P ys → AllByRecursion P (xs ++ ys)

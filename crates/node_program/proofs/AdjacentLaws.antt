@@ -5,7 +5,7 @@ use Rattle.std.proofs.Common.{refl, sym, ap, ◌∙◌, arith, inl, inr}
 use Rattle.std.proofs.lemmas.Bool.{cases_eq, cases_lt, eqb-true, ne_eqb}
 use Rattle.std.proofs.lemmas.List.Sums.{sum_by-cons}
 use Rattle.std.proofs.lemmas.Option.{slice_get-get_or}
-use Rattle.item_list.proofs.Tests.{count_by-none}
+use Rattle.item_list.proofs.Tests.{count_by-none, uncounted}
 use Rattle.net_model.specs.Walks.{head_of, tail_of}
 use Rattle.net_model.specs.declared.Link.{Link}
 use Rattle.node_program.proofs.LinkLaws.{apart_behind}
@@ -52,10 +52,6 @@ adjacent_count-cons tails link links order =
 counted_once : (passed : Bool) → cond passed 1 0 ≤ 1
 counted_once true = omega arith
 counted_once false = omega arith
-
--- and none where it fails
-uncounted : (passed : Bool) → passed ≡ false → cond passed 1 0 ≤ 0
-uncounted passed fails = rw fails (omega arith)
 
 -- no link leaves two nodes
 apart_tails : (links : List Link) (one other : ℕ) → one ≢ other → out_count links one + out_count links other ≤ length links
