@@ -11,7 +11,7 @@ ghost use Rattle.top_runs.specs.Send.Runs.{RunsCode, Sends, behind_open, outcome
 
 use crate::preparing::prepare;
 use code_checker::Checked;
-use gf_tables::{Field, FieldKind, Gf8, Gf16};
+use gf_tables::{Field, FieldKind, Gf8, Gf9, Gf16};
 use lif_outside::{Gate, Links, Store};
 use source_delivery::{DeliveryFault, SourceDelivery, StreamFault};
 use std::alloc::Global;
@@ -96,6 +96,9 @@ fn send_through<'a, S: Store, K: Links, G: Gate + Sync, R: Threads + Sync>(
     match code.code().field {
         FieldKind::Eight => {
             send_over::<Gf8, S, K, G, R>(rt, alloc, words, code, store, links, gate)
+        }
+        FieldKind::Nine => {
+            send_over::<Gf9, S, K, G, R>(rt, alloc, words, code, store, links, gate)
         }
         FieldKind::Sixteen => {
             send_over::<Gf16, S, K, G, R>(rt, alloc, words, code, store, links, gate)

@@ -18,7 +18,7 @@ ghost use Rattle.top_runs.specs.Send.Runs.{link_calls};
 use crate::tally::Tally;
 use code_checker::Checked;
 use generation_frame::PIECES;
-use gf_tables::{Field, FieldKind, Gf8, Gf16};
+use gf_tables::{Field, FieldKind, Gf8, Gf9, Gf16};
 use lif_outside::{Gate, Links};
 use net_maker::source_byte;
 use node_program::live_links;
@@ -178,6 +178,7 @@ pub fn demo<'a, K: Links, G: Gate + Sync, R: Threads + Sync>(
     };
     match code.code().field {
         FieldKind::Eight => show::<Gf8, K, G, R>(rt, alloc, words, &code, links, gate),
+        FieldKind::Nine => show::<Gf9, K, G, R>(rt, alloc, words, &code, links, gate),
         FieldKind::Sixteen => show::<Gf16, K, G, R>(rt, alloc, words, &code, links, gate),
     }
 }

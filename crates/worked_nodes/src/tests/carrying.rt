@@ -8,7 +8,7 @@ ghost use Rattle.relay_runner.specs.Running.{StandAt};
 
 use code_checker::Checked;
 use generation_frame::ROW;
-use gf_tables::{Field, FieldKind, Gf8, Gf16};
+use gf_tables::{Field, FieldKind, Gf8, Gf9, Gf16};
 use lif_outside::{Gate, Links, NoGate};
 use relay_runner::Runner;
 use std::alloc::Global;
@@ -218,6 +218,9 @@ pub(super) fn carries<K: Links, G: Gate + Sync, R: Threads + Sync>(
     match code.code().field {
         FieldKind::Eight => {
             carries_over::<Gf8, K, G, R>(rt, alloc, code, course, links, source, gate)
+        }
+        FieldKind::Nine => {
+            carries_over::<Gf9, K, G, R>(rt, alloc, code, course, links, source, gate)
         }
         FieldKind::Sixteen => {
             carries_over::<Gf16, K, G, R>(rt, alloc, code, course, links, source, gate)

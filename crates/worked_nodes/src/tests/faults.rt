@@ -50,7 +50,7 @@ fn sevens_are_carried(alloc: Global, code: &Checked, links: &mut ListLinks) -> O
 {
     match code.code().field {
         FieldKind::Eight => is_carried::<Gf8, ListLinks>(alloc, code, &[7; 2048], links),
-        FieldKind::Sixteen => None,
+        FieldKind::Nine | FieldKind::Sixteen => None,
     }
 }
 

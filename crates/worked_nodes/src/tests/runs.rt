@@ -6,7 +6,7 @@ use super::hands::{Span, Taker, Worker, Wrong};
 use super::told::{Frame, Told, are_told};
 use code_checker::Checked;
 use generation_frame::{Accepted, PIECES, Packet, frame_of, read_frame};
-use gf_tables::{Field, FieldKind, Gf8, Gf16};
+use gf_tables::{Field, FieldKind, Gf8, Gf9, Gf16};
 use net_model::{Demand, Link};
 use std::alloc::Global;
 use std::thread::Threads;
@@ -222,6 +222,7 @@ fn comes(
     }
     match code.code().field {
         FieldKind::Eight => comes_over::<Gf8>(alloc, code, told, span, blocks, order),
+        FieldKind::Nine => comes_over::<Gf9>(alloc, code, told, span, blocks, order),
         FieldKind::Sixteen => comes_over::<Gf16>(alloc, code, told, span, blocks, order),
     }
 }
@@ -288,7 +289,7 @@ fn open_code(
     }
     match code.code().field {
         FieldKind::Eight => hands.open(alloc, code, 0, span),
-        FieldKind::Sixteen => Err(Wrong::Call),
+        FieldKind::Nine | FieldKind::Sixteen => Err(Wrong::Call),
     }
 }
 

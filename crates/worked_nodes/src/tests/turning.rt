@@ -86,7 +86,7 @@ fn code_carries<R: Threads + Sync>(rt: &R, alloc: Global, code: &Checked) -> boo
             let windows: [&[u8]; 2] = [&[7; 4096], &[9; 2048]];
             carries_both::<Gf8, SeedLinks, R>(rt, alloc, code, windows, &mut links)
         }
-        FieldKind::Sixteen => false,
+        FieldKind::Nine | FieldKind::Sixteen => false,
     }
 }
 

@@ -4,7 +4,7 @@ ghost use Rattle.gf_tables.specs.Kind.{IsOfKind};
 
 use super::codes::WIDE_ROWS;
 use field_vectors::Matrix;
-use gf_tables::{Field, FieldKind, Gf8, Gf16};
+use gf_tables::{Field, FieldKind, Gf8, Gf9, Gf16};
 use node_program::{Code, vectors};
 use std::alloc::Global;
 use test_support::codes::code_of;
@@ -55,6 +55,7 @@ fn are_vectors(alloc: Global, code: &Code, pattern: u32, want: &[&[u32]]) -> boo
 {
     match code.field {
         FieldKind::Eight => are_vectors_over::<Gf8>(alloc, code, pattern, want),
+        FieldKind::Nine => are_vectors_over::<Gf9>(alloc, code, pattern, want),
         FieldKind::Sixteen => are_vectors_over::<Gf16>(alloc, code, pattern, want),
     }
 }

@@ -1,10 +1,14 @@
 //! Rows of elements, as bytes and in memory: a multiple of one added to another, beside the products of elements.
+ghost use Rattle.std.specs.Prelude.{◌≡◌};
+ghost use Rattle.gf_tables.specs.Product.{width_of};
+ghost use Rattle.gf_tables.specs.declared.kind.Width.TheVariants.{One};
+
 use super::counting::{Counted, run_over};
 use super::numbered::{element, row};
 use counted_steps::Steps;
 use field_rows::RowTables;
 use field_vectors::{add_scaled, dot, scale};
-use gf_tables::{Field, FieldKind, Gf8, Gf16, product};
+use gf_tables::{Field, FieldKind, Gf8, Gf9, Gf16, product};
 use std::alloc::{AllocError, Global};
 use std::sync::ledger::Ledger;
 
@@ -21,6 +25,7 @@ fn in_steps(first: u8, step: u8) -> [u8; 1100] {
 fn sum(kind: FieldKind, before: u32, by: u32, from: u32) -> Option<u32> {
     let size = match kind {
         FieldKind::Eight => Gf8::SIZE,
+        FieldKind::Nine => Gf9::SIZE,
         FieldKind::Sixteen => Gf16::SIZE,
     };
     if by < size && from < size {
@@ -32,6 +37,7 @@ fn sum(kind: FieldKind, before: u32, by: u32, from: u32) -> Option<u32> {
 
 // The first of all bytes that isn't the sum, or, behind so many bytes, isn't as before.
 fn wrong_octet(
+    kind: FieldKind,
     into: &[u8; 1100],
     before: &[u8; 1100],
     by: u32,
@@ -41,7 +47,7 @@ fn wrong_octet(
     for place in 0..1100 {
         let by = if place < octets { by } else { 0 };
         let (number, times) = (before[place] as u32, from[place] as u32);
-        if sum(FieldKind::Eight, number, by, times) != Some(into[place] as u32) {
+        if sum(kind, number, by, times) != Some(into[place] as u32) {
             return Some(place);
         }
     }
@@ -49,14 +55,16 @@ fn wrong_octet(
 }
 
 // The first case in which a sum is wrong: the multiplier, the count and the place.
-fn wrong_octets(tables: &RowTables) -> Option<(u32, usize, usize)> {
+fn wrong_octets(tables: &RowTables, kind: FieldKind) -> Option<(u32, usize, usize)>
+    requires { width_of kind ≡ One }
+{
     let from = in_steps(5, 3);
     let before = in_steps(1, 2);
     for by in [0, 1, 2, 0x1D, 0x80, 0xFF] {
         for octets in [0, 1, 63, 64, 65, 128, 200, 1024] {
             let mut into = before;
-            tables.add_scaled(FieldKind::Eight, &mut into[..octets], by, &from[..octets]);
-            if let Some(place) = wrong_octet(&into, &before, by, &from, octets) {
+            tables.add_scaled(kind, &mut into[..octets], by, &from[..octets]);
+            if let Some(place) = wrong_octet(kind, &into, &before, by, &from, octets) {
                 return Some((by, octets, place));
             }
         }
@@ -66,7 +74,9 @@ fn wrong_octets(tables: &RowTables) -> Option<(u32, usize, usize)> {
 
 #[test]
 fn multiples_of_octets_are_added(rt: HostRuntime) {
-    assert_eq!(rt; wrong_octets(&RowTables::new()), None);
+    let tables = RowTables::new();
+    let eight = wrong_octets(&tables, FieldKind::Eight);
+    assert!(rt; eight.is_none() && wrong_octets(&tables, FieldKind::Nine).is_none());
 }
 
 // The number of a pair of bytes.
