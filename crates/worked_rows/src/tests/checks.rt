@@ -1,5 +1,5 @@
 //! The check of the examples, read from their files.
-use super::codes::{WIDE_ROWS, changed, is_file_of};
+use super::codes::{WIDE_ROWS, changed, is_file_one_of};
 use code_checker::CheckRefusal::NotIdentity;
 use code_checker::{CheckRefusal, check};
 use std::alloc::Global;
@@ -23,8 +23,8 @@ const ACCEPTED: &[&[u8]] = &[
 fn is_accepted<R: Threads + Sync>(rt: &R, alloc: Global, file: &[u8]) -> bool {
     match checked_of(rt, alloc, file) {
         Ok(checked) => {
-            let is_kept = is_file_of(alloc, file, checked.code());
-            is_file_of(alloc, file, &checked.into_code()) && is_kept
+            let is_kept = is_file_one_of(alloc, file, checked.code());
+            is_file_one_of(alloc, file, &checked.into_code()) && is_kept
         }
         Err(_) => false,
     }
