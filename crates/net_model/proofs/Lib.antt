@@ -6,4 +6,5 @@ pub mod FlowLaws
 pub mod RenumberingLaws
 pub mod RenumberedParts
 pub mod RisingLaws
+pub mod MemberLaws
 pub mod FailedLaws

@@ -247,7 +247,7 @@ IsFlow-new network {order} once paths is =
     IsFlow-carried network (renumbered_network network order) (new_number order) (old_number order) (IsCarried-new network once) (old-new once) paths is
 
 -- the new number of a number in a list is in the list of new numbers
-is_among-map : (there : ℕ → ℕ) (xs : List ℕ) (x : ℕ) → is_among xs x ≡ true → is_among (map there xs) (there x) ≡ true
+pub is_among-map : (there : ℕ → ℕ) (xs : List ℕ) (x : ℕ) → is_among xs x ≡ true → is_among (map there xs) (there x) ≡ true
 is_among-map there [] x found = cc
 is_among-map there (one ∷ xs) x found = elim (or_cases _ _ found) [
   | inl here ↦ or_left _ _ (eq-eqb (there one) (there x) (ap there (eqb-true one x here)))

@@ -4,9 +4,10 @@ use Rattle.std.specs.List.{Contains, dedup, list_all}
 use Rattle.std.specs.List.Sorted.{IsSorted, IsStrictlyIncreasing}
 use Rattle.std.specs.Ordering.{nat_cmp}
 use Rattle.std.proofs.Common.{arith, refl, ◌∙◌, get_or}
-use Rattle.std.proofs.lemmas.Bool.{and_parts, and_from, eq-eqb, eqb-true, lt-ltb, ltb-true, ne_eqb}
+use Rattle.std.proofs.lemmas.Bool.{and_parts, and_from, eq-eqb, eqb-true, lt-ltb, ltb-true, ne_eqb, not_from_false}
 use Rattle.std.proofs.lemmas.Cmp.{nat_eq_equiv}
 use Rattle.std.proofs.lemmas.List.{get_or_default}
+use Rattle.std.proofs.lemmas.List.Folds.{list_any_none}
 use Rattle.std.proofs.lemmas.List.Kept.{AllPairs-from_increasing, Contains-dedup_nat, Contains-from_dedup}
 use Rattle.std.proofs.lemmas.List.Sums.{AllPass-from_list_all, list_all-from_AllPass, position_or_len_is}
 use Rattle.std.proofs.lemmas.Map.Keys.{IsStrictlyIncreasing-dedup}
@@ -14,7 +15,7 @@ use Rattle.std.proofs.lemmas.Map.Views.{Contains-from_any, list_any-from_Contain
 use Rattle.std.specs.Cmp.{both_ways as same_truth}
 use Rattle.item_list.proofs.Positions.{place_in}
 use Rattle.net_model.proofs.ListLaws.{is_among-from_list_any, list_any-from_is_among}
-use Rattle.net_model.specs.Lists.{is_among, is_rising}
+use Rattle.net_model.specs.Lists.{are_distinct, is_among, is_rising}
 
 -- a rising list has smaller numbers at earlier places
 pub rising-below : (xs : List ℕ) (i j : ℕ) → is_rising xs ≡ true → i < j → j < length xs → get_or xs i 0 < get_or xs j 0
@@ -41,6 +42,15 @@ rising-place xs (suc i) rising within =
     let before = rising-place xs i rising (omega arith) in
     let above = rising-below xs i (suc i) rising (omega arith) within in
     omega (arith, before, above)
+
+-- rising numbers are distinct
+pub are_distinct-from_rising : (xs : List ℕ) → is_rising xs ≡ true → are_distinct nat_eq xs ≡ true
+are_distinct-from_rising [] rising = refl
+are_distinct-from_rising (x ∷ xs) rising =
+    let parts = and_parts (list_all (nat_lt x) xs) (is_rising xs) rising in
+    and_from _ _
+    (not_from_false _ (list_any_none (nat_eq x) xs (λ k d within. ne_eqb x _ (λ same. absurd (omega (arith, same, ltb-true x _ (AllPass-from_list_all (nat_lt x) xs parts.0 k d within)))))))
+    (are_distinct-from_rising xs parts.1)
 
 -- so rising numbers below a bound are at most as many
 pub length-is_rising : (xs : List ℕ) (bound : ℕ) → is_rising xs ≡ true → list_all (λ n. nat_lt n bound) xs ≡ true → length xs ≤ bound
