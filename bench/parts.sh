@@ -54,7 +54,8 @@ size_bytes="1024 4096 16384 65536 262144 1048576 4194304 16777216 67108864"
 
 # Once around, with short sources and few sizes.
 be_quick() {
-    copy_rounds=1 row_rounds=1 code_rounds=1 read_rounds=1 check_rounds=1 migrate_rounds=1 frame_rounds=1 net_rounds=1 size_rounds=1 alone_rounds=1
+    copy_rounds=1 row_rounds=1 code_rounds=1 read_rounds=1 check_rounds=1 migrate_rounds=1 frame_rounds=1 net_rounds=1
+    size_rounds=1 alone_rounds=1
     frames_each=50000 source_bytes=4194304 layer_bytes=65536
     alone_links=250 size_layers="2 4 8" size_patterns="0 3 15" size_bytes="1024 16384 262144"
 }
@@ -404,25 +405,26 @@ print(len(write_code(read_code(open(sys.argv[1], "rb").read()), 1)))' "$files/co
     note "CODE of $title" "" kB 1000 "$(stat -c %s "$files/code")" "$length" "version 1"
 }
 
+# Notes what reading a code file and migrating it take.
+measure_version() {
+    read_longer "$2"
+    note "reading $1" "" ms 1000000 "$least_read"
+    note "memory for $1" "" MB 1000000 "$memory" "$(stat -c %s "$2")" "its bytes"
+    migrate_file "$2"
+    note "\`migrate\` of $1" "" ms 1000000 "$least_migrated"
+}
+
 measure_versions() {
-    local field version
+    local field links
     build codes
     for field in 8 16; do
         make_versions "$field"
-        for version in 1 2; do
-            local file=$files/one
-            if [ "$version" = 2 ]; then file=$files/two; fi
-            read_longer "$file"
-            note "reading the code file of field $field, version $version" "" ms 1000000 "$least_read"
-            note "memory for the code file of field $field, version $version" "" MB 1000000 "$memory" "$(stat -c %s "$file")" "its bytes"
-            migrate_file "$file"
-            note "\`migrate\` of the code file of field $field, version $version" "" ms 1000000 "$least_migrated"
-        done
+        measure_version "the code file of field $field, version 1" "$files/one"
+        measure_version "the code file of field $field, version 2" "$files/two"
     done
     rm "$files/one" "$files/two"
     measure_length "1,023 parallel links, each of which fails" parallel 1023 fail-each rate 32
     measure_length "the mixed network, each link of which fails" mixed 4 32 4 16 8 0 fail-each
-    local links
     for links in $alone_links; do measure_length "$links links, each of which fails" sized "$links" 16 4 16 4 fail-each; done
 }
 
