@@ -202,6 +202,18 @@ def test_json_has_the_same_facts() -> None:
     assert said["decoders"]["t2"] == {"links": ["b-t2", "d-t2"], "rows": [[1, 1], [1, 0]]}
 
 
+@pytest.mark.parametrize("field, version, entry", [(8, 1, 0x8E), (8, 2, 0x8E), (9, 2, 0x8D)])
+def test_codes_of_both_versions_and_of_field_9(tmp_path: Path, field: int, version: int, entry: int) -> None:
+    net, code = tmp_path / "one.net", tmp_path / "one.lif"
+    net.write_text("source s\nsink t\nlink l s t\n")
+    network = read_network(net.read_bytes())
+    code.write_bytes(write_code(Code(network, field, 1, ((Operand(0, 2),),), (Decoder((0,), (entry,)),)), version))
+    facts = json.loads(run_tool("lif-draw", net, "--code", code, "--json").stdout)
+    assert (facts["field"], facts["decoders"]["t"]["rows"]) == (field, [[entry]])
+    code.write_bytes(write_code(Code(network, field, 1, ((Operand(0, 2),),), (Decoder((0,), (1,)),)), version))
+    assert "demand t none row 0 column 0 found 2" in run_tool("lif-draw", net, "--code", code, "--json").stderr
+
+
 def test_json_is_said_beside_a_drawing(tmp_path: Path) -> None:
     path = tmp_path / "one.svg"
     said = json.loads(run_tool("lif-draw", NET, "--json", "--live", "-o", path).stdout)
