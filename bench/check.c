@@ -6,8 +6,8 @@
 // What is read is taken as it stands, as far as code_file.h goes.
 #include "code_file.h"
 
-// The field of 0x11D, and over it that of pairs in which y * y = y + 0x20.
-enum { POLYNOMIAL = 0x11D, CONSTANT = 0x20, MOST_ELEMENTS = 65536 };
+// The fields of octets of 0x11D and of 0x11B, and over the first one that of pairs in which y * y = y + 0x20.
+enum { POLYNOMIAL = 0x11D, OTHER_POLYNOMIAL = 0x11B, CONSTANT = 0x20, MOST_ELEMENTS = 65536 };
 
 struct field {
     unsigned order;
@@ -30,28 +30,28 @@ struct file {
     struct code code;
     struct pattern *patterns;
     struct operands *operands;
-    const uint8_t *decoders;
+    const uint8_t **decoders;
 };
 
-static unsigned octet_product(unsigned a, unsigned b) {
+static unsigned octet_product(unsigned polynomial, unsigned a, unsigned b) {
     unsigned product = 0;
     for (; b != 0; b >>= 1) {
         if (b & 1) product ^= a;
         a <<= 1;
-        if (a & 0x100) a ^= POLYNOMIAL;
+        if (a & 0x100) a ^= polynomial;
     }
     return product;
 }
 
 static unsigned pair_product(unsigned a, unsigned b) {
-    unsigned high = octet_product(a >> 8, b >> 8);
-    unsigned low = octet_product(a & 255, b & 255);
-    unsigned both = octet_product((a >> 8) ^ (a & 255), (b >> 8) ^ (b & 255));
-    return (both ^ low) << 8 | (low ^ octet_product(CONSTANT, high));
+    unsigned high = octet_product(POLYNOMIAL, a >> 8, b >> 8);
+    unsigned low = octet_product(POLYNOMIAL, a & 255, b & 255);
+    unsigned both = octet_product(POLYNOMIAL, (a >> 8) ^ (a & 255), (b >> 8) ^ (b & 255));
+    return (both ^ low) << 8 | (low ^ octet_product(POLYNOMIAL, CONSTANT, high));
 }
 
 static unsigned product(unsigned kind, unsigned a, unsigned b) {
-    return kind == 8 ? octet_product(a, b) : pair_product(a, b);
+    return kind == 16 ? pair_product(a, b) : octet_product(kind == 9 ? OTHER_POLYNOMIAL : POLYNOMIAL, a, b);
 }
 
 // Fills the tables by the powers of an element, and says whether these are all elements but zero.
@@ -69,7 +69,7 @@ static bool fill(struct field *field, unsigned kind, unsigned generator) {
 
 static struct field *new_field(unsigned kind) {
     struct field *field = room(1, sizeof *field);
-    field->order = (kind == 8 ? 256 : MOST_ELEMENTS) - 1;
+    field->order = (kind == 16 ? MOST_ELEMENTS : 256) - 1;
     unsigned generator = 2;
     while (!fill(field, kind, generator)) generator++;
     field->logs[0] = 2 * field->order;
@@ -101,13 +101,9 @@ static void take_all_operands(struct file *file, struct bytes *rest) {
         operands->at = room(operands->count, sizeof *operands->at);
         for (unsigned place = 0; place < operands->count; place++) {
             operands->at[place].from = take_below(rest, 2, bound);
-            operands->at[place].times = take(rest, code->field / 8);
+            operands->at[place].times = take(rest, width_of(code));
         }
     }
-}
-
-static size_t decoder_size(const struct code *code) {
-    return code->rate * 2 + (size_t)code->rate * code->rate * (code->field / 8);
 }
 
 static void take_whole(struct file *file, struct bytes rest) {
@@ -117,8 +113,7 @@ static void take_whole(struct file *file, struct bytes rest) {
     take_sinks(code, &rest);
     take_listed(file, &rest);
     take_all_operands(file, &rest);
-    file->decoders = rest.at;
-    skip(&rest, decoder_size(code) * code->sink_count * code->pattern_count);
+    file->decoders = take_all_decoders(code, &rest);
     if (rest.length != 0) fail("the code file is too long");
 }
 
@@ -161,7 +156,7 @@ static void make_vectors(const struct file *file, const struct field *field, uin
 static bool gives_back(const struct file *file, const struct field *field, const uint32_t *vectors, const uint8_t *links,
                        const uint8_t *entries, unsigned row) {
     unsigned rate = file->code.rate;
-    unsigned width = file->code.field / 8;
+    unsigned width = width_of(&file->code);
     uint16_t sum[MOST_RATE] = {0};
     for (unsigned place = 0; place < rate; place++) {
         struct bytes link = {(uint8_t *)links + 2 * place, 2};
@@ -179,7 +174,7 @@ static bool gives_back(const struct file *file, const struct field *field, const
 }
 
 static bool decodes(const struct file *file, const struct field *field, const uint32_t *vectors, size_t demand) {
-    const uint8_t *links = file->decoders + demand * decoder_size(&file->code);
+    const uint8_t *links = file->decoders[demand];
     const uint8_t *entries = links + 2 * file->code.rate;
     for (unsigned row = 0; row < file->code.rate; row++) {
         if (!gives_back(file, field, vectors, links, entries, row)) return false;

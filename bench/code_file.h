@@ -1,5 +1,5 @@
-// Reads a code file of docs/FORMATS.md under one of its patterns. The code is taken as it stands: nothing is checked but
-// that the bytes are all there, and that no number is above the limits of the format.
+// Reads a code file of docs/FORMATS.md, of either version, under one of its patterns. The code is taken as it stands: nothing
+// is checked but that the bytes are all there, and that no number is above the limits of the format.
 //
 // A link is live where it doesn't fail, and an operand of it is a row of the source or a live link. Of a live link's
 // operands those are kept which are rows or live links, and of a link that isn't live none.
@@ -43,6 +43,7 @@ struct sink {
 };
 
 struct code {
+    unsigned version;
     unsigned field;
     unsigned rate;
     unsigned source;
@@ -107,11 +108,22 @@ static char *take_name(struct bytes *rest) {
     return memcpy(room(length, 1), at, length);
 }
 
+static bool is_field(const struct code *code) {
+    return code->field == 8 || code->field == 16 || (code->field == 9 && code->version == 2);
+}
+
+// The bytes of an element.
+static unsigned width_of(const struct code *code) {
+    return code->field == 16 ? 2 : 1;
+}
+
 static void take_front(struct code *code, struct bytes *rest) {
-    if (take(rest, 4) != 0x4C494643 || take(rest, 1) != 1) fail("that is no code file");
+    if (take(rest, 4) != 0x4C494643) fail("that is no code file");
+    code->version = take(rest, 1);
+    if (code->version != 1 && code->version != 2) fail("the code file has another version");
     code->field = take(rest, 1);
     code->rate = take_below(rest, 1, MOST_RATE + 1);
-    if ((code->field != 8 && code->field != 16) || code->rate == 0) fail("there is no such field or rate");
+    if (!is_field(code) || code->rate == 0) fail("there is no such field or rate");
     code->node_count = take_below(rest, 2, MOST_NODES + 1);
     code->names = room(code->node_count, sizeof *code->names);
     for (unsigned node = 0; node < code->node_count; node++) code->names[node] = take_name(rest);
@@ -170,27 +182,44 @@ static void take_operands(struct code *code, struct bytes *rest, struct link *li
     link->operands = room(count, sizeof *link->operands);
     for (; count > 0; count--) {
         unsigned from = take_below(rest, 2, bound);
-        unsigned times = take(rest, code->field / 8);
+        unsigned times = take(rest, width_of(code));
         if (link->has_failed || !is_live_operand(code, link, from)) continue;
         link->operands[link->count++] = (struct operand){from, times};
     }
     link->is_live = link->count > 0;
 }
 
-static void take_decoder(const struct code *code, struct bytes *rest, struct sink *sink) {
-    unsigned entries = code->rate * code->rate;
-    sink->links = room(code->rate, sizeof *sink->links);
-    sink->entries = room(entries, sizeof *sink->entries);
-    for (unsigned place = 0; place < code->rate; place++) sink->links[place] = take_below(rest, 2, code->link_count);
-    for (unsigned place = 0; place < entries; place++) sink->entries[place] = take(rest, code->field / 8);
+// Where the decoder of each demand begins, sinks outside and patterns inside. In version 2 one that an earlier demand has is
+// that demand's.
+static const uint8_t **take_all_decoders(const struct code *code, struct bytes *rest) {
+    size_t size = code->rate * 2 + (size_t)code->rate * code->rate * width_of(code);
+    size_t count = (size_t)code->sink_count * code->pattern_count;
+    const uint8_t **decoders = room(count, sizeof *decoders);
+    for (size_t demand = 0; demand < count; demand++) {
+        unsigned same = code->version == 1 ? 0 : take_below(rest, 4, (unsigned)demand + 1);
+        decoders[demand] = same == 0 ? rest->at : decoders[same - 1];
+        if (same == 0) skip(rest, size);
+    }
+    return decoders;
 }
 
-// Takes the decoder of the pattern, and passes over those of the others.
-static void take_decoders(const struct code *code, struct bytes *rest, struct sink *sink) {
-    size_t size = code->rate * 2 + (size_t)code->rate * code->rate * (code->field / 8);
-    skip(rest, code->pattern * size);
-    take_decoder(code, rest, sink);
-    skip(rest, (code->pattern_count - code->pattern - 1) * size);
+// Reads a decoder, of which the bytes are known to be there.
+static void read_decoder(const struct code *code, const uint8_t *at, struct sink *sink) {
+    unsigned entries = code->rate * code->rate;
+    struct bytes rest = {(uint8_t *)at, 2 * code->rate + (size_t)entries * width_of(code)};
+    sink->links = room(code->rate, sizeof *sink->links);
+    sink->entries = room(entries, sizeof *sink->entries);
+    for (unsigned place = 0; place < code->rate; place++) sink->links[place] = take_below(&rest, 2, code->link_count);
+    for (unsigned place = 0; place < entries; place++) sink->entries[place] = take(&rest, width_of(code));
+}
+
+// Takes the decoders, and reads that of the pattern for each sink.
+static void take_decoders(const struct code *code, struct bytes *rest) {
+    const uint8_t **decoders = take_all_decoders(code, rest);
+    for (unsigned sink = 0; sink < code->sink_count; sink++) {
+        read_decoder(code, decoders[sink * code->pattern_count + code->pattern], &code->sinks[sink]);
+    }
+    free(decoders);
 }
 
 static void take_code(struct code *code, struct bytes rest, const char *pattern) {
@@ -199,7 +228,7 @@ static void take_code(struct code *code, struct bytes rest, const char *pattern)
     take_sinks(code, &rest);
     take_patterns(code, &rest, pattern);
     for (unsigned link = 0; link < code->link_count; link++) take_operands(code, &rest, &code->links[link]);
-    for (unsigned sink = 0; sink < code->sink_count; sink++) take_decoders(code, &rest, &code->sinks[sink]);
+    take_decoders(code, &rest);
     if (rest.length != 0) fail("the code file is too long");
 }
 

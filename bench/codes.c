@@ -1,4 +1,5 @@
-// Writes a code file to standard output, made from the format that docs/FORMATS.md gives and without the program.
+// Writes a code file to standard output, made from the format that docs/FORMATS.md gives and without the program. It is of
+// version 1, and of version 2 where the first word is `-2`; field 9 is in version 2 alone.
 //
 // `butterfly` is the code of rate 2 over the field of 256 elements through the butterfly, with two sinks.
 //
@@ -17,13 +18,18 @@
 // from the source carries the sum of all rows, and another one that of all links into its tail, with coefficients by
 // chance, none of them zero. Where some sink has no decoder then, nothing is written, and it fails.
 //
-// A decoder has the first links into its sink that carry anything, and is the inverse of what they carry.
+// `unlike` takes the field, a number of links, and a length or 0. It is a code of rate 32 with 16 sinks and 4,095 listed
+// patterns, whose 65,536 decoders all differ; they don't decode. So many links lead from the source to a node, and as many from
+// that to the sinks, each of which adds up all links into the node. Of the length of the file in version 2 follows how many
+// links fail in the patterns, whichever version is written; where it is 0 one does in each.
+//
+// In the other codes a decoder has the first links into its sink that carry anything, and is the inverse of what they carry.
 #include <stdint.h>
 #include <stdio.h>
 #include <stdlib.h>
 #include <string.h>
 
-enum { MOST_RATE = 32, MOST_LINKS = 8192, MOST_NODES = 4096, MOST_PATTERNS = 4095 };
+enum { MOST_RATE = 32, MOST_LINKS = 8192, MOST_NODES = 4096, MOST_PATTERNS = 4095, UNLIKE_SINKS = 16 };
 
 struct operand {
     unsigned from;
@@ -39,6 +45,7 @@ struct link {
 
 // Node 0 is the source, and the last nodes are the sinks. Each pattern fails one of the first `failing` links.
 struct code {
+    unsigned version;
     unsigned field;
     unsigned rate;
     unsigned nodes;
@@ -56,25 +63,35 @@ struct demand {
     uint8_t bytes[2 * MOST_RATE + 2 * MOST_RATE * MOST_RATE];
 };
 
-static unsigned octet_product(unsigned left, unsigned right) {
+// The product in the field of octets of a polynomial.
+static unsigned octet_product(unsigned polynomial, unsigned left, unsigned right) {
     unsigned sum = 0;
     for (unsigned bit = 0; bit < 8; bit++) {
         if (right >> bit & 1) sum ^= left;
         left <<= 1;
-        if (left & 0x100) left ^= 0x11D;
+        if (left & 0x100) left ^= polynomial;
     }
     return sum;
 }
 
 static unsigned pair_product(unsigned left, unsigned right) {
-    unsigned high = octet_product(left >> 8, right >> 8);
-    unsigned low = octet_product(left & 255, right & 255);
-    unsigned both = octet_product(left >> 8 ^ (left & 255), right >> 8 ^ (right & 255));
-    return (both ^ low) << 8 | (low ^ octet_product(0x20, high));
+    unsigned high = octet_product(0x11D, left >> 8, right >> 8);
+    unsigned low = octet_product(0x11D, left & 255, right & 255);
+    unsigned both = octet_product(0x11D, left >> 8 ^ (left & 255), right >> 8 ^ (right & 255));
+    return (both ^ low) << 8 | (low ^ octet_product(0x11D, 0x20, high));
 }
 
 static unsigned product(unsigned field, unsigned left, unsigned right) {
-    return field == 8 ? octet_product(left, right) : pair_product(left, right);
+    return field == 16 ? pair_product(left, right) : octet_product(field == 9 ? 0x11B : 0x11D, left, right);
+}
+
+static unsigned elements(unsigned field) {
+    return field == 16 ? 65536 : 256;
+}
+
+// An element whose powers are many.
+static unsigned base(unsigned field) {
+    return field == 16 ? 258 : field == 9 ? 3 : 2;
 }
 
 static unsigned power(unsigned field, unsigned element, unsigned exponent) {
@@ -87,7 +104,7 @@ static unsigned power(unsigned field, unsigned element, unsigned exponent) {
 }
 
 static unsigned inverse(unsigned field, unsigned element) {
-    return power(field, element, (1u << field) - 2);
+    return power(field, element, elements(field) - 2);
 }
 
 static struct link *add_link(struct code *code, unsigned tail, unsigned head) {
@@ -126,7 +143,7 @@ static void fill_butterfly(struct code *code) {
 // The own elements of middle nodes are powers of one element. In the field of 65,536 no coefficient is below 256.
 static void fill_source_link(struct code *code, unsigned middle) {
     struct link *link = add_link(code, 0, 1 + middle);
-    unsigned own = power(code->field, code->field == 8 ? 2 : 258, 1 + middle);
+    unsigned own = power(code->field, base(code->field), 1 + middle);
     for (unsigned row = 0; row < code->rate; row++) add_operand(link, row, power(code->field, own, 1 + row));
 }
 
@@ -313,21 +330,30 @@ static int make_demand(const struct code *code, unsigned sink, struct demand *de
     return 1;
 }
 
+// How many bytes were put, and whether they were only counted.
+static size_t put_length;
+static int is_counted;
+
+static void put_byte(unsigned byte) {
+    put_length++;
+    if (!is_counted) putc_unlocked((int)(byte & 255), stdout);
+}
+
 static void put_number(unsigned number) {
-    putchar((int)(number >> 8 & 255));
-    putchar((int)(number & 255));
+    put_byte(number >> 8);
+    put_byte(number);
 }
 
 static void put_element(unsigned field, unsigned element) {
-    if (field == 16) putchar((int)(element >> 8));
-    putchar((int)(element & 255));
+    if (field == 16) put_byte(element >> 8);
+    put_byte(element);
 }
 
 static void put_name(char letter, unsigned number) {
     char name[32];
     int length = snprintf(name, sizeof name, "%c%u", letter, number);
-    putchar(length);
-    fputs(name, stdout);
+    put_byte((unsigned)length);
+    for (int place = 0; place < length; place++) put_byte((unsigned char)name[place]);
 }
 
 static void put_nodes(const struct code *code) {
@@ -371,28 +397,50 @@ static void put_operands(const struct code *code) {
     }
 }
 
+// All before the patterns.
 static void put_front(const struct code *code) {
-    fputs("LIFC", stdout);
-    putchar(1);
-    putchar((int)code->field);
-    putchar((int)code->rate);
+    for (const char *letter = "LIFC"; *letter; letter++) put_byte((unsigned char)*letter);
+    put_byte(code->version);
+    put_byte(code->field);
+    put_byte(code->rate);
     put_nodes(code);
     put_links(code);
     put_number(0);
     put_sinks(code);
-    put_patterns(code);
-    put_operands(code);
 }
 
-static void put_demand(const struct demand *demand) {
-    fwrite(demand->bytes, 1, demand->length, stdout);
+// What stands in version 2 before a decoder, or in its place: 0, or one more than the number of the demand that has it.
+static void put_same(const struct code *code, unsigned same) {
+    if (code->version == 1) return;
+    put_number(same >> 16);
+    put_number(same);
 }
 
-// The demands of a sink, of those of all sinks: first without a failure, and then for each link that fails.
+static void put_demand(const struct code *code, const struct demand *demand, unsigned same) {
+    put_same(code, same);
+    if (code->version == 2 && same != 0) return;
+    for (size_t place = 0; place < demand->length; place++) put_byte(demand->bytes[place]);
+}
+
+static int is_same(const struct demand *one, const struct demand *other) {
+    return one->length == other->length && memcmp(one->bytes, other->bytes, one->length) == 0;
+}
+
+// Of the decoders of a sink, first that without a failure and then one for each link that fails, the first that is the same.
+static unsigned first_same(const struct code *code, unsigned sink, const struct demand *demands, unsigned number) {
+    unsigned first = 0;
+    while (!is_same(&demands[first * code->sinks + sink], &demands[number * code->sinks + sink])) first++;
+    return first;
+}
+
+// The demands of a sink, of those of all sinks. Pattern p has decoder 1 + p of the sink, counted in a ring.
 static void put_demands(const struct code *code, unsigned sink, const struct demand *demands) {
-    put_demand(&demands[sink]);
+    unsigned none = sink * (code->patterns + 1);
+    put_demand(code, &demands[sink], 0);
     for (unsigned pattern = 0; pattern < code->patterns; pattern++) {
-        put_demand(&demands[(1 + pattern % code->failing) * code->sinks + sink]);
+        unsigned number = 1 + pattern % code->failing;
+        unsigned first = first_same(code, sink, demands, number);
+        put_demand(code, &demands[number * code->sinks + sink], first == 1 + pattern ? 0 : 1 + none + first);
     }
 }
 
@@ -413,14 +461,74 @@ static int write_code(struct code *code) {
         if (!make_demands(code, failed, demands + (failed + 1) * code->sinks)) return 1;
     }
     put_front(code);
+    put_patterns(code);
+    put_operands(code);
     for (unsigned sink = 0; sink < code->sinks; sink++) put_demands(code, sink, demands);
     free(demands);
     return fflush(stdout) != 0 || ferror(stdout);
 }
 
+// The patterns of `unlike`, in which so many links fail beside the first one, all patterns together. Where there is a byte more
+// the first pattern has a longer name.
+static void put_unlike_patterns(const struct code *code, size_t more, unsigned byte) {
+    put_number(code->patterns);
+    for (unsigned pattern = 0; pattern < code->patterns; pattern++) {
+        unsigned failed = more < code->count ? 1 + (unsigned)more : code->count;
+        more -= failed - 1;
+        put_name(byte && pattern == 0 ? 'q' : 'p', byte && pattern == 0 ? 10 : pattern);
+        put_number(failed);
+        for (unsigned link = 0; link < failed; link++) put_number(link);
+    }
+}
+
+static void put_unlike_operands(const struct code *code) {
+    unsigned ins = code->count / 2;
+    for (unsigned number = 0; number < code->count; number++) {
+        unsigned count = number < ins ? code->rate : ins;
+        put_number(count);
+        for (unsigned from = 0; from < count; from++) {
+            put_number(from);
+            put_element(code->field, 1 + (number + from) % 255);
+        }
+    }
+}
+
+// The decoder of each demand has the first links into its sink, and its pattern's number in the first entries.
+static void put_unlike_decoder(const struct code *code, unsigned sink, unsigned pattern) {
+    unsigned ins = code->count / 2;
+    put_same(code, 0);
+    for (unsigned place = 0; place < code->rate; place++) put_number(ins + sink * (ins / UNLIKE_SINKS) + place);
+    for (unsigned place = 0; place < code->rate * code->rate; place++) {
+        unsigned own = place == 0 ? pattern >> 8 : pattern;
+        put_element(code->field, place < 2 ? own : next_number());
+    }
+}
+
+static int write_unlike(struct code *code, size_t length) {
+    size_t rest = 0;
+    is_counted = 1;
+    put_front(code);
+    put_unlike_patterns(code, 0, 0);
+    put_unlike_operands(code);
+    put_length += (size_t)UNLIKE_SINKS * (code->patterns + 1) *
+                  (4 + 2 * code->rate + (size_t)code->rate * code->rate * (code->field == 16 ? 2 : 1));
+    if (length != 0) {
+        rest = length - put_length;
+        if (length < put_length || rest / 2 > (size_t)code->patterns * (code->count - 1)) return 1;
+    }
+    is_counted = 0;
+    put_front(code);
+    put_unlike_patterns(code, rest / 2, rest % 2);
+    put_unlike_operands(code);
+    for (unsigned sink = 0; sink < UNLIKE_SINKS; sink++) {
+        for (unsigned pattern = 0; pattern <= code->patterns; pattern++) put_unlike_decoder(code, sink, pattern);
+    }
+    return fflush(stdout) != 0 || ferror(stdout);
+}
+
 static int say_usage(void) {
-    fprintf(stderr, "usage: codes butterfly | node LINKS | fan FIELD RATE MIDDLES SINKS INTO PATTERNS | "
-                    "layers LAYERS WIDTH DEGREE\n");
+    fprintf(stderr, "usage: codes [-2] butterfly | node LINKS | fan FIELD RATE MIDDLES SINKS INTO PATTERNS | "
+                    "layers LAYERS WIDTH DEGREE | unlike FIELD LINKS LENGTH\n");
     return 2;
 }
 
@@ -428,9 +536,13 @@ static unsigned number(const char *word) {
     return (unsigned)strtoul(word, NULL, 10);
 }
 
+static int is_field(const struct code *code) {
+    return code->field == 8 || code->field == 16 || (code->field == 9 && code->version == 2);
+}
+
 // Whether a fan is within the limits of the format. How many patterns all sinks together may have isn't looked at.
 static int is_fan(const struct code *code, unsigned middles, unsigned into) {
-    return (code->field == 8 || code->field == 16) && code->rate >= 1 && code->rate <= MOST_RATE && into >= 1 &&
+    return is_field(code) && code->rate >= 1 && code->rate <= MOST_RATE && into >= 1 &&
            into <= middles && middles < MOST_NODES && code->sinks >= 1 && code->sinks < MOST_NODES - middles &&
            middles + code->sinks * into <= MOST_LINKS && code->patterns <= MOST_PATTERNS;
 }
@@ -469,12 +581,34 @@ static int run_layers(struct code *code, char **words) {
     return write_code(code);
 }
 
+// From the source to the node, and from that to the sinks, to each as many.
+static void fill_unlike(struct code *code, unsigned ins) {
+    code->rate = MOST_RATE;
+    code->nodes = 2 + UNLIKE_SINKS;
+    code->sinks = UNLIKE_SINKS;
+    code->patterns = MOST_PATTERNS;
+    for (unsigned number = 0; number < ins; number++) add_link(code, 0, 1);
+    for (unsigned number = 0; number < ins; number++) add_link(code, 1, 2 + number / (ins / UNLIKE_SINKS));
+}
+
+static int run_unlike(struct code *code, char **words) {
+    unsigned ins = number(words[1]);
+    code->field = number(words[0]);
+    if (!is_field(code) || ins > MOST_LINKS / 2 || ins % UNLIKE_SINKS != 0 || ins / UNLIKE_SINKS < MOST_RATE) return say_usage();
+    fill_unlike(code, ins);
+    return write_unlike(code, strtoul(words[2], NULL, 10));
+}
+
 int main(int count, char **words) {
     static struct code code;
-    if (count == 3 && strcmp(words[1], "node") == 0) return run_node(&code, words[2]);
-    if (count == 5 && strcmp(words[1], "layers") == 0) return run_layers(&code, words + 2);
-    if (count == 8 && strcmp(words[1], "fan") == 0) return run_fan(&code, words + 2);
-    if (count != 2 || strcmp(words[1], "butterfly") != 0) return say_usage();
+    code.version = count > 1 && strcmp(words[1], "-2") == 0 ? 2 : 1;
+    words += code.version;
+    count -= (int)code.version;
+    if (count == 2 && strcmp(words[0], "node") == 0) return run_node(&code, words[1]);
+    if (count == 4 && strcmp(words[0], "layers") == 0) return run_layers(&code, words + 1);
+    if (count == 4 && strcmp(words[0], "unlike") == 0) return run_unlike(&code, words + 1);
+    if (count == 7 && strcmp(words[0], "fan") == 0) return run_fan(&code, words + 1);
+    if (count != 1 || strcmp(words[0], "butterfly") != 0) return say_usage();
     fill_butterfly(&code);
     return write_code(&code);
 }

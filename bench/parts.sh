@@ -7,11 +7,12 @@ copy_rounds=10
 row_rounds=40
 plain_step=8
 
-# How often a source is sent through each code by the program and by C, and how often a large code file is read and
-# checked.
+# How often a source is sent through each code by the program and by C, and how often a large code file is read, checked, and
+# migrated.
 code_rounds=7
 read_rounds=7
 check_rounds=2
+migrate_rounds=5
 
 # How often one node and one sink are fed with frames by the program and by C, and how many frames there are about each time.
 frame_rounds=20
@@ -53,7 +54,8 @@ size_bytes="1024 4096 16384 65536 262144 1048576 4194304 16777216 67108864"
 
 # Once around, with short sources and few sizes.
 be_quick() {
-    copy_rounds=1 row_rounds=1 code_rounds=1 read_rounds=1 check_rounds=1 frame_rounds=1 net_rounds=1 size_rounds=1 alone_rounds=1
+    copy_rounds=1 row_rounds=1 code_rounds=1 read_rounds=1 check_rounds=1 migrate_rounds=1 frame_rounds=1 net_rounds=1
+    size_rounds=1 alone_rounds=1
     frames_each=50000 source_bytes=4194304 layer_bytes=65536
     alone_links=250 size_layers="2 4 8" size_patterns="0 3 15" size_bytes="1024 16384 262144"
 }
@@ -116,7 +118,7 @@ build_rows() {
 
 # Builds the program over rows for a level of processors.
 build_rows_for() {
-    (cd "$folder/rattle/crates/rows" && rt run --cpu "$1" -- "$multiplier" "$few_rows") </dev/null >"$folder/log" 2>&1 ||
+    (cd "$folder/rattle/crates/rows" && rt run --cpu "$1" -- 8 "$multiplier" "$few_rows") </dev/null >"$folder/log" 2>&1 ||
         fail "$(cat "$folder/log")"
     mv "$folder/rattle/crates/rows/out/rows" "$2"
 }
@@ -130,6 +132,16 @@ build_frames() {
     (cd "$folder/rattle/crates/frames" && rt run --cpu "$own_level" -- 0 1 1) <"$files/code" >"$folder/log" 2>&1 ||
         fail "$(cat "$folder/log")"
     mv "$folder/rattle/crates/frames/out/frames" "$folder/rattle-frames"
+}
+
+# Proves and builds the program that reads and writes code files, for the processor's level.
+build_files() {
+    make_crate files gf_tables net_model node_program code_items code_file
+    build codes
+    "$folder/codes" butterfly >"$files/code"
+    (cd "$folder/rattle/crates/files" && rt run --cpu "$own_level" -- 1) <"$files/code" >"$folder/log" 2>&1 ||
+        fail "$(cat "$folder/log")"
+    mv "$folder/rattle/crates/files/out/files" "$folder/rattle-files"
 }
 
 # Builds programs in C and C++, each once.
@@ -226,6 +238,7 @@ measure_codes() {
     cp "$folder/source" "$files/source"
     measure_code "the butterfly" 2 butterfly
     measure_code "the fan of field 8" 16 fan 8 8 16 16 8 0
+    measure_code "the fan of field 9" 16 -2 fan 9 8 16 16 8 0
     measure_code "the fan of field 16" 16 fan 16 8 16 16 8 0
     head -c "$layer_bytes" "$folder/source" >"$files/source"
     measure_code "the layers of which all links carry" 64 layers 8 64 16
@@ -325,6 +338,94 @@ measure_large() {
     build codes c-check
     measure_large_code 8
     measure_large_code 16
+}
+
+# Makes the files of a code whose 65,536 decoders all differ, of rate 32: `one` of version 1, and `two` of version 2.
+make_versions() {
+    "$folder/codes" unlike "$1" 512 0 >"$files/one"
+    "$folder/codes" -2 unlike "$1" 512 0 >"$files/two"
+}
+
+# Reads code files and writes their codes, by the crates.
+measure_files() {
+    local field
+    build codes
+    for field in 8 16; do
+        make_versions "$field"
+        measure_file "$field" 1 "$files/one"
+        measure_file "$field" 2 "$files/two"
+        note "\`write_code\` of the code file of field $field" "" ms 1000000 "$written_two" "$written_one" "version 1"
+    done
+    rm "$files/one" "$files/two"
+}
+
+# Reads a code file, and sets the least times of writing its code in both versions.
+measure_file() {
+    local read lengths
+    read -r read written_one written_two lengths < <("$folder/rattle-files" "$read_rounds" <"$3")
+    [ "$lengths" = "$(stat -c %s "$files/one") $(stat -c %s "$files/two")" ] || fail "files of $lengths bytes are written of $3"
+    note "\`read_code\` of the code file of field $1, version $2" "" ms 1000000 "$read"
+}
+
+# Reads a code file with a byte too many, which is refused once all was read. Sets the least time, and the memory in bytes.
+read_longer() {
+    local size round
+    cp "$1" "$files/code"
+    size=$(stat -c %s "$files/code")
+    printf x >>"$files/code"
+    least_read=''
+    for ((round = 0; round < read_rounds; round++)); do
+        check_code 7 "code refused: TrailingBytes $size"
+        least_read=$(least "$least_read" "$elapsed")
+    done
+    rm "$files/code"
+}
+
+# Migrates a code file, which must give that of version 2, and sets the least time.
+migrate_file() {
+    local round
+    least_migrated=''
+    for ((round = 0; round < migrate_rounds; round++)); do
+        time_command "$program" migrate "$1" "$files/new"
+        least_migrated=$(least "$least_migrated" "$elapsed")
+        cmp "$files/new" "$files/two"
+        rm "$files/new"
+    done
+}
+
+# Notes how long the file is that the program makes of a network, beside that of the same code in version 1. The words from the
+# second one on are those of bench/networks.py.
+measure_length() {
+    local title=$1 length
+    shift
+    compile_network "$@"
+    length=$(PYTHONPATH=$top/tools python3 -c 'import sys
+from lif_tools.formats import read_code, write_code
+print(len(write_code(read_code(open(sys.argv[1], "rb").read()), 1)))' "$files/code")
+    note "CODE of $title" "" kB 1000 "$(stat -c %s "$files/code")" "$length" "version 1"
+}
+
+# Notes what reading a code file and migrating it take.
+measure_version() {
+    read_longer "$2"
+    note "reading $1" "" ms 1000000 "$least_read"
+    note "memory for $1" "" MB 1000000 "$memory" "$(stat -c %s "$2")" "its bytes"
+    migrate_file "$2"
+    note "\`migrate\` of $1" "" ms 1000000 "$least_migrated"
+}
+
+measure_versions() {
+    local field links
+    build codes
+    for field in 8 16; do
+        make_versions "$field"
+        measure_version "the code file of field $field, version 1" "$files/one"
+        measure_version "the code file of field $field, version 2" "$files/two"
+    done
+    rm "$files/one" "$files/two"
+    measure_length "1,023 parallel links, each of which fails" parallel 1023 fail-each rate 32
+    measure_length "the mixed network, each link of which fails" mixed 4 32 4 16 8 0 fail-each
+    for links in $alone_links; do measure_length "$links links, each of which fails" sized "$links" 16 4 16 4 fail-each; done
 }
 
 # Runs a command over the network text, and keeps under a name the least of its times and what it said last.
@@ -456,33 +557,39 @@ run_rows() {
     row_sum[$name]=${line#* }
 }
 
-# Notes a row for a level beside ISA-L and beside plain C, whose sums must be the same.
+# Notes a row for a field and a level beside ISA-L and beside plain C, whose sums must be the same.
 note_rows() {
-    local rows=$1 name=$2 level=$3 line
+    local rows=$1 field=$2 name=$3 level=$4 line
     line="\`add_scaled\` over $(commas "$rows") rows"
+    if [ "$field" != 8 ]; then line="$line of field $field"; fi
     [ "${row_sum[$name]}" = "${row_sum[isal]}" ] || fail "add_scaled and ISA-L give different rows"
     [ "${row_sum[$name]}" = "${row_sum[plain]}" ] || fail "add_scaled and plain C give different rows"
     note "$line, for $level" "" "ns a row" "$rows_added" "${row_time[$name]}" "${row_time[isal]}" "ISA-L"
     note "$line, for $level, beside plain C" "" "ns a row" "$rows_added" "${row_time[$name]}" "${row_time[plain]}" "plain C"
 }
 
+# The words behind the number of rows are the field's mark and the element's number.
 add_rows() {
-    local rows=$1 round
+    local rows=$1 field=$2 round
+    local words=("$field" "$multiplier" "$rows")
     row_time=()
     for ((round = 0; round < row_rounds; round++)); do
-        run_rows rattle "$folder/rattle-rows" "$multiplier" "$rows"
-        if [ -x "$folder/rattle-rows-v3" ]; then run_rows rattle3 "$folder/rattle-rows-v3" "$multiplier" "$rows"; fi
-        run_rows isal "$folder/c-rows" isal "$multiplier" "$rows"
-        if ((round % plain_step == 0)); then run_rows plain "$folder/c-rows" plain "$multiplier" "$rows"; fi
+        run_rows rattle "$folder/rattle-rows" "${words[@]}"
+        if [ -x "$folder/rattle-rows-v3" ]; then run_rows rattle3 "$folder/rattle-rows-v3" "${words[@]}"; fi
+        run_rows isal "$folder/c-rows" isal "${words[@]}"
+        if ((round % plain_step == 0)); then run_rows plain "$folder/c-rows" plain "${words[@]}"; fi
     done
-    note_rows "$rows" rattle x86-64-v2
-    if [ -x "$folder/rattle-rows-v3" ]; then note_rows "$rows" rattle3 x86-64-v3; fi
+    note_rows "$rows" "$field" rattle x86-64-v2
+    if [ -x "$folder/rattle-rows-v3" ]; then note_rows "$rows" "$field" rattle3 x86-64-v3; fi
 }
 
 measure_rows() {
+    local field
     build c-rows
-    add_rows "$many_rows"
-    add_rows "$few_rows"
+    for field in 8 9; do
+        add_rows "$many_rows" "$field"
+        add_rows "$few_rows" "$field"
+    done
 }
 
 # Runs a command that feeds the node or the sink of the code file, and keeps under a name the least of its times, and what

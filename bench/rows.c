@@ -1,6 +1,6 @@
-// Adds rows, each times one element of the field of 0x11D, to as many other rows, over and over. The first word says
-// by which loop, isal or plain, the second is the element's number, and the third how many rows there are. Prints the
-// nanoseconds that it took and a checksum of the sums.
+// Adds rows, each times one element of a field of octets, to as many other rows, over and over. The first word says by which
+// loop, isal or plain, the second is the field's mark, 8 for that of 0x11D and 9 for that of 0x11B, the third is the element's
+// number, and the fourth how many rows there are. Prints the nanoseconds that it took and a checksum of the sums.
 #include <isa-l/erasure_code.h>
 #include <stdint.h>
 #include <stdio.h>
@@ -26,22 +26,23 @@ struct rows {
     uint8_t *from;
 };
 
-static uint8_t product(uint8_t left, uint8_t right) {
+static uint8_t product(unsigned polynomial, uint8_t left, uint8_t right) {
     unsigned sum = 0;
     unsigned multiple = left;
     for (unsigned bit = 0; bit < 8; bit++) {
         if (right >> bit & 1) sum ^= multiple;
         multiple <<= 1;
-        if (multiple & 0x100) multiple ^= 0x11D;
+        if (multiple & 0x100) multiple ^= polynomial;
     }
     return (uint8_t)sum;
 }
 
-static struct tables make_tables(uint8_t multiplier) {
+static struct tables make_tables(unsigned field, uint8_t multiplier) {
     struct tables tables;
+    unsigned polynomial = field == 9 ? 0x11B : 0x11D;
     for (unsigned nibble = 0; nibble < 16; nibble++) {
-        tables.low[nibble] = product(multiplier, (uint8_t)nibble);
-        tables.high[nibble] = product(multiplier, (uint8_t)(nibble << 4));
+        tables.low[nibble] = product(polynomial, multiplier, (uint8_t)nibble);
+        tables.high[nibble] = product(polynomial, multiplier, (uint8_t)(nibble << 4));
     }
     return tables;
 }
@@ -107,14 +108,15 @@ static int run(add_scaled add, struct tables *tables, size_t count) {
     return status;
 }
 
-static int run_isal(uint8_t multiplier, size_t count) {
-    struct tables tables;
-    gf_vect_mul_init(multiplier, (unsigned char *)&tables);
+// The library makes the tables of 0x11D alone.
+static int run_isal(unsigned field, uint8_t multiplier, size_t count) {
+    struct tables tables = make_tables(field, multiplier);
+    if (field == 8) gf_vect_mul_init(multiplier, (unsigned char *)&tables);
     return run(add_isal, &tables, count);
 }
 
-static int run_plain(uint8_t multiplier, size_t count) {
-    struct tables tables = make_tables(multiplier);
+static int run_plain(unsigned field, uint8_t multiplier, size_t count) {
+    struct tables tables = make_tables(field, multiplier);
     return run(add_plain, &tables, count);
 }
 
@@ -126,16 +128,17 @@ static unsigned long number(const char *word, unsigned long greatest) {
 }
 
 static int say_usage(void) {
-    fprintf(stderr, "usage: rows isal|plain NUMBER ROWS\n");
+    fprintf(stderr, "usage: rows isal|plain 8|9 NUMBER ROWS\n");
     return 2;
 }
 
 int main(int count, char **words) {
-    if (count != 4) return say_usage();
-    unsigned long multiplier = number(words[2], 255);
-    unsigned long rows = number(words[3], MOST_ROWS);
-    if (multiplier > 255 || rows == 0 || rows > MOST_ROWS) return say_usage();
-    if (strcmp(words[1], "isal") == 0) return run_isal((uint8_t)multiplier, rows);
-    if (strcmp(words[1], "plain") == 0) return run_plain((uint8_t)multiplier, rows);
+    if (count != 5) return say_usage();
+    unsigned field = (unsigned)number(words[2], 9);
+    unsigned long multiplier = number(words[3], 255);
+    unsigned long rows = number(words[4], MOST_ROWS);
+    if ((field != 8 && field != 9) || multiplier > 255 || rows == 0 || rows > MOST_ROWS) return say_usage();
+    if (strcmp(words[1], "isal") == 0) return run_isal(field, (uint8_t)multiplier, rows);
+    if (strcmp(words[1], "plain") == 0) return run_plain(field, (uint8_t)multiplier, rows);
     return say_usage();
 }

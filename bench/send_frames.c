@@ -88,7 +88,7 @@ static uint32_t next_word(struct pcg *pcg) {
 
 // How many planes a row is, and how long a plane and a piece of one are.
 static unsigned planes(const struct code *code) {
-    return code->field / 8;
+    return width_of(code);
 }
 
 static unsigned plane_length(const struct code *code) {
@@ -124,7 +124,7 @@ static void point_to(const struct code *code, uint8_t **into, uint8_t *rows, uns
 static void put_octets(const struct code *code, uint8_t *matrix, unsigned width, unsigned element) {
     uint8_t low = (uint8_t)element;
     uint8_t high = (uint8_t)(element >> 8);
-    if (code->field == 8) {
+    if (planes(code) == 1) {
         matrix[0] = low;
         return;
     }
@@ -132,6 +132,32 @@ static void put_octets(const struct code *code, uint8_t *matrix, unsigned width,
     matrix[1] = high;
     matrix[width] = gf_mul(0x20, high);
     matrix[width + 1] = low;
+}
+
+static uint8_t other_product(uint8_t left, uint8_t right) {
+    unsigned sum = 0;
+    unsigned multiple = left;
+    for (unsigned bit = 0; bit < 8; bit++) {
+        if (right >> bit & 1) sum ^= multiple;
+        multiple <<= 1;
+        if (multiple & 0x100) multiple ^= 0x11B;
+    }
+    return (uint8_t)sum;
+}
+
+// The tables of a matrix. The library makes those of 0x11D alone; in the field of 0x11B they have the same layout, the
+// products of each entry with the bytes below 16, and with their multiples of 16.
+static void fill_tables(const struct code *code, unsigned width, unsigned height, uint8_t *matrix, uint8_t *tables) {
+    if (code->field != 9) {
+        ec_init_tables((int)width, (int)height, matrix, tables);
+        return;
+    }
+    for (size_t place = 0; place < (size_t)width * height; place++) {
+        for (unsigned nibble = 0; nibble < 16; nibble++) {
+            tables[32 * place + nibble] = other_product(matrix[place], (uint8_t)nibble);
+            tables[32 * place + 16 + nibble] = other_product(matrix[place], (uint8_t)(nibble << 4));
+        }
+    }
 }
 
 // So many sums of so many rows. The entries stand sum by sum. The planes aren't pointed to yet.
@@ -145,7 +171,7 @@ static struct sum new_sum(const struct code *code, unsigned rows, unsigned sums,
     }
     struct sum sum = {(int)width, rows == 1 && sums == 1 && entries[0] == 1, room((size_t)width * height, 32),
                       room(width, sizeof *sum.planes)};
-    ec_init_tables((int)width, (int)height, matrix, sum.tables);
+    fill_tables(code, width, height, matrix, sum.tables);
     free(matrix);
     return sum;
 }
@@ -230,11 +256,11 @@ static void open_files(struct run *run, const char *prefix) {
 // Makes a block of a piece of the source: how long it is, the piece, and zeros.
 static void cut(struct run *run, const uint8_t *piece, unsigned length) {
     const struct code *code = &run->code;
-    uint8_t *block = code->field == 8 ? run->block : run->joined;
+    uint8_t *block = planes(code) == 1 ? run->block : run->joined;
     put_number(block, length);
     memcpy(block + COUNT, piece, length);
     memset(block + COUNT + length, 0, code->rate * ROW - COUNT - length);
-    if (code->field == 8) return;
+    if (planes(code) == 1) return;
     for (size_t at = 0; at < (size_t)code->rate * ROW; at += ROW) {
         part(run->block + at, run->block + at + ROW / 2, block + at, ROW / 2);
     }

@@ -37,12 +37,12 @@ _lif() {
     local word=${COMP_WORDS[COMP_CWORD]}
     COMPREPLY=()
     if ((COMP_CWORD == 1)); then
-        _lif_words "$word" "order cuts compile check send demo"
+        _lif_words "$word" "order cuts compile check send demo migrate"
         return
     fi
     case ${COMP_WORDS[1]},$COMP_CWORD in
     order,2 | cuts,2 | compile,2) _lif_files "$word" .net ;;
-    compile,3 | check,2 | send,2) _lif_files "$word" .lif ;;
+    compile,3 | check,2 | send,2 | migrate,2 | migrate,3) _lif_files "$word" .lif ;;
     compile,4) _lif_files "$word" .txt ;;
     send,3) _lif_patterns "$word" "${COMP_WORDS[2]}" ;;
     send,5 | send,6) _lif_files "$word" "" ;;

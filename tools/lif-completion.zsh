@@ -11,12 +11,12 @@ _lif_patterns() {
 
 _lif_program() {
     if ((CURRENT == 2)); then
-        compadd order cuts compile check send demo
+        compadd order cuts compile check send demo migrate
         return
     fi
     case $words[2],$CURRENT in
     order,3 | cuts,3 | compile,3) _files -g '*.net' ;;
-    compile,4 | check,3 | send,3) _files -g '*.lif' ;;
+    compile,4 | check,3 | send,3 | migrate,3 | migrate,4) _files -g '*.lif' ;;
     compile,5) _files -g '*.txt' ;;
     send,4) _lif_patterns $words[3] ;;
     send,6 | send,7) _files ;;

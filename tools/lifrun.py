@@ -28,8 +28,9 @@ FORMS = {
     "check": ("CODE",),
     "send": ("CODE", "PATTERN", "SEED", "SRC", "PREFIX"),
     "demo": ("N", "K", "BYTES"),
+    "migrate": ("OLD", "NEW"),
 }
-INPUTS = ("NET", "CODE", "SRC")
+INPUTS = ("NET", "CODE", "SRC", "OLD")
 NUMBERS = ("SEED", "N", "K", "BYTES")
 
 # The statuses, as docs/FORMATS.md has them.
@@ -152,6 +153,8 @@ class Call:
         given = self.given
         if self.command == "compile" and given:
             return [given["CODE"], given["REPORT"]]
+        if self.command == "migrate" and given:
+            return [given["NEW"]]
         if self.command != "send" or not given:
             return []
         try:
@@ -175,7 +178,7 @@ class Call:
 def cause(call: Call, status: int) -> str | None:
     """What stands behind a status, in words."""
     given = call.given
-    net, code = given.get("NET", ""), given.get("CODE", "")
+    net, code = given.get("NET", ""), given.get("CODE", given.get("OLD", ""))
     if status == USAGE:
         return usage_cause(call)
     if status == NET_REFUSED:
@@ -290,10 +293,12 @@ def output_cause(call: Call) -> str:
 def length_cause(given: dict[str, str]) -> str | None:
     from lif_tools.formats import MOST_CODE_BYTES, MOST_SOURCE_BYTES, MOST_TEXT_BYTES
 
-    for name, most in zip(INPUTS, (MOST_TEXT_BYTES, MOST_CODE_BYTES, MOST_SOURCE_BYTES)):
+    for name, most in zip(INPUTS, (MOST_TEXT_BYTES, MOST_CODE_BYTES, MOST_SOURCE_BYTES, MOST_CODE_BYTES)):
         size = size_of(given.get(name, ""))
         if size is not None and size > most:
             return f"{given[name]}: {size:,} bytes, and at most {most:,} are read"
+    if size_of(given.get("OLD", "")) is not None:
+        return f"{given['OLD']}: in version 2 its code has more than {MOST_CODE_BYTES:,} bytes, and a code file at most so many"
     return None
 
 

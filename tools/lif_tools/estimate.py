@@ -7,7 +7,8 @@
              and none on the others
   memory     about what `lif send` takes, beside some 2 MB for the program itself, counted from the sizes of what it
              holds: for the source, the code, nodes, sinks and frames that fly, and what the check of the code leaves; or
-             for the code and its file, where that is more
+             for the code and its file, where that is more; a decoder is held for each demand, though a file of version 2
+             has it once
 
 The file is read and refused as by `lif check`, but whether its demands decode isn't looked at.
 """

@@ -1,4 +1,4 @@
-"""Networks and codes of lif: network texts, code files, the fields, and what the links of a code carry.
+"""Networks and codes of lif: network texts, code files of both versions, the fields, and what the links of a code carry.
 
 The formats are those of docs/FORMATS.md, with the same refusals. Nothing but the standard library is needed.
 """
@@ -24,10 +24,13 @@ MOST_RATE = 32
 MOST_SHOWN = 100
 MOST_TEXT_BYTES = 4_194_304
 MOST_CODE_BYTES = 268_435_456
-MOST_SOURCE_BYTES = 67_108_864
+MOST_SOURCE_BYTES = 1_099_511_627_776
 
-# How many demands the field of so many bits serves.
+# How many demands the field of so many bits serves, of those that a network text may ask for.
 DEMANDS_SERVED = {8: 256, 16: 65_536}
+# The fields that a code file of each version may have, by their marks, and the bytes of an element of each.
+FIELDS = {1: (8, 16), 2: (8, 9, 16)}
+ELEMENT_BYTES = {8: 1, 9: 1, 16: 2}
 
 ROW_BYTES = 1024
 COUNT_BYTES = 4
@@ -101,7 +104,8 @@ class Decoder:
 
 @dataclass(frozen=True)
 class Code:
-    """A code, as its file says it. Decoders are numbered as demands are: sinks outside, patterns inside."""
+    """A code, as its file says it, with the mark of its field. Decoders are numbered as demands are: sinks outside, patterns
+    inside."""
 
     network: Network
     field: int
@@ -412,18 +416,18 @@ class _Items:
 
 
 def read_code(content: bytes) -> Code:
-    """The code of a file, or the refusal of the first item that isn't good."""
+    """The code of a file of either version, or the refusal of the first item that isn't good."""
     items = _Items(content)
-    field, rate = _read_front(items)
+    version, field, rate = _read_front(items)
     nodes = _read_nodes(items)
     links = _read_links(items, len(nodes))
     source = _read_source(items, len(nodes))
     sinks = _read_sinks(items, len(nodes), source)
     patterns = _read_patterns(items, len(links), len(sinks))
-    network = Network(nodes, links, source, sinks, patterns, field)
-    code = Code(
-        network, field, rate, _read_operands(items, network, field, rate), _read_decoders(items, network, field, rate)
-    )
+    # No text asks for field 9.
+    network = Network(nodes, links, source, sinks, patterns, field if field in DEMANDS_SERVED else None)
+    operands = _read_operands(items, network, field, rate)
+    code = Code(network, field, rate, operands, _DECODER_READERS[version](items, network, field, rate))
     items.begin = items.at
     items.require(items.at == len(content), "TrailingBytes")
     return code
@@ -438,14 +442,16 @@ def read_sinks(content: bytes) -> list[str]:
     return [nodes[sink] for sink in _read_sinks(items, len(nodes), _read_source(items, len(nodes)))]
 
 
-def _read_front(items: _Items) -> tuple[int, int]:
+def _read_front(items: _Items) -> tuple[int, int, int]:
+    """The version, the field and the rate."""
     items.require(items.take(4) == b"LIFC", "BadMagic")
-    items.require(items.number(1) == 1, "BadVersion")
+    version = items.number(1)
+    items.require(version in FIELDS, "BadVersion")
     field = items.number(1)
-    items.require(field in DEMANDS_SERVED, "BadField")
+    items.require(field in FIELDS[version], "BadField")
     rate = items.number(1)
     items.require(1 <= rate <= MOST_RATE, "BadRate")
-    return field, rate
+    return version, field, rate
 
 
 def _read_nodes(items: _Items) -> tuple[str, ...]:
@@ -526,16 +532,45 @@ def _operands_of_link(items: _Items, network: Network, field: int, rate: int, li
             items.require(origin < rate, "BadOperand")
         else:
             items.require(origin < len(network.links) and network.links[origin].head == link.tail, "BadOperand")
-        times = items.number(field // 8)
+        times = items.number(ELEMENT_BYTES[field])
         items.require(times != 0, "ZeroCoefficient")
         operands.append(Operand(origin, times))
     return tuple(operands)
 
 
-def _read_decoders(items: _Items, network: Network, field: int, rate: int) -> tuple[Decoder, ...]:
+def _read_each_decoder(items: _Items, network: Network, field: int, rate: int) -> tuple[Decoder, ...]:
+    """The decoders of version 1: each demand's stands there."""
     return tuple(
         _decoder_of_sink(items, network, field, rate, sink) for sink in network.sinks for _ in network.patterns
     )
+
+
+def _read_unlike_decoders(items: _Items, network: Network, field: int, rate: int) -> tuple[Decoder, ...]:
+    """The decoders of version 2: each stands there once, with the first demand that has it."""
+    decoders: list[Decoder] = []
+    # Whether the decoder of each demand so far stands there, and the bytes of those that do.
+    written: list[bool] = []
+    spellings = set()
+    content = memoryview(items.content)
+    sinks = [sink for sink in network.sinks for _ in network.patterns]
+    for number, sink in enumerate(sinks):
+        same = items.number(4)
+        items.require(same <= number, "BadIndex")
+        written.append(same == 0)
+        if same > 0:
+            items.require(sinks[same - 1] == sink, "BadOperand")
+            items.require(written[same - 1], "NotFirst")
+            decoders.append(decoders[same - 1])
+            continue
+        begin = items.at
+        decoders.append(_decoder_of_sink(items, network, field, rate, sink))
+        spelling = content[begin : items.at]
+        items.require(spelling not in spellings, "Written", items.at - ELEMENT_BYTES[field])
+        spellings.add(spelling)
+    return tuple(decoders)
+
+
+_DECODER_READERS = {1: _read_each_decoder, 2: _read_unlike_decoders}
 
 
 def _decoder_of_sink(items: _Items, network: Network, field: int, rate: int, sink: int) -> Decoder:
@@ -545,7 +580,7 @@ def _decoder_of_sink(items: _Items, network: Network, field: int, rate: int, sin
         items.require(not links or link > links[-1], "NotRising")
         items.require(link < len(network.links) and network.links[link].head == sink, "BadOperand")
         links.append(link)
-    return Decoder(tuple(links), _read_entries(items, field // 8, rate * rate))
+    return Decoder(tuple(links), _read_entries(items, ELEMENT_BYTES[field], rate * rate))
 
 
 def _read_entries(items: _Items, size: int, count: int) -> Sequence[int]:
@@ -557,32 +592,83 @@ def _read_entries(items: _Items, size: int, count: int) -> Sequence[int]:
     content = items.take(count * size)
     if size == 1:
         return content
-    entries = array("H", content)
+    return _big_endian(array("H", content))
+
+
+def _big_endian(numbers: array[int]) -> array[int]:
+    """Numbers of two bytes as a file has them, from those of the machine, or back."""
     if sys.byteorder == "little":
-        entries.byteswap()
-    return entries
+        numbers.byteswap()
+    return numbers
+
+
+def write_code(code: Code, version: int = 2) -> bytes:
+    """The file of a code in a version. In version 1 there is none of field 9."""
+    if code.field not in FIELDS[version]:
+        raise ValueError(f"field {code.field} isn't one of version {version}")
+    network = code.network
+    parts = [b"LIFC", bytes([version, code.field, code.rate]), _two(len(network.nodes)), *map(_name, network.nodes)]
+    parts += [_two(len(network.links))]
+    parts += [_name(link.name) + _two(link.tail, link.head) for link in network.links]
+    parts += [_two(network.source, len(network.sinks), *network.sinks), _two(len(network.patterns) - 1)]
+    parts += [_name(pattern.name) + _two(len(pattern.links), *pattern.links) for pattern in network.patterns[1:]]
+    for operands in code.operands:
+        parts += [_two(len(operands))]
+        parts += [_two(operand.origin) + _elements(code.field, [operand.times]) for operand in operands]
+    spellings = (_two(*decoder.links) + _elements(code.field, decoder.entries) for decoder in code.decoders)
+    return b"".join(parts + (list(spellings) if version == 1 else _unlike(spellings)))
+
+
+def _unlike(spellings: Iterable[bytes]) -> list[bytes]:
+    """What each demand has in version 2: its decoder, or else the number of the first demand that has it, and one."""
+    first: dict[bytes, int] = {}
+    parts = []
+    for number, spelling in enumerate(spellings):
+        same = first.setdefault(spelling, number)
+        parts += [bytes(4), spelling] if same == number else [(same + 1).to_bytes(4, "big")]
+    return parts
+
+
+def _name(text: str) -> bytes:
+    return bytes([len(text)]) + text.encode()
+
+
+def _two(*numbers: int) -> bytes:
+    return b"".join(number.to_bytes(2, "big") for number in numbers)
+
+
+def _elements(field: int, numbers: Sequence[int]) -> bytes:
+    return bytes(numbers) if ELEMENT_BYTES[field] == 1 else _big_endian(array("H", numbers)).tobytes()
 
 
 # Fields
 
 
+# The polynomial of each field of octets and a generator of its elements but 0, by the field's mark. The first polynomial is
+# x^8 + x^4 + x^3 + x^2 + 1, and the second one, x^8 + x^4 + x^3 + x + 1, is that of FIPS 197.
+OCTETS = {8: (0x11D, 2), 9: (0x11B, 3)}
+
+
 @functools.cache
-def _octet_tables() -> tuple[list[int], list[int]]:
-    """The powers of 2 in the field of 256 elements, twice round, and the logarithm of each element but 0."""
+def _octet_tables(field: int) -> tuple[list[int], list[int]]:
+    """The powers of the generator of a field of 256 elements, twice round, and the logarithm of each element but 0."""
+    polynomial, generator = OCTETS[field]
     powers, logarithms = [1], [0] * 256
     for power in range(1, 510):
         double = powers[-1] << 1
-        powers.append(double ^ 0x11D if double > 255 else double)
+        if double > 255:
+            double ^= polynomial
+        powers.append(double ^ powers[-1] if generator == 3 else double)
     for power in range(255):
         logarithms[powers[power]] = power
     return powers, logarithms
 
 
-def octet_product(one: int, other: int) -> int:
-    """The product in the field of 256 elements: that of polynomials, reduced by x^8 + x^4 + x^3 + x^2 + 1."""
+def octet_product(one: int, other: int, field: int = 8) -> int:
+    """The product in a field of 256 elements: that of polynomials, reduced by the field's own."""
     if one == 0 or other == 0:
         return 0
-    powers, logarithms = _octet_tables()
+    powers, logarithms = _octet_tables(field)
     return powers[logarithms[one] + logarithms[other]]
 
 
@@ -596,8 +682,10 @@ def pair_product(one: int, other: int) -> int:
 
 
 def product_of(field: int) -> Callable[[int, int], int]:
-    """The product of the field of so many bits."""
-    return octet_product if field == 8 else pair_product
+    """The product of a field, by its mark."""
+    if field in OCTETS:
+        return functools.partial(octet_product, field=field)
+    return pair_product
 
 
 # What links carry

@@ -1,4 +1,4 @@
-"""What the tests share: the tools as commands, the program, and code files that are written here."""
+"""What the tests share: the tools as commands, the program, and networks."""
 from __future__ import annotations
 
 import functools
@@ -12,16 +12,19 @@ from pathlib import Path
 from typing import Any, Callable, Sequence
 from unittest import mock
 
+import pytest
+
 Program = Callable[..., "subprocess.CompletedProcess[str]"]
 
 TOOLS = Path(__file__).resolve().parent.parent
 TOP = TOOLS.parent
 EXAMPLES = TOP / "examples"
+FLY = (EXAMPLES / "butterfly/butterfly.lif").read_bytes()
 
 sys.path.insert(0, str(TOOLS))
 
 from lif_tools.command import status_of  # noqa: E402
-from lif_tools.formats import Code, Link, Network, Pattern  # noqa: E402
+from lif_tools.formats import Link, Network, Pattern, Refused  # noqa: E402
 
 
 # The module of each tool.
@@ -127,24 +130,7 @@ def layers_text(count: int, width: int) -> str:
     return "\n".join(lines) + "\n"
 
 
-def bytes_of(code: Code) -> bytes:
-    """The file of a code, as docs/FORMATS.md spells it."""
-    network, size = code.network, code.field // 8
-
-    def name(text: str) -> bytes:
-        return bytes([len(text)]) + text.encode()
-
-    def two(*numbers: int) -> bytes:
-        return b"".join(number.to_bytes(2, "big") for number in numbers)
-
-    parts = [b"LIFC", bytes([1, code.field, code.rate]), two(len(network.nodes)), *map(name, network.nodes)]
-    parts += [two(len(network.links))] + [name(link.name) + two(link.tail, link.head) for link in network.links]
-    parts += [two(network.source, len(network.sinks), *network.sinks), two(len(network.patterns) - 1)]
-    parts += [name(pattern.name) + two(len(pattern.links), *pattern.links) for pattern in network.patterns[1:]]
-    for operands in code.operands:
-        parts += [two(len(operands))] + [
-            two(operand.origin) + operand.times.to_bytes(size, "big") for operand in operands
-        ]
-    for decoder in code.decoders:
-        parts += [two(*decoder.links)] + [entry.to_bytes(size, "big") for entry in decoder.entries]
-    return b"".join(parts)
+def refusal(read: Callable[[bytes], object], content: bytes) -> str:
+    with pytest.raises(Refused) as refused:
+        read(content)
+    return str(refused.value)

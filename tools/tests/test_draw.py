@@ -11,8 +11,8 @@ from xml.etree import ElementTree
 
 import pytest
 
-from support import EXAMPLES, Program, bytes_of, layers_text, run_command, run_tool, without_packages
-from lif_tools.formats import Code, Decoder, Operand, read_code, read_network
+from support import EXAMPLES, Program, layers_text, run_command, run_tool, without_packages
+from lif_tools.formats import Code, Decoder, Operand, read_code, read_network, write_code
 
 NET, CODE = EXAMPLES / "butterfly/butterfly.net", EXAMPLES / "butterfly/butterfly.lif"
 REGIONAL = EXAMPLES / "regional/regional.net"
@@ -24,7 +24,7 @@ FAILING = b"source s\nsink t\nlink u s a\nlink w s c\nlink v a c\nlink z c t\npa
 
 def failing_code() -> bytes:
     operands = ((Operand(0, 1),), (Operand(0, 1),), (Operand(0, 1),), (Operand(1, 1), Operand(2, 2)))
-    return bytes_of(Code(read_network(FAILING), 8, 1, operands, (Decoder((3,), (0xF4,)), Decoder((3,), (1,)))))
+    return write_code(Code(read_network(FAILING), 8, 1, operands, (Decoder((3,), (0xF4,)), Decoder((3,), (1,)))))
 
 
 def drawn(*words: object) -> str:
@@ -145,7 +145,7 @@ def test_live_draws_what_carries_alone(tmp_path: Path) -> None:
     # are the ones that carry.
     net.write_text("source s\nsink t\nlink u s a\nlink v a t\nlink w s b\nlink x b t\n")
     operands = ((), (), (Operand(0, 1),), (Operand(2, 1),))
-    code.write_bytes(bytes_of(Code(read_network(net.read_bytes()), 8, 1, operands, (Decoder((3,), (1,)),))))
+    code.write_bytes(write_code(Code(read_network(net.read_bytes()), 8, 1, operands, (Decoder((3,), (1,)),))))
     assert set(strokes(drawn(net, "--live"))) == {"u", "v", "w", "x"}
     svg = drawn(net, "--code", code, "--live")
     assert set(strokes(svg)) == {"w", "x"}
@@ -200,6 +200,18 @@ def test_json_has_the_same_facts() -> None:
     carried = {link["name"]: (link["tail"], link["head"], link["carries"], link["live"]) for link in said["links"]}
     assert len(carried) == 9 and carried["c-d"] == ("c", "d", [1, 1], True)
     assert said["decoders"]["t2"] == {"links": ["b-t2", "d-t2"], "rows": [[1, 1], [1, 0]]}
+
+
+@pytest.mark.parametrize("field, version, entry", [(8, 1, 0x8E), (8, 2, 0x8E), (9, 2, 0x8D)])
+def test_codes_of_both_versions_and_of_field_9(tmp_path: Path, field: int, version: int, entry: int) -> None:
+    net, code = tmp_path / "one.net", tmp_path / "one.lif"
+    net.write_text("source s\nsink t\nlink l s t\n")
+    network = read_network(net.read_bytes())
+    code.write_bytes(write_code(Code(network, field, 1, ((Operand(0, 2),),), (Decoder((0,), (entry,)),)), version))
+    facts = json.loads(run_tool("lif-draw", net, "--code", code, "--json").stdout)
+    assert (facts["field"], facts["decoders"]["t"]["rows"]) == (field, [[entry]])
+    code.write_bytes(write_code(Code(network, field, 1, ((Operand(0, 2),),), (Decoder((0,), (1,)),)), version))
+    assert "demand t none row 0 column 0 found 2" in run_tool("lif-draw", net, "--code", code, "--json").stderr
 
 
 def test_json_is_said_beside_a_drawing(tmp_path: Path) -> None:
@@ -287,7 +299,7 @@ def test_long_sums_are_told_by_their_size(tmp_path: Path) -> None:
     operands = tuple((Operand(link, 1),) for link in range(7)) + (tuple(Operand(row, 2) for row in range(7)),)
     entries = [int(row == column) for row in range(7) for column in range(7)]
     code.write_bytes(
-        bytes_of(Code(read_network(net.read_bytes()), 8, 7, operands, (Decoder(tuple(range(7)), entries),)))
+        write_code(Code(read_network(net.read_bytes()), 8, 7, operands, (Decoder(tuple(range(7)), entries),)))
     )
     found = texts(drawn(net, "--code", code))
     assert "l7: a sum of 7" in found and "x0 .. x6 of 7 links" in found

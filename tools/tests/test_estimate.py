@@ -1,10 +1,12 @@
 """lif-estimate: the numbers of codes that are counted by hand, and of what the program sends."""
 from __future__ import annotations
 
+import dataclasses
+import json
 from pathlib import Path
 
-from support import EXAMPLES, Program, bytes_of, run_tool, without_packages
-from lif_tools.formats import Code, Decoder, Link, Network, Operand, Pattern, octet_product, read_network
+from support import EXAMPLES, Program, run_tool, without_packages
+from lif_tools.formats import Code, Decoder, Link, Network, Operand, Pattern, octet_product, read_code, read_network, write_code
 
 CODE = EXAMPLES / "butterfly/butterfly.lif"
 
@@ -49,9 +51,34 @@ def test_the_butterfly() -> None:
     assert lines[6:] == [f"link {name} 36772960" for name in "s-a s-b a-t1 b-t2 a-c b-c c-d d-t1 d-t2".split()]
 
 
+def test_the_longest_source() -> None:
+    one = EXAMPLES / "one-link/one.lif"
+    assert said(one, "--bytes", 67_108_865)[4].startswith("source 67108865 bytes: generations 65794, ")
+    assert said(one, "--bytes", 1_099_511_627_776)[4] == (
+        "source 1099511627776 bytes: generations 1077952577, frames 8623620616, bytes on all links 1207306886240"
+    )
+
+
+def test_a_code_costs_the_same_in_both_versions(tmp_path: Path) -> None:
+    """Each demand has its decoder in memory, though that stands in a file of version 2 once."""
+    code = read_code(CODE.read_bytes())
+    patterns = (*code.network.patterns, *(Pattern(f"p{number}", (8,)) for number in range(100)))
+    network = dataclasses.replace(code.network, patterns=patterns)
+    decoders = tuple(decoder for decoder in code.decoders for _ in patterns)
+    many = Code(network, 8, 2, code.operands, decoders)
+    found = []
+    for version in (1, 2):
+        path = tmp_path / f"{version}.lif"
+        path.write_bytes(write_code(many, version))
+        facts = json.loads(run_tool("lif-estimate", path, "--bytes", 1000, "--json").stdout)
+        found.append({**facts["memory"], "file": 0, "total": 0})
+    assert found[0] == found[1]
+    assert (tmp_path / "2.lif").stat().st_size < (tmp_path / "1.lif").stat().st_size
+
+
 def test_the_fan_of_the_measurements(tmp_path: Path) -> None:
     path = tmp_path / "fan.lif"
-    path.write_bytes(bytes_of(fan(8, 16, 16)))
+    path.write_bytes(write_code(fan(8, 16, 16)))
     assert said(path)[2:] == [
         "products a byte 160: links 32, sinks 128",
         "frames a generation 1152, for at most 8188 bytes of the source",
@@ -64,7 +91,7 @@ def test_a_pattern_leaves_links_and_operands_out(tmp_path: Path) -> None:
     operands = ((Operand(0, 1),), (Operand(0, 1),), (Operand(0, 1),), (Operand(1, 1), Operand(2, 2)))
     assert octet_product(3, 0xF4) == 1
     path.write_bytes(
-        bytes_of(Code(read_network(FAILING), 8, 1, operands, (Decoder((3,), (0xF4,)), Decoder((3,), (1,)))))
+        write_code(Code(read_network(FAILING), 8, 1, operands, (Decoder((3,), (0xF4,)), Decoder((3,), (1,)))))
     )
     assert said(path)[1:3] == ["pattern none live 4 of 4 links", "products a byte 6: links 5, sinks 1"]
     lines = said(path, "--pattern", "f", "--bytes", 0)
@@ -75,13 +102,13 @@ def test_a_pattern_leaves_links_and_operands_out(tmp_path: Path) -> None:
 
 def test_rates_that_do_not_divide_have_two_decimals(tmp_path: Path) -> None:
     path = tmp_path / "fan.lif"
-    path.write_bytes(bytes_of(fan(3, 4, 1)))
+    path.write_bytes(write_code(fan(3, 4, 1)))
     assert said(path)[2] == "products a byte 8: links 5, sinks 3"
-    path.write_bytes(bytes_of(fan(3, 5, 2)))
+    path.write_bytes(write_code(fan(3, 5, 2)))
     assert said(path)[2] == "products a byte 13: links 7, sinks 6"
     code = fan(3, 3, 1)
     operands = (code.operands[0][:2], *code.operands[1:])
-    path.write_bytes(bytes_of(Code(code.network, 8, 3, operands, code.decoders)))
+    path.write_bytes(write_code(Code(code.network, 8, 3, operands, code.decoders)))
     assert said(path)[2] == "products a byte 6.67: links 3.67, sinks 3"
 
 
@@ -90,13 +117,13 @@ def test_what_the_program_sends(program: Program, tmp_path: Path) -> None:
     lines = dict(line.split(" ", 1) for line in program("demo", 4, 2, 100_000).stdout.splitlines())
     path = tmp_path / "fan.lif"
     code = fan(2, 4, 6)
-    path.write_bytes(bytes_of(code))
+    path.write_bytes(write_code(code))
     found = said(path, "--bytes", 100_000)
     assert f"generations {lines['generations']}, frames {lines['frames']}," in found[4]
 
 
 def test_misuse_and_unknown_patterns(tmp_path: Path) -> None:
-    for words in ((), (CODE, "--bytes", "-1"), (CODE, "--bytes", 67_108_865), (CODE, "--bytes", "many")):
+    for words in ((), (CODE, "--bytes", "-1"), (CODE, "--bytes", 1_099_511_627_777), (CODE, "--bytes", "many")):
         done = run_tool("lif-estimate", *words)
         assert done.returncode == 2 and "Traceback" not in done.stderr
     done = run_tool("lif-estimate", CODE, "--pattern", "f")

@@ -1,35 +1,26 @@
-"""Network texts and code files: what is read, what is refused, and that the program says the same."""
+"""Network texts: what is read, what is refused, and that the program says the same."""
 from __future__ import annotations
 
 import random
 import sys
 from dataclasses import dataclass
 from pathlib import Path
-from typing import Callable, Iterator
+from typing import Iterator
 
 import pytest
 
-from support import EXAMPLES, TOP, Program, bytes_of, run_tool
+from support import FLY, TOP, Program, refusal, run_tool
 from lif_tools import formats
 from lif_tools.flows import certificate
 from lif_tools.formats import (
     DEMANDS_SERVED,
     MOST_RATE,
     MOST_TEXT_BYTES,
-    Code,
-    Decoder,
     Network,
-    Operand,
     Refused,
-    check_failure,
     cycle_of,
-    live_links,
-    octet_product,
     order_of,
-    pair_product,
-    read_code,
     read_network,
-    vectors_of,
 )
 
 sys.path.insert(0, str(TOP / "trials"))
@@ -39,8 +30,6 @@ import caseform  # noqa: E402
 CASES = TOP / "crates/worked_cases/data"
 
 ONE = "source s\nsink t\nlink l s t\n"
-FLY = (EXAMPLES / "butterfly/butterfly.lif").read_bytes()
-
 REFUSED_LINES = [
     (b"sink \x01", "line 4: BadByte"),
     (b"# \xff\xfe\nfield 8 \x7f", "line 5: BadByte"),
@@ -80,36 +69,7 @@ REFUSED_TEXTS = [
     ),
 ]
 
-# A place of the butterfly's file, the byte that is put there, and the refusal.
-CHANGED_BYTES = [
-    (0, 0, "BadMagic"),
-    (4, 2, "BadVersion"),
-    (5, 9, "BadField"),
-    (6, 0, "BadRate"),
-    (6, 33, "BadRate"),
-    (7, 255, "TooMany 7"),
-    (9, 0, "BadName 9"),
-    (9, 40, "BadName 9"),
-    (10, 0x2F, "BadName 9"),
-    (16, 0x31, "BadName 14"),
-    (32, 9, "BadIndex 31"),
-    (34, 9, "BadIndex 33"),
-    (34, 0, "OutOfOrder 0"),
-    (117, 0, "ZeroCoefficient 117"),
-    (116, 2, "BadOperand 115"),
-    (149, 4, "NotRising 148"),
-    (149, 6, "BadOperand 148"),
-    (164, 2, "NotRising 163"),
-    (164, 3, "BadOperand 163"),
-]
-
 CYCLE = "link a-b a b\nlink b-c b c\nlink c-a c a\n"
-
-
-def refusal(read: Callable[[bytes], object], content: bytes) -> str:
-    with pytest.raises(Refused) as refused:
-        read(content)
-    return str(refused.value)
 
 
 @pytest.mark.parametrize("line, said", REFUSED_LINES)
@@ -495,62 +455,6 @@ def test_a_cycle_of_all_nodes_is_found() -> None:
     assert cycle_of(read_network(("source s\nsink t\n" + links).encode())) == list(range(4094))
 
 
-@pytest.mark.parametrize("place, byte, said", CHANGED_BYTES)
-def test_a_code_file_is_refused(place: int, byte: int, said: str) -> None:
-    assert refusal(read_code, FLY[:place] + bytes([byte]) + FLY[place + 1 :]) == said
-
-
-def test_every_beginning_of_a_code_file_is_truncated() -> None:
-    assert {refusal(read_code, FLY[:length]).split()[0] for length in range(len(FLY))} == {"Truncated"}
-    assert refusal(read_code, FLY[:11]) == "Truncated 11"
-    assert refusal(read_code, FLY[:12]) == "Truncated 11"
-    assert refusal(read_code, FLY[:-2]) == "Truncated 175"
-    assert refusal(read_code, FLY + b"\0") == f"TrailingBytes {len(FLY)}"
-
-
-def test_the_butterfly_is_read_and_accepted() -> None:
-    code = read_code(FLY)
-    assert bytes_of(code) == FLY
-    assert check_failure(code) is None
-    names = [link.name for link in code.network.links]
-    vectors = dict(zip(names, vectors_of(code, 0)))
-    assert (vectors["a-t1"], vectors["b-t2"], vectors["d-t1"]) == ((1, 0), (0, 1), (1, 1))
-    assert all(live_links(code, 0))
-
-
-def test_a_wrong_decoder_is_found() -> None:
-    code = read_code(FLY[:-1] + b"\1")
-    assert check_failure(code) == "demand t2 none row 1 column 0 found 1"
-
-
-def test_failed_links_and_those_behind_them_carry_nothing() -> None:
-    network = read_network(b"source s\nsink t\nlink u s a\nlink w s c\nlink v a c\nlink z c t\npattern f u\n")
-    operands = ((Operand(0, 1),), (Operand(0, 1),), (Operand(0, 1),), (Operand(1, 1), Operand(2, 2)))
-    decoders = (Decoder((3,), (0xF4,)), Decoder((3,), (1,)))
-    code = read_code(bytes_of(Code(network, 8, 1, operands, decoders)))
-    assert live_links(code, 1) == [False, True, False, True]
-    assert (vectors_of(code, 0)[3], vectors_of(code, 1)[3]) == ((3,), (1,))
-    assert check_failure(code) is None
-
-
-def test_the_fields_have_inverses() -> None:
-    assert (octet_product(0x80, 2), octet_product(0x20, 0x6C), octet_product(3, 0xF4)) == (0x1D, 1, 1)
-    assert pair_product(0x100, 0x100) == 0x120
-    chance = random.Random(1)
-    for _ in range(500):
-        one, two, three = (chance.randrange(65536) for _ in range(3))
-        assert pair_product(one, pair_product(two, three)) == pair_product(pair_product(one, two), three)
-        assert pair_product(one, two ^ three) == pair_product(one, two) ^ pair_product(one, three)
-
-
-def test_the_field_of_pairs_is_read() -> None:
-    network = read_network(ONE.encode())
-    for times, entry in ((0x100, None), (0x1234, None), (1, 1)):
-        entry = entry or next(one for one in range(65536) if pair_product(times, one) == 1)
-        code = Code(network, 16, 1, ((Operand(0, times),),), (Decoder((0,), (entry,)),))
-        assert check_failure(read_code(bytes_of(code))) is None
-
-
 def test_errors_name_the_file_and_the_place(tmp_path: Path) -> None:
     path = tmp_path / "bad.net"
     path.write_text(ONE + "link a/b s t\n")
@@ -577,32 +481,3 @@ def test_the_program_refuses_the_same_texts(program: Program, tmp_path: Path) ->
         assert program("order", path).stdout == f"net refused: {said}\n"
     path.write_text(ONE + CYCLE)
     assert program("order", path).stdout == "net refused: cycle a-b b-c c-a\n"
-
-
-def check_line(content: bytes) -> str:
-    """What `check` says of a file, by the tools."""
-    try:
-        code = read_code(content)
-    except Refused as refused:
-        return f"code refused: {refused}\n"
-    failure = check_failure(code)
-    if failure:
-        return f"check failed: {failure}\n"
-    return f"accepted rate {code.rate} field {code.field} demands {code.network.demands()}\n"
-
-
-def test_the_program_says_the_same_of_changed_code_files(program: Program, tmp_path: Path) -> None:
-    path = tmp_path / "one.lif"
-    contents = [FLY[:length] for length in range(0, len(FLY), 3)] + [FLY + b"\0"]
-    for place in range(len(FLY)):
-        contents += [FLY[:place] + bytes([byte]) + FLY[place + 1 :] for byte in (0, 1, 5, 255)]
-    for content in contents:
-        path.write_bytes(content)
-        assert program("check", path).stdout == check_line(content), content
-
-
-def test_what_the_program_compiles_is_accepted(program: Program, tmp_path: Path) -> None:
-    net = EXAMPLES / "regional/regional.net"
-    assert program("compile", net, tmp_path / "made.lif", tmp_path / "made.txt").returncode == 0
-    code = read_code((tmp_path / "made.lif").read_bytes())
-    assert (check_failure(code), code.rate, len(code.network.patterns)) == (None, 2, 3)

@@ -144,12 +144,16 @@ def test_the_memory_of_send(program: Program, proved: None, tmp_path: Path, name
     assert found["total"] == pytest.approx(runs[2] - base, rel=0.15)
 
 
-def test_a_file_that_is_more_than_the_work(program: Program, proved: None, tmp_path: Path) -> None:
-    """Where the code's file is large, the most is held while it is read."""
+@pytest.mark.parametrize("version", [1, 2])
+def test_a_file_that_is_more_than_the_work(program: Program, proved: None, tmp_path: Path, version: int) -> None:
+    """Where the code's file is large, the most is held while it is read. In version 2 this one has a decoder once."""
     code = compiled(program, parallel_text(32, 3000), tmp_path)
+    code.write_bytes(formats.write_code(formats.read_code(code.read_bytes()), version))
     found = estimated(code, 0)
-    assert found["file"] == code.stat().st_size > found["source"] + found["check"] + found["work"]
-    assert found["total"] == found["code"] + found["file"]
+    work = found["source"] + found["check"] + found["work"]
+    assert found["file"] == code.stat().st_size
+    assert (found["file"] > work) == (version == 1)
+    assert found["total"] == found["code"] + max(found["file"], work)
     (tmp_path / "none").write_bytes(b"")
 
     def most(code: Path) -> int:

@@ -8,8 +8,8 @@ from pathlib import Path
 
 import pytest
 
-from support import MODULES, TOOLS, TOP, bytes_of, run_tool
-from lif_tools.formats import Code, Decoder, Operand, read_network
+from support import MODULES, TOOLS, TOP, run_tool
+from lif_tools.formats import Code, Decoder, Operand, read_network, write_code
 
 STATUSES = re.compile(r"\| `(\w+)` \| (\d+) \|")
 
@@ -44,7 +44,7 @@ def folder(tmp_path: Path) -> Path:
         ((Operand(0, 1),), (Operand(0, 1),)),
         (Decoder((0,), (1,)), Decoder((1,), (1,)), Decoder((0,), (1,))),
     )
-    (tmp_path / "my code.lif").write_bytes(bytes_of(code))
+    (tmp_path / "my code.lif").write_bytes(write_code(code))
     for name in ("one.net", "notes.txt", "film.mp4"):
         (tmp_path / name).write_text("")
     (tmp_path / "old").mkdir()
@@ -52,7 +52,7 @@ def folder(tmp_path: Path) -> Path:
 
 
 def test_words_are_completed(folder: Path) -> None:
-    assert completed(folder, "lif", "") == ["check", "compile", "cuts", "demo", "order", "send"]
+    assert completed(folder, "lif", "") == ["check", "compile", "cuts", "demo", "migrate", "order", "send"]
     assert completed(folder, "./lif", "c") == ["check", "compile", "cuts"]
 
 
@@ -61,6 +61,7 @@ def test_files_are_completed(folder: Path) -> None:
     assert completed(folder, "lif", "check", "") == ["my code.lif", "old"]
     assert completed(folder, "lif", "check", "n") == ["notes.txt"]
     assert completed(folder, "lif", "send", "a.lif", "none", "1", "f") == ["film.mp4"]
+    assert completed(folder, "lif", "migrate", "") == completed(folder, "lif", "migrate", "a.lif", "") == ["my code.lif", "old"]
     assert completed(folder, "lif", "compile", "one.net", "b.lif", "n") == ["notes.txt"]
 
 
@@ -123,6 +124,7 @@ def test_zsh_completes_the_words_of_the_tools(folder: Path) -> None:
         assert (words, completed_by_zsh(folder, *words)) == (words, [f"files {files}"] if files else offered)
     assert completed_by_zsh(folder, DRAW, "-") == sorted(completed(folder, DRAW, "--"))
     assert completed_by_zsh(folder, "lif", "") == completed(folder, "lif", "")
+    assert completed_by_zsh(folder, "lif", "migrate", "a.lif", "") == ["files *.lif"]
     assert completed_by_zsh(folder, "lif", "send", "my\\ code.lif", "") == ["duct", "dust", "none"]
 
 
