@@ -1,5 +1,6 @@
 pub mod CodeReaders
 pub mod ContentsLaws
 pub mod ReadingLaws
+pub mod RoomLaws
 pub mod SpellingLaws
 pub mod Refusals
