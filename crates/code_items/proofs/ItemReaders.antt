@@ -9,8 +9,8 @@ use Rattle.gf_tables.specs.declared.kind.FieldKind.{FieldKind}
 use Rattle.gf_tables.specs.declared.kind.Width.TheVariants.{One, Two}
 use Rattle.net_model.specs.Name.{is_name}
 use Rattle.code_items.specs.Items.{byte_item, number_item, long_item, width_item, element_item, name_item}
-use Rattle.code_items.specs.Reading.{Rest, Reading, ◌>>=◌, item, byte_at, number_at, long_at, width_at, element_at, name_at, Conditions}
-use Rattle.code_items.proofs.Readers.{ok_of, IsBytes, IsReader, Takes, NoneHolds, AreNotMemory, bind_ok, bind_not_memory, ok_is, item_takes, item_again, item_not_memory}
+use Rattle.code_items.specs.Reading.{Rest, Reading, ◌>>=◌, refused_first, item, byte_at, number_at, long_at, width_at, element_at, name_at, Conditions}
+use Rattle.code_items.proofs.Readers.{ok_of, IsBytes, IsReader, Takes, NoneHolds, AreNotMemory, bind_ok, bind_not_memory, ok_is, refused_first_takes, refused_first_again, refused_first_not_memory, item_takes, item_again, item_not_memory}
 use Rattle.code_items.specs.declared.refusal.CodeRefusal.TheVariants.{BadName}
 
 -- the conditions of a number in view of what is left, and what their absence says of it
@@ -18,6 +18,23 @@ pub record AreConditions {X : Type 0} (conditions : Rest → X → Conditions) (
   pub to : (rest : Rest) (x : X) → NoneHolds (conditions rest x) → Fits x
   pub from : (rest : Rest) (x : X) → Fits x → NoneHolds (conditions rest x)
   pub not_memory : (rest : Rest) (x : X) → AreNotMemory (conditions rest x)
+
+-- a reader whose part has to pass conditions, in view of what is left behind it
+pub checked_reader : {X : Type 0} {read : Rest → Reading X} {spell : X → List ℕ} {Fits FitsToo : X → Type 0} {conditions : Rest → X → Conditions} → IsReader read spell Fits → AreConditions conditions FitsToo
+    → IsReader (λ rest. read rest >>= λ x. refused_first (conditions x.1 x.0) x) spell (λ x. Fits x × FitsToo x)
+checked_reader {X} {read} {spell} {Fits} {FitsToo} {conditions} reader are = record {
+  takes = λ rest x left fits e.
+      let b = bind_ok (read rest) (λ x. refused_first (conditions x.1 x.0) x) (x, left) e in
+      let t = reader.takes rest b.0.0 b.0.1 fits b.1 in
+      let c = refused_first_takes (conditions b.0.1 b.0.0) b.0 (x, left) b.2 in
+      subst (λ (p : X × Rest). Takes rest (spell p.0) p.1 × (Fits p.0 × FitsToo p.0)) c.1 (t.0, (t.1, are.to b.0.1 b.0.0 c.0));
+  again = λ at more x fits.
+      let left : Rest = record { at = at + length (spell x); bytes = more } in
+      ap (λ (r : Reading X). r >>= λ x. refused_first (conditions x.1 x.0) x) (reader.again at more x fits.0)
+      ∙ refused_first_again (conditions left x) (x, left) (are.from left x fits.1);
+  not_memory = λ rest.
+      bind_not_memory (read rest) (λ x. refused_first (conditions x.1 x.0) x) (reader.not_memory rest) (λ x. refused_first_not_memory (conditions x.1 x.0) x (are.not_memory x.1 x.0));
+}
 
 -- numbers below a bound are spelled in so many bytes, and those are parsed
 record Spells (size bound : ℕ) (parse : List ℕ → ℕ) (spell : ℕ → List ℕ) : Type 0 where

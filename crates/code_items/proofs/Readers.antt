@@ -172,22 +172,22 @@ empty_reader {Z} z = record {
 }
 
 -- one reader and then another, in view of what the first one read
-pub then_reader : {X Z : Type 0} {read : Rest → Reading X} {spell : X → List ℕ} {Fits : X → Type 0} {read_more : X → Rest → Reading Z} {spell_more : Z → List ℕ} {FitsMore : X → Z → Type 0}
-    (first : Z → X) → IsReader read spell Fits → ((x : X) → IsReader (read_more x) spell_more (FitsMore x)) → ((x : X) (z : Z) → Fits x → FitsMore x z → first z ≡ x)
-    → IsReader (λ rest. read rest >>= λ x. read_more x.0 x.1) (λ z. spell (first z) ++ spell_more z) (λ z. Fits (first z) × FitsMore (first z) z)
+pub then_reader : {X Z : Type 0} {read : Rest → Reading X} {spell : X → List ℕ} {Fits : X → Type 0} {read_more : X → Rest → Reading Z} {spell_more : X → Z → List ℕ} {FitsMore : X → Z → Type 0}
+    (first : Z → X) → IsReader read spell Fits → ((x : X) → IsReader (read_more x) (spell_more x) (FitsMore x)) → ((x : X) (z : Z) → Fits x → FitsMore x z → first z ≡ x)
+    → IsReader (λ rest. read rest >>= λ x. read_more x.0 x.1) (λ z. spell (first z) ++ spell_more (first z) z) (λ z. Fits (first z) × FitsMore (first z) z)
 then_reader {X} {Z} {read} {spell} {Fits} {read_more} {spell_more} {FitsMore} first one other first_is = record {
   takes = λ rest z left fits e.
       let b = bind_ok (read rest) (λ x. read_more x.0 x.1) (z, left) e in
       let t = one.takes rest b.0.0 b.0.1 fits b.1 in
       let u = (other b.0.0).takes b.0.1 z left t.0.left_fits b.2 in
-      subst (λ (x : X). Takes rest (spell x ++ spell_more z) left × (Fits x × FitsMore x z)) (sym (first_is b.0.0 z t.1 u.1))
-      (Takes-then rest (spell b.0.0) b.0.1 (spell_more z) left t.0 u.0, (t.1, u.1));
+      subst (λ (x : X). Takes rest (spell x ++ spell_more x z) left × (Fits x × FitsMore x z)) (sym (first_is b.0.0 z t.1 u.1))
+      (Takes-then rest (spell b.0.0) b.0.1 (spell_more b.0.0 z) left t.0 u.0, (t.1, u.1));
   again = λ at more z fits.
       let x = first z in
-      let regrouped : (spell x ++ spell_more z) ++ more ≡ spell x ++ (spell_more z ++ more) = append_assoc (spell x) (spell_more z) more in
-      let begins = one.again at (spell_more z ++ more) x fits.0 in
+      let regrouped : (spell x ++ spell_more x z) ++ more ≡ spell x ++ (spell_more x z ++ more) = append_assoc (spell x) (spell_more x z) more in
+      let begins = one.again at (spell_more x z ++ more) x fits.0 in
       let ends = (other x).again (at + length (spell x)) more z fits.1 in
-      let place : (at + length (spell x)) + length (spell_more z) ≡ at + length (spell x ++ spell_more z) = omega (arith, length-append (spell x) (spell_more z)) in
+      let place : (at + length (spell x)) + length (spell_more x z) ≡ at + length (spell x ++ spell_more x z) = omega (arith, length-append (spell x) (spell_more x z)) in
       ap (λ (bytes : List ℕ). read (record { at = at; bytes = bytes }) >>= λ x. read_more x.0 x.1) regrouped
       ∙ ap (λ (r : Reading X). r >>= λ x. read_more x.0 x.1) begins
       ∙ ends
