@@ -4,6 +4,7 @@ use Rattle.std.specs.List.{concat, flat_map, list_any}
 use Rattle.std.specs.Option.{option_map_or}
 use Rattle.std.specs.Str.{bytes_eq}
 use Rattle.std.proofs.Common.{refl, sym, ap, ◌∙◌, append-nil, arith}
+use Rattle.std.proofs.lemmas.Option.{same_Some}
 use Rattle.std.proofs.lemmas.Bool.{or_parts, or_from, not-false, not_from_true, ltb-true, ltb-false, lt-ltb, le-ltb, eqb-true, eqb-false, ne_eqb, false≢true}
 use Rattle.gf_tables.specs.Product.{kind_of_mark, mark_of}
 use Rattle.gf_tables.specs.declared.kind.FieldKind.{FieldKind}
@@ -62,10 +63,6 @@ some_conditions limit = record {
 
 -- ---- the field and the rate
 
--- two kinds are one where what holds them is
-some_is : (one other : FieldKind) → Some one ≡ Some other → one ≡ other
-some_is one other e = cc
-
 -- a kind of field is that of its mark
 kind_of_own_mark : (field : FieldKind) → kind_of_mark (mark_of field) ≡ Some field
 kind_of_own_mark Eight = refl
@@ -78,9 +75,9 @@ mark_of_kind n field is = either (n == 8) (n == 9) (n == 16) (eqb-true n 8) (eqb
   where
     either : (eight nine sixteen : Bool) → (eight ≡ true → n ≡ 8) → (nine ≡ true → n ≡ 9) → (sixteen ≡ true → n ≡ 16)
         → (if eight then Some Eight else if nine then Some Nine else if sixteen then Some Sixteen else None) ≡ Some field → mark_of field ≡ n
-    either true nine sixteen e f g is = rw (e refl) (sym (ap mark_of (some_is Eight field is)))
-    either false true sixteen e f g is = rw (f refl) (sym (ap mark_of (some_is Nine field is)))
-    either false false true e f g is = rw (g refl) (sym (ap mark_of (some_is Sixteen field is)))
+    either true nine sixteen e f g is = rw (e refl) (sym (ap mark_of (same_Some Eight field is)))
+    either false true sixteen e f g is = rw (f refl) (sym (ap mark_of (same_Some Nine field is)))
+    either false false true e f g is = rw (g refl) (sym (ap mark_of (same_Some Sixteen field is)))
     either false false false e f g is = absurd cc
 
 -- a number that is a mark has a kind, which is a field of the version
@@ -117,7 +114,7 @@ field_reader version =
     (λ field fit. refl)
     (λ field fit.
         let of = field_of_number version (mark_of field) fit.0.1 in
-        let same : field ≡ of.0 = some_is field of.0 (sym (kind_of_own_mark field) ∙ of.1) in
+        let same : field ≡ of.0 = same_Some field of.0 (sym (kind_of_own_mark field) ∙ of.1) in
         ap (has_field version) same ∙ of.2)
     (λ field fit.
         let own = kind_of_own_mark field in

@@ -21,7 +21,7 @@ use Rattle.code_items.specs.Spelling.{front_items_in}
 use Rattle.code_items.proofs.Readers.{ok_of, IsReader, NoneHolds, AreNotMemory, AllAfter, EachFits, FitsAfter, spelled_after, item_takes, item_again, item_not_memory, empty_reader, then_reader, same_reader, repeated_reader, each_reader, each_after_reader}
 use Rattle.code_items.proofs.ItemReaders.{AreConditions, checked_reader, byte_reader, number_reader, long_reader, element_reader}
 use Rattle.code_items.proofs.FrontReaders.{NameAfter, LinkAfter, SinkAfter, ArePatternsRead, concat-map, counted_reader, count_conditions, field_reader, rate_reader, nodes_reader, links_reader, source_reader, sinks_reader, patterns_reader}
-use Rattle.code_items.proofs.SharingLaws.{IsFirst, IsFirst-from_same, same_of-none, same_of-first_demand, is_shared-from_none}
+use Rattle.code_items.proofs.SharingLaws.{IsFirst-from_same, same_of-none, same_of-first_demand, is_shared-from_none}
 use Rattle.code_items.specs.declared.refusal.CodeRefusal.TheVariants.{BadMagic, BadVersion, NotRising, ZeroCoefficient, BadOperand, Written}
 
 -- ---- the mark and the version
