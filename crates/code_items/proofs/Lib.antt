@@ -4,6 +4,7 @@ pub mod ItemReaders
 pub mod PartLaws
 pub mod PartReaders
 pub mod Readers
+pub mod SharingLaws
 pub mod Above
 pub mod Checks
 pub mod Joined
