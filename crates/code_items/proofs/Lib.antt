@@ -10,3 +10,4 @@ pub mod Joined
 pub mod Loop
 pub mod Named
 pub mod Sizes
+pub mod TextLaws
