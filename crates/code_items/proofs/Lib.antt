@@ -12,4 +12,3 @@ pub mod Loop
 pub mod Named
 pub mod Sizes
 pub mod TextLaws
-pub mod SharingLaws
