@@ -18,6 +18,7 @@ use Rattle.code_file.proofs.SpellingLaws.{spelling_of-contents_in}
 use Rattle.code_items.proofs.Readers.{ok_of, IsBytes, bind_ok, ok_is}
 use Rattle.code_file.proofs.CodeReaders.{AreContentsRead, body_at, body_reader}
 use Rattle.code_file.proofs.ContentsLaws.{AreContents-from_read, AreContentsRead-from_code}
+use Rattle.code_file.proofs.Refusals.{not_both}
 use Rattle.code_items.specs.declared.refusal.CodeRefusal.{CodeRefusal}
 use Rattle.code_items.specs.declared.refusal.CodeRefusal.TheVariants.{TrailingBytes}
 
@@ -106,6 +107,10 @@ IsFileOf-bytes_of code = record { version = 2; known = refl; says_field = says_a
 -- each file of a code says what the code has
 pub contents_of-file : (bytes : List ℕ) (code : Code) (is : IsFileOf bytes code) → contents_of bytes ≡ Ok (contents_in is.version code)
 contents_of-file bytes code is = ap contents_of is.bytes_are ∙ contents_of-bytes_in is.version code is.known is.says_field
+
+-- so none is refused
+pub file_not_refused : (bytes : List ℕ) (code : Code) (why : CodeRefusal) → IsFileOf bytes code → contents_of bytes ≡ Err why → ⊥
+file_not_refused bytes code why is refused = not_both (contents_of bytes) (contents_in is.version code) why (contents_of-file bytes code is) refused
 
 -- no file of a code, in either version, begins another
 pub bytes_in-prefix : (bytes more : List ℕ) (one other : Code) → IsFileOf bytes one → IsFileOf (bytes ++ more) other → more ≡ []

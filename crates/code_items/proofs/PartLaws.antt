@@ -1,5 +1,6 @@
 -- What the items of the parts say one by one is what holds of a network and of a code.
 use Rattle.std.specs.Prelude.{◌≡◌, ℕ, zero, suc, ◌+◌, ◌*◌, ◌<◌, ◌≤◌, Bool, true, false, ◌&&◌, ◌==◌, nat_eq, nat_lt, None, List, [], ◌∷◌, ◌++◌, length, map, drop, slice_index, codes, if◌then◌else◌}
+use Rattle.std.specs.Bool.{MatchBool}
 use Rattle.std.specs.List.{list_all, list_any}
 use Rattle.std.specs.Str.{bytes_eq}
 use Rattle.std.proofs.Common.{refl, sym, subst, ap, ◌∙◌, append_assoc, get_or, length-append, arith}
@@ -30,7 +31,7 @@ use Rattle.code_items.specs.Spelling.{front_of}
 use Rattle.code_items.specs.Written.{has_elements, has_size}
 use Rattle.code_items.proofs.Readers.{AllAfter, EachFits, FitsAfter}
 use Rattle.code_items.proofs.FrontReaders.{NameAfter, LinkAfter, SinkAfter, LinkNumberAfter, PatternAfter}
-use Rattle.code_items.proofs.PartReaders.{OperandAfter, AreOperandsRead, AreDecodersBy, AreDecodersRead, DecoderLinkAfter, IsDecoderRead, IsFrontRead, IsSharedRead}
+use Rattle.code_items.proofs.PartReaders.{OperandAfter, AreOperandsRead, AreDecodersRead, DecoderLinkAfter, IsDecoderRead, IsFrontRead, IsSharedRead}
 use Rattle.code_items.proofs.SharingLaws.{IsFirst-from_same, same_of-within}
 use Rattle.code_items.proofs.AfterLaws.{Rises, LeadsOn, AllAfter-weaker, AllAfter-both, AllAfter-map, AllAfter-from_map, AllAfter-from_list_all, list_all-from_AllAfter, are_distinct-from_AllAfter, AllAfter-from_are_distinct, are_names-from_AllAfter, AllAfter-from_are_names, is_rising-from_AllAfter, AllAfter-from_is_rising, length-is_rising, are_in_order-from_AllAfter, AllAfter-from_are_in_order}
 
@@ -341,20 +342,22 @@ module _ (front : Front) where
 
 -- each decoder that is said is that of its sink, in each version
 pub EachFits-from_read : (version : ℕ) (front : Front) (decoders : List Decoder) → AreDecodersRead version front decoders → EachFits (IsDecoderRead front) (demand_sinks front) decoders
-EachFits-from_read version front decoders said = either (version == 1) said
-  where
-    either : (one : Bool) → AreDecodersBy one front decoders → EachFits (IsDecoderRead front) (demand_sinks front) decoders
-    either true said = said
-    either false said = EachFits-from_shared front (demand_sinks front) [] (demand_sinks front) [] decoders refl tt said
+EachFits-from_read version front decoders =
+    let sinks = demand_sinks front in
+    elim (version == 1) as (λ first. MatchBool first (EachFits (IsDecoderRead front) sinks decoders) (FitsAfter (IsSharedRead front sinks) [] sinks decoders) → EachFits (IsDecoderRead front) sinks decoders) [
+      | true ↦ λ said. said
+      | false ↦ EachFits-from_shared front sinks [] sinks [] decoders refl tt
+    ]
 
 -- and the other way round
 AreDecodersRead-from_each : (version : ℕ) (front : Front) (decoders : List Decoder) → 1 ≤ front.rate → length decoders ≤ 65536 → EachFits (IsDecoderRead front) (demand_sinks front) decoders
     → AreDecodersRead version front decoders
-AreDecodersRead-from_each version front decoders some_rate few each = either (version == 1)
-  where
-    either : (one : Bool) → AreDecodersBy one front decoders
-    either true = each
-    either false = FitsAfter-from_each front (demand_sinks front) [] (demand_sinks front) [] decoders refl some_rate (omega arith) tt each
+AreDecodersRead-from_each version front decoders some_rate few each =
+    let sinks = demand_sinks front in
+    elim (version == 1) as (λ first. MatchBool first (EachFits (IsDecoderRead front) sinks decoders) (FitsAfter (IsSharedRead front sinks) [] sinks decoders)) [
+      | true ↦ each
+      | false ↦ FitsAfter-from_each front sinks [] sinks [] decoders refl some_rate (omega arith) tt each
+    ]
 
 -- ---- the operands and the decoders of a code
 
