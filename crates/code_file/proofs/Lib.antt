@@ -4,3 +4,4 @@ pub mod ReadingLaws
 pub mod RoomLaws
 pub mod SpellingLaws
 pub mod Refusals
+pub mod WrittenLaws

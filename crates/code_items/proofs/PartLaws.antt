@@ -247,14 +247,14 @@ IsFrontRead-from_network version front says_field is some_rate low_rate few_dema
 
 module _ {X Y : Type 0} (Fits : X → Y → Type 0) where
   -- items that fit one by one are as many
-  pub EachFits-length : (xs : List X) (ys : List Y) → EachFits Fits xs ys → length xs ≡ length ys
+  EachFits-length : (xs : List X) (ys : List Y) → EachFits Fits xs ys → length xs ≡ length ys
   EachFits-length [] [] fit = refl
   EachFits-length [] (y ∷ ys) fit = absurd fit
   EachFits-length (x ∷ xs) [] fit = absurd fit
   EachFits-length (x ∷ xs) (y ∷ ys) fit = ap suc (EachFits-length xs ys fit.1)
 
   -- those at one place fit
-  pub EachFits-at : (xs : List X) (ys : List Y) (d : X) (e : Y) (i : ℕ) → EachFits Fits xs ys → i < length ys → Fits (get_or xs i d) (get_or ys i e)
+  EachFits-at : (xs : List X) (ys : List Y) (d : X) (e : Y) (i : ℕ) → EachFits Fits xs ys → i < length ys → Fits (get_or xs i d) (get_or ys i e)
   EachFits-at [] [] d e i fit within = absurd (omega arith)
   EachFits-at [] (y ∷ ys) d e i fit within = absurd fit
   EachFits-at (x ∷ xs) [] d e i fit within = absurd fit
@@ -262,7 +262,7 @@ module _ {X Y : Type 0} (Fits : X → Y → Type 0) where
   EachFits-at (x ∷ xs) (y ∷ ys) d e (suc i) fit within = EachFits-at xs ys d e i fit.1 (omega arith)
 
   -- and one more of each
-  pub EachFits-more : (xs : List X) (ys : List Y) (x : X) (y : Y) → EachFits Fits xs ys → Fits x y → EachFits Fits (xs ++ x ∷ []) (ys ++ y ∷ [])
+  EachFits-more : (xs : List X) (ys : List Y) (x : X) (y : Y) → EachFits Fits xs ys → Fits x y → EachFits Fits (xs ++ x ∷ []) (ys ++ y ∷ [])
   EachFits-more [] [] x y fit one = (one, tt)
   EachFits-more [] (z ∷ ys) x y fit one = absurd fit
   EachFits-more (z ∷ xs) [] x y fit one = absurd fit
@@ -467,13 +467,18 @@ module _ (net : Net) (rate : ℕ) (field : FieldKind) where
       let parts = and_parts _ _ are in
       (IsDecoderRead-from_code sink decoder few parts.0, EachFits-from_decoders_of_code sinks decoders few parts.1)
 
-  -- in each version
+  -- so there is one for each demand
+  pub length-decoders_of_code : (decoders : List Decoder) → length net.links ≤ 8192 → are_decoders net rate field (sinks_of_demands net) decoders ≡ true → length decoders ≡ demand_count net
+  length-decoders_of_code decoders few are =
+      let sinks = sinks_of_demands net in
+      omega (arith, length-sinks_of_demands net, EachFits-length (IsDecoderRead (front_of net rate field)) sinks decoders (EachFits-from_decoders_of_code sinks decoders few are))
+
+  -- and they are read in each version
   pub AreDecodersRead-from_code : (version : ℕ) (decoders : List Decoder) → length net.links ≤ 8192 → 1 ≤ rate → demand_count net ≤ 65536 → are_decoders net rate field (sinks_of_demands net) decoders ≡ true
       → AreDecodersRead version (front_of net rate field) decoders
   AreDecodersRead-from_code version decoders few some_rate few_demands are =
-      let each = EachFits-from_decoders_of_code (sinks_of_demands net) decoders few are in
-      AreDecodersRead-from_each version (front_of net rate field) decoders some_rate
-      (omega (arith, few_demands, length-sinks_of_demands net, EachFits-length (IsDecoderRead (front_of net rate field)) (sinks_of_demands net) decoders each)) each
+      AreDecodersRead-from_each version (front_of net rate field) decoders some_rate (omega (arith, few_demands, length-decoders_of_code decoders few are))
+      (EachFits-from_decoders_of_code (sinks_of_demands net) decoders few are)
 
   -- what is read with the parts of a network makes a code with it
   pub IsCode-from_read : (version : ℕ) (operands : List (List Operand)) (decoders : List Decoder) → net.field ≡ choice_of field → net.wanted ≡ None
