@@ -90,20 +90,6 @@ module _ (version : ℕ) (code : Code) (known : is_among code_versions version �
   pub contents_of-bytes_in : contents_of (bytes_in version code) ≡ Ok (contents_in version code)
   contents_of-bytes_in = ap contents_of (sym (append-nil (bytes_in version code))) ∙ contents_of-bytes_in-append []
 
--- a code over any field can stand in a file of version 2
-says_any_field : (field : FieldKind) → has_field 2 field ≡ true
-says_any_field Eight = refl
-says_any_field Nine = refl
-says_any_field Sixteen = refl
-
--- so the file that is written of a code is read
-pub contents_of-bytes_of : (code : Code) → contents_of (bytes_of code) ≡ Ok (contents_in 2 code)
-contents_of-bytes_of code = contents_of-bytes_in 2 code refl (says_any_field code.field)
-
--- it is a file of the code
-pub IsFileOf-bytes_of : (code : Code) → IsFileOf (bytes_of code) code
-IsFileOf-bytes_of code = record { version = 2; known = refl; says_field = says_any_field code.field; bytes_are = refl }
-
 -- each file of a code says what the code has
 pub contents_of-file : (bytes : List ℕ) (code : Code) (is : IsFileOf bytes code) → contents_of bytes ≡ Ok (contents_in is.version code)
 contents_of-file bytes code is = ap contents_of is.bytes_are ∙ contents_of-bytes_in is.version code is.known is.says_field
@@ -112,7 +98,21 @@ contents_of-file bytes code is = ap contents_of is.bytes_are ∙ contents_of-byt
 pub file_not_refused : (bytes : List ℕ) (code : Code) (why : CodeRefusal) → IsFileOf bytes code → contents_of bytes ≡ Err why → ⊥
 file_not_refused bytes code why is refused = not_both (contents_of bytes) (contents_in is.version code) why (contents_of-file bytes code is) refused
 
--- no file of a code, in either version, begins another
+-- a code over any field can stand in a file of version 2
+says_any_field : (field : FieldKind) → has_field 2 field ≡ true
+says_any_field Eight = refl
+says_any_field Nine = refl
+says_any_field Sixteen = refl
+
+-- what is written of a code is a file of it
+pub IsFileOf-bytes_of : (code : Code) → IsFileOf (bytes_of code) code
+IsFileOf-bytes_of code = record { version = 2; known = refl; says_field = says_any_field code.field; bytes_are = refl }
+
+-- it says what the code has
+pub contents_of-bytes_of : (code : Code) → contents_of (bytes_of code) ≡ Ok (contents_in 2 code)
+contents_of-bytes_of code = contents_of-file (bytes_of code) code (IsFileOf-bytes_of code)
+
+-- no file of a code, in whichever version, begins another file of one
 pub bytes_in-prefix : (bytes more : List ℕ) (one other : Code) → IsFileOf bytes one → IsFileOf (bytes ++ more) other → more ≡ []
 bytes_in-prefix bytes more one other is is' =
     either (length more == 0) refl
