@@ -110,6 +110,7 @@ IsFileOf-bytes_of code = record { version = 2; known = refl; says_field = says_a
 
 -- it says what the code has
 pub contents_of-bytes_of : (code : Code) → contents_of (bytes_of code) ≡ Ok (contents_in 2 code)
+unfolding IsFileOf-bytes_of
 contents_of-bytes_of code = contents_of-file (bytes_of code) code (IsFileOf-bytes_of code)
 
 -- no file of a code, in whichever version, begins another file of one
