@@ -12,3 +12,4 @@ pub mod Loop
 pub mod Named
 pub mod Sizes
 pub mod TextLaws
+pub mod SharedLaws
