@@ -11,3 +11,5 @@ pub mod Loop
 pub mod Named
 pub mod Sizes
 pub mod TextLaws
+pub mod SharingLaws
+pub mod SharedItems
