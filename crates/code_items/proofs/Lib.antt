@@ -13,3 +13,4 @@ pub mod Sizes
 pub mod TextLaws
 pub mod SharingLaws
 pub mod SharedItems
+pub mod SameLaws

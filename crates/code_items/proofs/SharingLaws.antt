@@ -1,10 +1,9 @@
 -- Laws of decoders that demands share.
-use Rattle.std.specs.Prelude.{◌≡◌, ℕ, zero, suc, ◌+◌, ◌<◌, ◌≤◌, Bool, true, false, not, ◌||◌, nat_lt, List, [], ◌∷◌, length, take, Some, None, if◌then◌else◌}
+use Rattle.std.specs.Prelude.{◌≡◌, ℕ, zero, suc, ◌+◌, ◌<◌, ◌≤◌, Bool, true, false, not, ◌||◌, nat_lt, List, [], ◌∷◌, length, take, if◌then◌else◌}
 use Rattle.std.specs.Bool.{Decides}
 use Rattle.std.specs.List.{list_any, position_or_len}
-use Rattle.std.specs.Option.{option_map_or}
 use Rattle.std.proofs.Common.{refl, sym, subst, ap, ◌∙◌, get_or, arith, inl, inr}
-use Rattle.std.proofs.lemmas.Bool.{and_parts, and_from, cases_Bool, cases_lt, false_from_ne_true, true_from_ne_false, lt-ltb, le-ltb, ltb-true, false≢true}
+use Rattle.std.proofs.lemmas.Bool.{and_parts, and_from, cases_lt, false_from_ne_true, true_from_ne_false, lt-ltb, le-ltb, ltb-true, false≢true}
 use Rattle.std.proofs.lemmas.List.{get_or-take, length-take}
 use Rattle.std.proofs.lemmas.List.Folds.{list_any_at}
 use Rattle.std.proofs.lemmas.List.Quantifiers.{position-Some}
@@ -14,7 +13,7 @@ use Rattle.node_program.specs.declared.Decoder.{Decoder}
 use Rattle.code_items.specs.Sharing.{is_same_decoder, is_shared, same_of, decoder_of, no_decoder, shares}
 
 -- two decoders of the same links and the same entries are one
-decoders_same : (one other : Decoder) → one.links ≡ other.links → one.entries ≡ other.entries → one ≡ other
+pub decoders_same : (one other : Decoder) → one.links ≡ other.links → one.entries ≡ other.entries → one ≡ other
 decoders_same one other links entries = λ i. record { links = links i; entries = entries i }
 
 -- the test tells whether two decoders are one
@@ -28,7 +27,7 @@ is_same_decoder-Decides one other = (
 -- ---- the first place of a list at which a test passes
 
 -- some item passes exactly where the first that does stands in the list
-any_position : {X : Type 0} (p : X → Bool) (xs : List X) → list_any p xs ≡ nat_lt (position_or_len p xs) (length xs)
+pub any_position : {X : Type 0} (p : X → Bool) (xs : List X) → list_any p xs ≡ nat_lt (position_or_len p xs) (length xs)
 any_position p [] = refl
 any_position p (x ∷ xs) = ap (λ (b : Bool). p x || b) (any_position p xs) ∙ one_more (p x) (position_or_len p xs) (length xs)
   where
