@@ -13,3 +13,5 @@ pub mod Named
 pub mod Sizes
 pub mod TextLaws
 pub mod SharedLaws
+pub mod SharedItems
+pub mod SameLaws
