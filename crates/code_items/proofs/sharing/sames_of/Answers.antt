@@ -1,0 +1,1 @@
+use Rattle.code_items.proofs.sharing.sames_of.Goals as goal
