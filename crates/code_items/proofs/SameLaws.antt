@@ -1,5 +1,5 @@
 -- The texts of decoders tell the same of one more demand.
-use Rattle.std.proofs.Common.{◌≡◌, ℕ, suc, ◌+◌, ◌<◌, Bool, true, false, ◌||◌, Some, None, List, [], ◌∷◌, ◌++◌, length, get_or, cond, refl, sym, subst, ap, ◌∙◌, arith}
+use Rattle.std.proofs.Common.{◌≡◌, ℕ, suc, ◌+◌, ◌<◌, Bool, true, false, ◌||◌, Some, None, List, [], ◌∷◌, ◌++◌, length, cond, refl, sym, subst, ap, ◌∙◌, arith}
 use Rattle.std.specs.Prelude.{position, slice_index, if◌then◌else◌}
 use Rattle.std.specs.List.{list_any, position_from}
 use Rattle.std.specs.Option.{option_map_or}
@@ -11,9 +11,8 @@ use Rattle.std.proofs.lemmas.List.Folds.{list_any_at}
 use Rattle.std.proofs.lemmas.List.Quantifiers.{position-Some}
 use Rattle.std.proofs.Math.ListN.{get_or-append}
 use Rattle.gf_tables.specs.declared.kind.FieldKind.{FieldKind}
-use Rattle.name_index.specs.Seen.{has}
 use Rattle.node_program.specs.declared.Decoder.{Decoder}
-use Rattle.code_items.specs.Shared.{AreSames, AreTexts, decoder_text}
+use Rattle.code_items.specs.Shared.{AreSames, decoder_text}
 use Rattle.code_items.specs.Sharing.{is_same_decoder, is_shared, same_of}
 use Rattle.code_items.specs.Written.{has_elements, has_size}
 use Rattle.code_items.proofs.SharingLaws.{is_same_decoder-Decides, same_of-none}

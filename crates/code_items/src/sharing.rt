@@ -58,7 +58,6 @@ pub fn sames_of(
     rate: u32,
     decoders: &[Decoder],
 ) -> Result<Vec<u32>, AllocError>
-    requires some_rate { 0 < rate }
     requires sizes { IsTrue (list_all (has_size rate) decoders.now) }
     requires elements { IsTrue (list_all (has_elements field) decoders.now) }
     requires few { length decoders.now ≤ pair_demands }

@@ -1,9 +1,9 @@
-use Rattle.std.proofs.Common.{◌≡◌, ℕ, ◌<◌, ◌++◌, ◌∷◌, [], suc, length, refl, false, Some, None, ap, sym, subst, ◌∙◌, arith}
+use Rattle.std.proofs.Common.{◌≡◌, ℕ, ◌<◌, ◌++◌, ◌∷◌, [], suc, length, refl, false, Some, None, ap, sym, ◌∙◌, arith}
 use Rattle.std.specs.Prelude.{position}
 use Rattle.std.specs.Str.{bytes_eq}
 use Rattle.std.proofs.lemmas.Grind.{get_or_default_zero}
 use Rattle.name_index.specs.Seen.{has}
-use Rattle.code_items.specs.Shared.{AreSames, decoder_text}
+use Rattle.code_items.specs.Shared.{decoder_text}
 use Rattle.code_items.proofs.SameLaws.{AreSames-again, AreSames-push}
 use Rattle.code_items.proofs.SharingLaws.{is_shared-from_none}
 use Rattle.code_items.proofs.sharing.same_of_text.Goals as goal
