@@ -76,9 +76,9 @@ decoder_text-same field rate one other sized fit sized' fit' same =
     let links_count : length one.links ≡ length other.links = eqb-true _ _ counts.0 ∙ sym (eqb-true _ _ counts'.0) in
     let entries_count : length one.entries ≡ length other.entries = eqb-true _ _ counts.1 ∙ sym (eqb-true _ _ counts'.1) in
     let links_size : length (concat (map number_item one.links)) ≡ length (concat (map number_item other.links)) =
-      numbers-size one.links ∙ ap (λ n. 2 * n) links_count ∙ sym (numbers-size other.links) in
+    numbers-size one.links ∙ ap (λ n. 2 * n) links_count ∙ sym (numbers-size other.links) in
     let parts = cut_same (concat (map number_item one.links)) (concat (map number_item other.links)) (concat (map (element_item field) one.entries)) (concat (map (element_item field) other.entries)) links_size
-      (sym (concat-append (map number_item one.links) (map (element_item field) one.entries)) ∙ same ∙ concat-append (map number_item other.links) (map (element_item field) other.entries)) in
+    (sym (concat-append (map number_item one.links) (map (element_item field) one.entries)) ∙ same ∙ concat-append (map number_item other.links) (map (element_item field) other.entries)) in
     let links : one.links ≡ other.links = numbers_same (record { sized = λ n. refl; one = number_same }) one.links other.links links_count here.1 there.1 parts.0 in
     let entries : one.entries ≡ other.entries = numbers_same (record { sized = element-size field; one = width_same (width_of field) }) one.entries other.entries entries_count fit fit' parts.1 in
     decoders_same one other links entries
@@ -130,7 +130,6 @@ AreTexts-again field rate texts earlier one known are decoder sized fit =
 
 module _ (field : FieldKind) (rate : ℕ) (decoders : List Decoder) (place size : ℕ) (rest : List ℕ) (within : place < length decoders) (sized : list_all (has_size rate) decoders ≡ true)
     (spelled : rest ≡ concat (decoder_table_items field (drop place decoders))) (small : length rest < 2 ^ 64) (room : size ≡ saturate (2 * rate + bytes_of_element field * (rate * rate))) where
-
   -- first there is the text of the decoder at the place
   text_first : rest ≡ decoder_text field (decoder_of decoders place) ++ concat (decoder_table_items field (drop (place + 1) decoders))
   text_first =

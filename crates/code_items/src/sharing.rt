@@ -22,7 +22,9 @@ fn text_room(field: FieldKind, rate: u32) -> usize
     ensures { result ≡ saturate (2 * rate + bytes_of_element field * (rate * rate)) }
 {
     let rate = rate as usize;
-    let entries = rate.saturating_mul(rate).saturating_mul(element_room(field));
+    let entries = rate
+        .saturating_mul(rate)
+        .saturating_mul(element_room(field));
     entries.saturating_add(2 * rate)
 }
 
@@ -40,7 +42,7 @@ fn same_of_text<'a>(
         → text.now ≡ decoder_text field decoder → demand ≡ length earlier
         → AreSames field rate texts.old numbers.old.items earlier
         → IfOk result (λ same. (same ≡ same_of earlier decoder)
-            × AreSames field rate texts.new numbers.new.items (earlier ++ decoder ∷ [])) }
+        × AreSames field rate texts.new numbers.new.items (earlier ++ decoder ∷ [])) }
 {
     if let Some(number) = texts.number_of(text) {
         return Ok(numbers[number]);

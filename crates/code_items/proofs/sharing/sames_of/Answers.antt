@@ -20,11 +20,11 @@ loop-demand-preserved c =
     let held = c.loop-demand.invariant in
     let within = c.loop-demand-test.true in
     let cut = text_cut c.args.field c.args.rate decoders demand c.text_room-size.result c.loop-demand.rest.now within c.requires.sizes held.rest held.small c.text_room-size.ensures
-      c.split_at.result.0.now c.split_at.result.1.now c.split_at.ensures.by_index.0 c.split_at.ensures.front_len in
+    c.split_at.result.0.now c.split_at.result.1.now c.split_at.ensures.by_index.0 c.split_at.ensures.front_len in
     let decoder = decoder_of decoders demand in
     let more = take_more decoders demand no_decoder within in
     let told = c.in_ok-same_of_text.ensures c.args.field c.args.rate (take demand decoders) decoder (passes_at (has_size c.args.rate) decoders demand no_decoder c.requires.sizes within)
-      (passes_at (has_elements c.args.field) decoders demand no_decoder c.requires.elements within) cut.0 (omega (arith, length-take demand decoders)) held.are in
+    (passes_at (has_elements c.args.field) decoders demand no_decoder c.requires.elements within) cut.0 (omega (arith, length-take demand decoders)) held.are in
     record {
       rest = cut.1;
       small = omega (arith, c.split_at.ensures.back_len);
