@@ -1,5 +1,5 @@
 -- The texts of decoders tell the same of one more demand.
-use Rattle.std.proofs.Common.{◌≡◌, ℕ, suc, ◌+◌, ◌<◌, Bool, true, false, ◌||◌, Some, None, List, [], ◌∷◌, ◌++◌, length, get_or, cond, refl, sym, subst, ap, ◌∙◌, arith}
+use Rattle.std.proofs.Common.{◌≡◌, ℕ, suc, ◌+◌, ◌<◌, Bool, true, false, ◌||◌, Some, None, List, [], ◌∷◌, ◌++◌, length, cond, refl, sym, subst, ap, ◌∙◌, arith}
 use Rattle.std.specs.Prelude.{position, slice_index, if◌then◌else◌}
 use Rattle.std.specs.List.{list_any, position_from}
 use Rattle.std.specs.Option.{option_map_or}
@@ -11,9 +11,8 @@ use Rattle.std.proofs.lemmas.List.Folds.{list_any_at}
 use Rattle.std.proofs.lemmas.List.Quantifiers.{position-Some}
 use Rattle.std.proofs.Math.ListN.{get_or-append}
 use Rattle.gf_tables.specs.declared.kind.FieldKind.{FieldKind}
-use Rattle.name_index.specs.Seen.{has}
 use Rattle.node_program.specs.declared.Decoder.{Decoder}
-use Rattle.code_items.specs.Shared.{AreSames, AreTexts, decoder_text}
+use Rattle.code_items.specs.Shared.{AreSames, decoder_text}
 use Rattle.code_items.specs.Sharing.{is_same_decoder, is_shared, same_of}
 use Rattle.code_items.specs.Written.{has_elements, has_size}
 use Rattle.code_items.proofs.SharingLaws.{is_same_decoder-Decides, same_of-none}
@@ -74,40 +73,46 @@ said-same f g p xs same = said_from-zero f p xs ∙ said_from-same f g p 0 xs (�
 
 module _ (field : FieldKind) (rate : ℕ) (texts : List (List ℕ)) (numbers : List ℕ) (earlier : List Decoder) (decoder : Decoder)
     (sized : has_size rate decoder ≡ true) (fit : has_elements field decoder ≡ true) (are : AreSames field rate texts numbers earlier) where
-
   -- a text that stands among the others says the same, and nothing is new
   pub AreSames-again : (place : ℕ) → position (bytes_eq (decoder_text field decoder)) texts ≡ Some place
       → (slice_index numbers place ≡ same_of earlier decoder) × AreSames field rate texts numbers (earlier ++ decoder ∷ [])
-  AreSames-again place at = (ap (λ found. option_map_or (slice_index numbers) found 0) (sym at) ∙ are.each decoder sized fit, record {
-    are_texts = AreTexts-again field rate texts earlier decoder shared are.are_texts;
-    size = are.size;
-    each = λ other sized' fit'. are.each other sized' fit' ∙ sym (said-push suc (is_same_decoder other) earlier decoder ∙ known other (is_shared earlier other) refl);
-  })
+  AreSames-again place at = (
+    ap (λ found. option_map_or (slice_index numbers) found 0) (sym at) ∙ are.each decoder sized fit,
+    record {
+      are_texts = AreTexts-again field rate texts earlier decoder shared are.are_texts;
+      size = are.size;
+      each = λ other sized' fit'. are.each other sized' fit' ∙ sym (said-push suc (is_same_decoder other) earlier decoder ∙ known other (is_shared earlier other) refl);
+    },
+  )
     where
       shared : is_shared earlier decoder ≡ true
       shared =
           let found = position-Some (bytes_eq (decoder_text field decoder)) texts place [] at in
           sym (are.are_texts decoder sized fit) ∙ list_any_at (bytes_eq (decoder_text field decoder)) texts place [] found.0 found.1
+
       known : (other : Decoder) (b : Bool) → is_shared earlier other ≡ b → (if b then same_of earlier other else (if is_same_decoder other decoder then suc (length earlier) else 0)) ≡ same_of earlier other
       known other true is = refl
       known other false is =
           let apart : is_same_decoder other decoder ≡ false = false_from_ne_true (is_same_decoder other decoder)
-            (λ same. false≢true (sym is ∙ subst (λ (d : Decoder). is_shared earlier d ≡ true) (sym ((is_same_decoder-Decides other decoder).0 same)) shared)) in
+          (λ same. false≢true (sym is ∙ subst (λ (d : Decoder). is_shared earlier d ≡ true) (sym ((is_same_decoder-Decides other decoder).0 same)) shared)) in
           rw apart (sym (same_of-none earlier other is))
 
   -- a new text joins them, and says that the demand is the first with its decoder
   pub AreSames-push : position (bytes_eq (decoder_text field decoder)) texts ≡ None
       → (same_of earlier decoder ≡ 0) × AreSames field rate (texts ++ decoder_text field decoder ∷ []) (numbers ++ suc (length earlier) ∷ []) (earlier ++ decoder ∷ [])
-  AreSames-push none = (sym (are.each decoder sized fit) ∙ ap (λ found. option_map_or (slice_index numbers) found 0) none, record {
-    are_texts = AreTexts-push field rate texts earlier decoder sized fit are.are_texts;
-    size = length_push numbers (suc (length earlier)) ∙ ap (λ n. n + 1) are.size ∙ sym (length_push texts (decoder_text field decoder));
-    each = λ other sized' fit'.
-        let test = bytes_eq (decoder_text field other) in
-        let last = suc (length earlier) in
-        let more = numbers ++ last ∷ [] in
-        let before : said (slice_index more) test texts ≡ same_of earlier other =
+  AreSames-push none = (
+    sym (are.each decoder sized fit) ∙ ap (λ found. option_map_or (slice_index numbers) found 0) none,
+    record {
+      are_texts = AreTexts-push field rate texts earlier decoder sized fit are.are_texts;
+      size = length_push numbers (suc (length earlier)) ∙ ap (λ n. n + 1) are.size ∙ sym (length_push texts (decoder_text field decoder));
+      each = λ other sized' fit'.
+          let test = bytes_eq (decoder_text field other) in
+          let last = suc (length earlier) in
+          let more = numbers ++ last ∷ [] in
+          let before : said (slice_index more) test texts ≡ same_of earlier other =
           said-same (slice_index more) (slice_index numbers) test texts (λ k below. get_or-append numbers (last ∷ []) 0 k (omega (arith, are.size))) ∙ are.each other sized' fit' in
-        let here : slice_index more (length texts) ≡ last = get_or_push numbers last 0 (length texts) are.size in
-        said-push (slice_index more) test texts (decoder_text field decoder)
-        ∙ rw (are.are_texts other sized' fit', decoder_text-tells field rate other decoder sized' fit' sized fit, before, here) (sym (said-push suc (is_same_decoder other) earlier decoder));
-  })
+          let here : slice_index more (length texts) ≡ last = get_or_push numbers last 0 (length texts) are.size in
+          said-push (slice_index more) test texts (decoder_text field decoder)
+          ∙ rw (are.are_texts other sized' fit', decoder_text-tells field rate other decoder sized' fit' sized fit, before, here) (sym (said-push suc (is_same_decoder other) earlier decoder));
+    },
+  )

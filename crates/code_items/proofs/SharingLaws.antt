@@ -27,7 +27,7 @@ is_same_decoder-Decides one other = (
 -- ---- the first place of a list at which a test passes
 
 -- some item passes exactly where the first that does stands in the list
-pub any_position : {X : Type 0} (p : X → Bool) (xs : List X) → list_any p xs ≡ nat_lt (position_or_len p xs) (length xs)
+any_position : {X : Type 0} (p : X → Bool) (xs : List X) → list_any p xs ≡ nat_lt (position_or_len p xs) (length xs)
 any_position p [] = refl
 any_position p (x ∷ xs) = ap (λ (b : Bool). p x || b) (any_position p xs) ∙ one_more (p x) (position_or_len p xs) (length xs)
   where

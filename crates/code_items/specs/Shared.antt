@@ -1,5 +1,5 @@
 -- What a reader or a writer of shared decoders keeps of the earlier ones.
-use Rattle.std.specs.Prelude.{◌≡◌, ◌<◌, ℕ, Bool, false, not, IsTrue, List, ◌++◌, ◌∷◌, [], length, position, slice_index, slice_index_or}
+use Rattle.std.specs.Prelude.{◌≡◌, ◌<◌, ℕ, Bool, false, not, IsTrue, List, length, position, slice_index, slice_index_or}
 use Rattle.std.specs.List.{concat}
 use Rattle.std.specs.Option.{option_map_or}
 use Rattle.std.specs.Str.{bytes_eq}

@@ -1,6 +1,6 @@
-use Rattle.std.proofs.Common.{◌+◌, ◌-◌, ◌^◌, ◌∷◌, [], arith}
+use Rattle.std.proofs.Common.{◌-◌, ◌^◌, ◌∷◌, [], arith}
 use Rattle.std.proofs.lemmas.Bool.{ne_eqb}
-use Rattle.code_items.specs.Items.{long_item, decoder_items, demand_items}
+use Rattle.code_items.specs.Items.{long_item, decoder_items}
 use Rattle.code_items.specs.Room.{size_of_items}
 use Rattle.code_items.proofs.Sizes.{add_capped, size-cons, size-nil}
 use Rattle.code_items.proofs.room.demand_room.Goals as goal
