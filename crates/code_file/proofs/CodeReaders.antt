@@ -7,7 +7,7 @@ use Rattle.std.proofs.lemmas.List.Folds.{concat-append}
 use Rattle.gf_tables.specs.declared.kind.FieldKind.{FieldKind}
 use Rattle.net_model.specs.Lists.{is_among}
 use Rattle.code_items.specs.Items.{byte_item, operand_list_items, operand_table_items, decoders_items}
-use Rattle.code_items.specs.Reading.{Rest, Reading, ◌>>=◌, Front, mark_at, front_at, operands_at_link, operand_table_at, decoder_table_at}
+use Rattle.code_items.specs.Reading.{Rest, Reading, ◌>>=◌, mark_at, front_at, operands_at_link, operand_table_at, decoder_table_at}
 use Rattle.code_items.specs.Spelling.{front_items_in}
 use Rattle.code_items.proofs.Readers.{IsReader, EachFits, empty_reader, then_reader, same_reader, each_reader}
 use Rattle.code_items.proofs.PartReaders.{IsFrontRead, AreOperandsRead, AreDecodersRead, concat-flat_map-append, mark_reader, front_reader, operands_reader, decoder_table_reader}

@@ -11,7 +11,7 @@ use Rattle.net_model.specs.declared.net.Net.{Net}
 use Rattle.node_program.specs.Code.{choice_of}
 use Rattle.node_program.specs.declared.code.Code.{Code}
 use Rattle.code_file.specs.Items.{IsFileOf, bytes_in, bytes_of, code_mark, code_versions}
-use Rattle.code_items.specs.Reading.{Rest, Reading, Refusable, ◌>>=◌, Front, decoder_table_at, front_at, has_field, mark_at, operand_table_at}
+use Rattle.code_items.specs.Reading.{Rest, Reading, Refusable, ◌>>=◌, decoder_table_at, front_at, has_field, mark_at, operand_table_at}
 use Rattle.code_file.specs.Reading.{Contents, contents_of}
 use Rattle.code_file.specs.Spelling.{contents_in, spelling_of, AreContents}
 use Rattle.code_file.proofs.SpellingLaws.{spelling_of-contents_in}

@@ -1,5 +1,5 @@
 -- How much room a file takes.
-use Rattle.std.specs.Prelude.{◌≡◌, ◌+◌, ℕ, ◌-◌, ◌^◌, min, ◌++◌}
+use Rattle.std.specs.Prelude.{◌≡◌, ◌+◌, ℕ, ◌-◌, ◌^◌, ◌++◌}
 use Rattle.std.proofs.Common.{arith, ◌∙◌}
 use Rattle.node_program.specs.declared.code.Code.{Code}
 use Rattle.code_items.specs.Items.{operand_table_items, decoders_items}
