@@ -1,5 +1,6 @@
 -- What the items of the parts say one by one is what holds of a network and of a code.
 use Rattle.std.specs.Prelude.{◌≡◌, ℕ, zero, suc, ◌+◌, ◌*◌, ◌<◌, ◌≤◌, Bool, true, false, ◌&&◌, ◌==◌, nat_eq, nat_lt, None, List, [], ◌∷◌, ◌++◌, length, map, drop, slice_index, codes, if◌then◌else◌}
+use Rattle.std.specs.Bool.{MatchBool}
 use Rattle.std.specs.List.{list_all, list_any}
 use Rattle.std.specs.Str.{bytes_eq}
 use Rattle.std.proofs.Common.{refl, sym, subst, ap, ◌∙◌, append_assoc, get_or, length-append, arith}
@@ -30,7 +31,7 @@ use Rattle.code_items.specs.Spelling.{front_of}
 use Rattle.code_items.specs.Written.{has_elements, has_size}
 use Rattle.code_items.proofs.Readers.{AllAfter, EachFits, FitsAfter}
 use Rattle.code_items.proofs.FrontReaders.{NameAfter, LinkAfter, SinkAfter, LinkNumberAfter, PatternAfter}
-use Rattle.code_items.proofs.PartReaders.{OperandAfter, AreOperandsRead, AreDecodersBy, AreDecodersRead, DecoderLinkAfter, IsDecoderRead, IsFrontRead, IsSharedRead}
+use Rattle.code_items.proofs.PartReaders.{OperandAfter, AreOperandsRead, AreDecodersRead, DecoderLinkAfter, IsDecoderRead, IsFrontRead, IsSharedRead}
 use Rattle.code_items.proofs.SharingLaws.{IsFirst-from_same, same_of-within}
 use Rattle.code_items.proofs.AfterLaws.{Rises, LeadsOn, AllAfter-weaker, AllAfter-both, AllAfter-map, AllAfter-from_map, AllAfter-from_list_all, list_all-from_AllAfter, are_distinct-from_AllAfter, AllAfter-from_are_distinct, are_names-from_AllAfter, AllAfter-from_are_names, is_rising-from_AllAfter, AllAfter-from_is_rising, length-is_rising, are_in_order-from_AllAfter, AllAfter-from_are_in_order}
 
@@ -246,14 +247,14 @@ IsFrontRead-from_network version front says_field is some_rate low_rate few_dema
 
 module _ {X Y : Type 0} (Fits : X → Y → Type 0) where
   -- items that fit one by one are as many
-  pub EachFits-length : (xs : List X) (ys : List Y) → EachFits Fits xs ys → length xs ≡ length ys
+  EachFits-length : (xs : List X) (ys : List Y) → EachFits Fits xs ys → length xs ≡ length ys
   EachFits-length [] [] fit = refl
   EachFits-length [] (y ∷ ys) fit = absurd fit
   EachFits-length (x ∷ xs) [] fit = absurd fit
   EachFits-length (x ∷ xs) (y ∷ ys) fit = ap suc (EachFits-length xs ys fit.1)
 
   -- those at one place fit
-  pub EachFits-at : (xs : List X) (ys : List Y) (d : X) (e : Y) (i : ℕ) → EachFits Fits xs ys → i < length ys → Fits (get_or xs i d) (get_or ys i e)
+  EachFits-at : (xs : List X) (ys : List Y) (d : X) (e : Y) (i : ℕ) → EachFits Fits xs ys → i < length ys → Fits (get_or xs i d) (get_or ys i e)
   EachFits-at [] [] d e i fit within = absurd (omega arith)
   EachFits-at [] (y ∷ ys) d e i fit within = absurd fit
   EachFits-at (x ∷ xs) [] d e i fit within = absurd fit
@@ -261,7 +262,7 @@ module _ {X Y : Type 0} (Fits : X → Y → Type 0) where
   EachFits-at (x ∷ xs) (y ∷ ys) d e (suc i) fit within = EachFits-at xs ys d e i fit.1 (omega arith)
 
   -- and one more of each
-  pub EachFits-more : (xs : List X) (ys : List Y) (x : X) (y : Y) → EachFits Fits xs ys → Fits x y → EachFits Fits (xs ++ x ∷ []) (ys ++ y ∷ [])
+  EachFits-more : (xs : List X) (ys : List Y) (x : X) (y : Y) → EachFits Fits xs ys → Fits x y → EachFits Fits (xs ++ x ∷ []) (ys ++ y ∷ [])
   EachFits-more [] [] x y fit one = (one, tt)
   EachFits-more [] (z ∷ ys) x y fit one = absurd fit
   EachFits-more (z ∷ xs) [] x y fit one = absurd fit
@@ -341,20 +342,22 @@ module _ (front : Front) where
 
 -- each decoder that is said is that of its sink, in each version
 pub EachFits-from_read : (version : ℕ) (front : Front) (decoders : List Decoder) → AreDecodersRead version front decoders → EachFits (IsDecoderRead front) (demand_sinks front) decoders
-EachFits-from_read version front decoders said = either (version == 1) said
-  where
-    either : (one : Bool) → AreDecodersBy one front decoders → EachFits (IsDecoderRead front) (demand_sinks front) decoders
-    either true said = said
-    either false said = EachFits-from_shared front (demand_sinks front) [] (demand_sinks front) [] decoders refl tt said
+EachFits-from_read version front decoders =
+    let sinks = demand_sinks front in
+    elim (version == 1) as (λ first. MatchBool first (EachFits (IsDecoderRead front) sinks decoders) (FitsAfter (IsSharedRead front sinks) [] sinks decoders) → EachFits (IsDecoderRead front) sinks decoders) [
+      | true ↦ λ said. said
+      | false ↦ EachFits-from_shared front sinks [] sinks [] decoders refl tt
+    ]
 
 -- and the other way round
 AreDecodersRead-from_each : (version : ℕ) (front : Front) (decoders : List Decoder) → 1 ≤ front.rate → length decoders ≤ 65536 → EachFits (IsDecoderRead front) (demand_sinks front) decoders
     → AreDecodersRead version front decoders
-AreDecodersRead-from_each version front decoders some_rate few each = either (version == 1)
-  where
-    either : (one : Bool) → AreDecodersBy one front decoders
-    either true = each
-    either false = FitsAfter-from_each front (demand_sinks front) [] (demand_sinks front) [] decoders refl some_rate (omega arith) tt each
+AreDecodersRead-from_each version front decoders some_rate few each =
+    let sinks = demand_sinks front in
+    elim (version == 1) as (λ first. MatchBool first (EachFits (IsDecoderRead front) sinks decoders) (FitsAfter (IsSharedRead front sinks) [] sinks decoders)) [
+      | true ↦ each
+      | false ↦ FitsAfter-from_each front sinks [] sinks [] decoders refl some_rate (omega arith) tt each
+    ]
 
 -- ---- the operands and the decoders of a code
 
@@ -464,13 +467,18 @@ module _ (net : Net) (rate : ℕ) (field : FieldKind) where
       let parts = and_parts _ _ are in
       (IsDecoderRead-from_code sink decoder few parts.0, EachFits-from_decoders_of_code sinks decoders few parts.1)
 
-  -- in each version
+  -- so there is one for each demand
+  pub length-decoders_of_code : (decoders : List Decoder) → length net.links ≤ 8192 → are_decoders net rate field (sinks_of_demands net) decoders ≡ true → length decoders ≡ demand_count net
+  length-decoders_of_code decoders few are =
+      let sinks = sinks_of_demands net in
+      omega (arith, length-sinks_of_demands net, EachFits-length (IsDecoderRead (front_of net rate field)) sinks decoders (EachFits-from_decoders_of_code sinks decoders few are))
+
+  -- and they are read in each version
   pub AreDecodersRead-from_code : (version : ℕ) (decoders : List Decoder) → length net.links ≤ 8192 → 1 ≤ rate → demand_count net ≤ 65536 → are_decoders net rate field (sinks_of_demands net) decoders ≡ true
       → AreDecodersRead version (front_of net rate field) decoders
   AreDecodersRead-from_code version decoders few some_rate few_demands are =
-      let each = EachFits-from_decoders_of_code (sinks_of_demands net) decoders few are in
-      AreDecodersRead-from_each version (front_of net rate field) decoders some_rate
-      (omega (arith, few_demands, length-sinks_of_demands net, EachFits-length (IsDecoderRead (front_of net rate field)) (sinks_of_demands net) decoders each)) each
+      AreDecodersRead-from_each version (front_of net rate field) decoders some_rate (omega (arith, few_demands, length-decoders_of_code decoders few are))
+      (EachFits-from_decoders_of_code (sinks_of_demands net) decoders few are)
 
   -- what is read with the parts of a network makes a code with it
   pub IsCode-from_read : (version : ℕ) (operands : List (List Operand)) (decoders : List Decoder) → net.field ≡ choice_of field → net.wanted ≡ None

@@ -13,7 +13,7 @@ use Rattle.node_program.specs.declared.Decoder.{Decoder}
 use Rattle.code_items.specs.Sharing.{is_same_decoder, is_shared, same_of, decoder_of, no_decoder, shares}
 
 -- two decoders of the same links and the same entries are one
-decoders_same : (one other : Decoder) → one.links ≡ other.links → one.entries ≡ other.entries → one ≡ other
+pub decoders_same : (one other : Decoder) → one.links ≡ other.links → one.entries ≡ other.entries → one ≡ other
 decoders_same one other links entries = λ i. record { links = links i; entries = entries i }
 
 -- the test tells whether two decoders are one
