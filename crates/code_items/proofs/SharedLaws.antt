@@ -45,36 +45,6 @@ IsTaken-from_read front sink rest left decoder fits read =
       text = rw (taken, took.0.parts) (take-append_seam text left.bytes);
     }
 
--- a decoder is that of one among more, or of the last
-is_shared-push : (earlier : List Decoder) (one decoder : Decoder) → is_shared (earlier ++ one ∷ []) decoder ≡ (is_shared earlier decoder || (is_same_decoder decoder one || false))
-is_shared-push earlier one decoder = list_any-append (is_same_decoder decoder) earlier (one ∷ [])
-
--- one more decoder and its text
-pub AreTexts-push : (field : FieldKind) (rate : ℕ) (texts : List (List ℕ)) (earlier : List Decoder) (one : Decoder) → has_size rate one ≡ true → has_elements field one ≡ true
-    → AreTexts field rate texts earlier → AreTexts field rate (texts ++ decoder_text field one ∷ []) (earlier ++ one ∷ [])
-AreTexts-push field rate texts earlier one sized fit are decoder sized' fit' =
-    let text = decoder_text field decoder in
-    let decides = is_same_decoder-Decides decoder one in
-    let same : bytes_eq text (decoder_text field one) ≡ is_same_decoder decoder one =
-      same_from_decides _ _ (bytes_eq-Decides text (decoder_text field one))
-      (λ is. ap (decoder_text field) (decides.0 is), λ is. decides.1 (decoder_text-same field rate decoder one sized' fit' sized fit is)) in
-    list_any-append (bytes_eq text) texts (decoder_text field one ∷ [])
-    ∙ ap (λ (b : Bool). b || (bytes_eq text (decoder_text field one) || false)) (are decoder sized' fit')
-    ∙ ap (λ (b : Bool). is_shared earlier decoder || (b || false)) same
-    ∙ sym (is_shared-push earlier one decoder)
-
--- one more of the same decoders
-pub AreTexts-again : (field : FieldKind) (rate : ℕ) (texts : List (List ℕ)) (earlier : List Decoder) (one : Decoder) → is_shared earlier one ≡ true
-    → AreTexts field rate texts earlier → AreTexts field rate texts (earlier ++ one ∷ [])
-AreTexts-again field rate texts earlier one known are decoder sized fit =
-    are decoder sized fit ∙ sym (is_shared-push earlier one decoder ∙ absorb (is_shared earlier decoder) (is_same_decoder decoder one)
-    (λ same. subst (λ (d : Decoder). is_shared earlier d ≡ true) (sym ((is_same_decoder-Decides decoder one).0 same)) known))
-  where
-    absorb : (a b : Bool) → (b ≡ true → a ≡ true) → (a || (b || false)) ≡ a
-    absorb true b implied = refl
-    absorb false true implied = sym (implied refl)
-    absorb false false implied = refl
-
 -- an earlier demand's decoder is shared
 pub is_shared-earlier : (earlier : List Decoder) (demand : ℕ) → demand < length earlier → is_shared earlier (decoder_of earlier demand) ≡ true
 is_shared-earlier earlier demand below =

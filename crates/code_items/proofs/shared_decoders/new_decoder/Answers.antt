@@ -6,7 +6,8 @@ use Rattle.code_items.specs.Reading.{new_decoder_at}
 use Rattle.code_items.specs.Gives.{left_of}
 use Rattle.code_items.specs.Parts.{front_seen}
 use Rattle.code_items.specs.Sharing.{is_shared}
-use Rattle.code_items.proofs.SharedLaws.{IsTaken, IsTaken-from_read, AreTexts-push}
+use Rattle.code_items.proofs.SharedLaws.{IsTaken-from_read}
+use Rattle.code_items.proofs.TextLaws.{AreTexts-push}
 use Rattle.code_items.proofs.shared_decoders.new_decoder.Goals as goal
 
 pub returns-in_err-decoder-clause-reads : goal.returns-in_err-decoder-clause-reads
