@@ -1,5 +1,7 @@
 pub mod CodeReaders
 pub mod ContentsLaws
 pub mod ReadingLaws
+pub mod RoomLaws
 pub mod SpellingLaws
 pub mod Refusals
+pub mod WrittenLaws

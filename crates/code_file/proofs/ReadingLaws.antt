@@ -1,22 +1,24 @@
 -- Reading and spelling code files: a file that's read is the one spelling of what it says, and that's what a code has;
--- the file of a code is read; and a file that's no code's is refused.
-use Rattle.std.specs.Prelude.{◌≡◌, ℕ, ◌+◌, Bool, true, false, ◌==◌, List, [], ◌++◌, length, codes, None, Result, Ok, Err, if◌then◌else◌}
+-- the files of a code are read; and a file that's no code's is refused.
+use Rattle.std.specs.Prelude.{◌≡◌, ℕ, ◌+◌, Bool, true, false, ◌==◌, List, [], ◌++◌, length, None, Result, Ok, Err, if◌then◌else◌}
 use Rattle.std.proofs.Common.{refl, sym, subst, ap, ◌∙◌, append-nil, arith}
 use Rattle.std.proofs.lemmas.Bool.{eqb-true}
 use Rattle.std.proofs.lemmas.List.{nil_from_length}
+use Rattle.gf_tables.specs.declared.kind.FieldKind.{FieldKind}
+use Rattle.gf_tables.specs.declared.kind.FieldKind.TheVariants.{Eight, Nine, Sixteen}
+use Rattle.net_model.specs.Lists.{is_among}
 use Rattle.net_model.specs.declared.net.Net.{Net}
 use Rattle.node_program.specs.Code.{choice_of}
-use Rattle.node_program.specs.declared.Operand.{Operand}
-use Rattle.node_program.specs.declared.Decoder.{Decoder}
 use Rattle.node_program.specs.declared.code.Code.{Code}
-use Rattle.code_file.specs.Items.{bytes_of}
-use Rattle.code_items.specs.Reading.{Rest, Reading, ◌>>=◌, Front, each_at, front_at, operands_at_link, decoder_at, demand_sinks}
+use Rattle.code_file.specs.Items.{IsFileOf, bytes_in, bytes_of, code_mark, code_versions}
+use Rattle.code_items.specs.Reading.{Rest, Reading, Refusable, ◌>>=◌, Front, decoder_table_at, front_at, has_field, mark_at, operand_table_at}
 use Rattle.code_file.specs.Reading.{Contents, contents_of}
 use Rattle.code_file.specs.Spelling.{contents_in, spelling_of, AreContents}
 use Rattle.code_file.proofs.SpellingLaws.{spelling_of-contents_in}
 use Rattle.code_items.proofs.Readers.{ok_of, IsBytes, bind_ok, ok_is}
 use Rattle.code_file.proofs.CodeReaders.{AreContentsRead, body_at, body_reader}
 use Rattle.code_file.proofs.ContentsLaws.{AreContents-from_read, AreContentsRead-from_code}
+use Rattle.code_file.proofs.Refusals.{not_both}
 use Rattle.code_items.specs.declared.refusal.CodeRefusal.{CodeRefusal}
 use Rattle.code_items.specs.declared.refusal.CodeRefusal.TheVariants.{TrailingBytes}
 
@@ -28,40 +30,19 @@ start_of bytes = record { at = 0; bytes = bytes }
 abbrev end_of : Contents → Rest → Result Contents CodeRefusal
 end_of contents left = if length left.bytes == 0 then Ok contents else Err (TrailingBytes left.at)
 
--- the contents with these parts
-abbrev contents_with : Front → List (List Operand) → List Decoder → Contents
-contents_with front operands decoders = record { front = front; operands = operands; decoders = decoders }
-
--- contents that were read, and what is left
-abbrev body_of : Contents → Rest → Reading Contents
-body_of contents left = Ok (contents, left)
-
--- the end behind the decoders
-decoders_end : (front : Front) (operands : List (List Operand)) (read : Reading (List Decoder))
-    → ((read >>= λ decoders. body_of (contents_with front operands decoders.0) decoders.1) >>= λ body. end_of body.0 body.1) ≡ (read >>= λ decoders. end_of (contents_with front operands decoders.0) decoders.1)
-decoders_end front operands (Ok decoders) = refl
-decoders_end front operands (Err refusal) = refl
-
--- the end behind the operands
-operands_end : (front : Front) (read : Reading (List (List Operand)))
-    → ((read >>= λ operands. each_at (decoder_at front) (demand_sinks front) operands.1 >>= λ decoders. body_of (contents_with front operands.0 decoders.0) decoders.1) >>= λ body. end_of body.0 body.1)
-    ≡ (read >>= λ operands. each_at (decoder_at front) (demand_sinks front) operands.1 >>= λ decoders. end_of (contents_with front operands.0 decoders.0) decoders.1)
-operands_end front (Ok operands) = decoders_end front operands.0 (each_at (decoder_at front) (demand_sinks front) operands.1)
-operands_end front (Err refusal) = refl
-
--- the end behind the front
-front_end : (read : Reading Front)
-    → ((read >>= λ front. each_at (operands_at_link front.0) front.0.links front.1 >>= λ operands. each_at (decoder_at front.0) (demand_sinks front.0) operands.1
-    >>= λ decoders. body_of (contents_with front.0 operands.0 decoders.0) decoders.1) >>= λ body. end_of body.0 body.1)
-    ≡ (read >>= λ front. each_at (operands_at_link front.0) front.0.links front.1 >>= λ operands. each_at (decoder_at front.0) (demand_sinks front.0) operands.1
-    >>= λ decoders. end_of (contents_with front.0 operands.0 decoders.0) decoders.1)
-front_end (Ok front) = operands_end front.0 (each_at (operands_at_link front.0) front.0.links front.1)
-front_end (Err refusal) = refl
+-- a step, and then two more in a row
+two_after : {A B C : Type 0} (read : Refusable A) (f : A → Refusable B) (g : B → Refusable C) (both : A → Refusable C) → ((x : A) → (f x >>= g) ≡ both x) → ((read >>= f) >>= g) ≡ (read >>= both)
+two_after (Ok x) f g both same = same x
+two_after (Err refusal) f g both same = refl
 
 -- the body and the end
 contents_of-body : (bytes : List ℕ) → (body_at (start_of bytes) >>= λ body. end_of body.0 body.1) ≡ contents_of bytes
 unfolding body_at contents_of
-contents_of-body bytes = front_end (front_at (codes "LIFC") 1 (start_of bytes))
+contents_of-body bytes =
+    two_after (mark_at code_mark code_versions (start_of bytes)) _ _ _
+    (λ version. two_after (front_at version.0 version.1) _ _ _
+    (λ front. two_after (operand_table_at front.0 front.1) _ _ _
+    (λ operands. two_after (decoder_table_at version.0 front.0 operands.1) _ _ _ (λ decoders. refl))))
 
 -- at the end of a file nothing is left
 end_ok : (contents contents' : Contents) (left : Rest) → end_of contents left ≡ Ok contents' → (left.bytes ≡ []) × (contents ≡ contents')
@@ -86,37 +67,70 @@ AreContents-from_contents_of bytes contents fits e =
     let t = AreContentsRead-from_contents_of bytes contents fits e in
     (t.0, AreContents-from_read contents t.1)
 
--- a file that says what a code has is that of the code
-pub bytes_of-from_contents_of : (bytes : List ℕ) (code : Code) → IsBytes bytes → contents_of bytes ≡ Ok (contents_in code) → bytes ≡ bytes_of code
-bytes_of-from_contents_of bytes code fits e = (AreContentsRead-from_contents_of bytes (contents_in code) fits e).0 ∙ spelling_of-contents_in code
+-- a file that says what a code has is one of the code
+pub IsFileOf-from_contents_of : (version : ℕ) (bytes : List ℕ) (code : Code) → IsBytes bytes → contents_of bytes ≡ Ok (contents_in version code) → IsFileOf bytes code
+IsFileOf-from_contents_of version bytes code fits e =
+    let t = AreContentsRead-from_contents_of bytes (contents_in version code) fits e in
+    record { version = version; known = t.1.known; says_field = t.1.front.says_field; bytes_are = t.0 ∙ spelling_of-contents_in version code }
 
--- a file of a code and what stands behind it
-pub contents_of-bytes_of-append : (code : Code) (more : List ℕ)
-    → contents_of (bytes_of code ++ more) ≡ (if length more == 0 then Ok (contents_in code) else Err (TrailingBytes (length (bytes_of code))))
-contents_of-bytes_of-append code more =
-    let contents = contents_in code in
-    let at : 0 + length (spelling_of contents) ≡ length (bytes_of code) = omega (arith, ap (λ (t : List ℕ). length t) (spelling_of-contents_in code)) in
-    sym (contents_of-body (bytes_of code ++ more))
-    ∙ ap (λ (t : List ℕ). body_at (start_of (t ++ more)) >>= λ body. end_of body.0 body.1) (sym (spelling_of-contents_in code))
-    ∙ ap (λ (r : Reading Contents). r >>= λ body. end_of body.0 body.1) (body_reader.again 0 more contents (AreContentsRead-from_code code))
-    ∙ ap (λ (n : ℕ). if length more == 0 then ok_of contents else Err (TrailingBytes n)) at
+module _ (version : ℕ) (code : Code) (known : is_among code_versions version ≡ true) (says_field : has_field version code.field ≡ true) where
+  -- a file of a code and what stands behind it
+  pub contents_of-bytes_in-append : (more : List ℕ)
+      → contents_of (bytes_in version code ++ more) ≡ (if length more == 0 then Ok (contents_in version code) else Err (TrailingBytes (length (bytes_in version code))))
+  contents_of-bytes_in-append more =
+      let contents = contents_in version code in
+      let bytes = bytes_in version code in
+      let at : 0 + length (spelling_of contents) ≡ length bytes = omega (arith, ap (λ (t : List ℕ). length t) (spelling_of-contents_in version code)) in
+      sym (contents_of-body (bytes ++ more))
+      ∙ ap (λ (t : List ℕ). body_at (start_of (t ++ more)) >>= λ body. end_of body.0 body.1) (sym (spelling_of-contents_in version code))
+      ∙ ap (λ (r : Reading Contents). r >>= λ body. end_of body.0 body.1) (body_reader.again 0 more contents (AreContentsRead-from_code version code known says_field))
+      ∙ ap (λ (n : ℕ). if length more == 0 then ok_of contents else Err (TrailingBytes n)) at
 
--- The file of a code says what the code has.
-pub contents_of-bytes_of : (code : Code) → contents_of (bytes_of code) ≡ Ok (contents_in code)
-contents_of-bytes_of code = ap contents_of (sym (append-nil (bytes_of code))) ∙ contents_of-bytes_of-append code []
+  -- The file of a code in a version says what the code has.
+  pub contents_of-bytes_in : contents_of (bytes_in version code) ≡ Ok (contents_in version code)
+  contents_of-bytes_in = ap contents_of (sym (append-nil (bytes_in version code))) ∙ contents_of-bytes_in-append []
 
--- no file of a code begins another
-pub bytes_of-prefix : (one other : Code) (more : List ℕ) → bytes_of one ++ more ≡ bytes_of other → more ≡ []
-bytes_of-prefix one other more same =
-    either (length more == 0) refl (sym (contents_of-bytes_of-append one more) ∙ ap contents_of same ∙ contents_of-bytes_of other)
+-- each file of a code says what the code has
+pub contents_of-file : (bytes : List ℕ) (code : Code) (is : IsFileOf bytes code) → contents_of bytes ≡ Ok (contents_in is.version code)
+contents_of-file bytes code is = ap contents_of is.bytes_are ∙ contents_of-bytes_in is.version code is.known is.says_field
+
+-- so none is refused
+pub file_not_refused : (bytes : List ℕ) (code : Code) (why : CodeRefusal) → IsFileOf bytes code → contents_of bytes ≡ Err why → ⊥
+file_not_refused bytes code why is refused = not_both (contents_of bytes) (contents_in is.version code) why (contents_of-file bytes code is) refused
+
+-- a code over any field can stand in a file of version 2
+says_any_field : (field : FieldKind) → has_field 2 field ≡ true
+says_any_field Eight = refl
+says_any_field Nine = refl
+says_any_field Sixteen = refl
+
+-- what is written of a code is a file of it
+pub IsFileOf-bytes_of : (code : Code) → IsFileOf (bytes_of code) code
+IsFileOf-bytes_of code = record { version = 2; known = refl; says_field = says_any_field code.field; bytes_are = refl }
+
+-- it says what the code has
+pub contents_of-bytes_of : (code : Code) → contents_of (bytes_of code) ≡ Ok (contents_in 2 code)
+contents_of-bytes_of code = contents_of-file (bytes_of code) code (IsFileOf-bytes_of code)
+
+-- no file of a code, in whichever version, begins another file of one
+pub bytes_in-prefix : (bytes more : List ℕ) (one other : Code) → IsFileOf bytes one → IsFileOf (bytes ++ more) other → more ≡ []
+bytes_in-prefix bytes more one other is is' =
+    either (length more == 0) refl
+    (sym (contents_of-bytes_in-append is.version one is.known is.says_field more)
+    ∙ ap (λ (t : List ℕ). contents_of (t ++ more)) (sym is.bytes_are) ∙ contents_of-file (bytes ++ more) other is')
   where
-    either : (b : Bool) → (length more == 0) ≡ b → (if b then ok_of (contents_in one) else Err (TrailingBytes (length (bytes_of one)))) ≡ Ok (contents_in other) → more ≡ []
-    either true is e = nil_from_length more (eqb-true _ _ is)
-    either false is e = absurd cc
+    either : (b : Bool) → (length more == 0) ≡ b → (if b then ok_of (contents_in is.version one) else Err (TrailingBytes (length (bytes_in is.version one)))) ≡ Ok (contents_in is'.version other) → more ≡ []
+    either true none e = nil_from_length more (eqb-true _ _ none)
+    either false some e = absurd cc
 
 -- codes with one file have the same parts
-pub contents_in-same : (one other : Code) → bytes_of one ≡ bytes_of other → contents_in one ≡ contents_in other
-contents_in-same one other same = ok_is (contents_in one) (contents_in other) (sym (contents_of-bytes_of one) ∙ ap contents_of same ∙ contents_of-bytes_of other)
+pub contents_in-same : (bytes : List ℕ) (one other : Code) → IsFileOf bytes one → IsFileOf bytes other → (version : ℕ) → contents_in version one ≡ contents_in version other
+contents_in-same bytes one other is is' version =
+    ap (λ (contents : Contents). in_version contents)
+    (ok_is (contents_in is.version one) (contents_in is'.version other) (sym (contents_of-file bytes one is) ∙ contents_of-file bytes other is'))
+  where
+    in_version : Contents → Contents
+    in_version contents = record { version = version; front = contents.front; operands = contents.operands; decoders = contents.decoders }
 
 -- the code of contents
 unfoldable pub code_of : (contents : Contents) → AreContents contents → Code
@@ -141,5 +155,3 @@ code_of contents are =
       decoders = contents.decoders;
       code = are.code net refl refl refl refl refl refl refl;
     }
-
--- ---- the front alone

@@ -27,8 +27,7 @@ contents_behind version front rest = do
     front = front;
     operands = operands.0;
     decoders = decoders.0;
-  } in
-  if length decoders.1.bytes == 0 then Ok contents else Err (TrailingBytes decoders.1.at)
+  } in if length decoders.1.bytes == 0 then Ok contents else Err (TrailingBytes decoders.1.at)
 
 -- all of a code file
 unfoldable pub contents_of : List ℕ → Result Contents CodeRefusal

@@ -1,11 +1,13 @@
 -- An item under conditions is the item without, and then the conditions.
 use Rattle.std.proofs.Common.{◌≡◌, ℕ, ◌+◌, Bool, true, false, not, ◌||◌, cond, ltb, List, [], ◌∷◌, length, take, drop, slice_index, Ok, Err, refl}
-use Rattle.std.specs.Int.{w16, from_be_bytes}
+use Rattle.std.specs.Int.{w16, w32, from_be_bytes}
 use Rattle.gf_tables.specs.declared.kind.FieldKind.{FieldKind}
-use Rattle.gf_tables.specs.declared.kind.FieldKind.TheVariants.{Eight, Sixteen}
+use Rattle.gf_tables.specs.Product.{width_of}
+use Rattle.gf_tables.specs.declared.kind.Width.{Width}
+use Rattle.gf_tables.specs.declared.kind.Width.TheVariants.{One, Two}
 use Rattle.net_model.specs.Name.{is_name}
 use Rattle.code_items.specs.declared.refusal.CodeRefusal.TheVariants.{BadName, Truncated}
-use Rattle.code_items.specs.Reading.{Rest, Reading, ◌>>=◌, refused_first, item, byte_at, number_at, element_at, name_at, Conditions}
+use Rattle.code_items.specs.Reading.{Rest, Reading, ◌>>=◌, refused_first, item, byte_at, number_at, long_at, width_at, element_at, name_at, Conditions}
 
 item_by : (b : Bool) (at : ℕ) (x : List ℕ × Rest) (conditions : List ℕ → Conditions)
     → cond b (Err (Truncated at)) (refused_first (conditions x.0) x) ≡ (cond b (Err (Truncated at)) (Ok x) >>= λ it. refused_first (conditions it.0) it)
@@ -42,9 +44,17 @@ unfolding number_at
 number_checked rest conditions =
     rw (item_checked 2 rest (λ bytes. conditions (from_be_bytes w16 bytes))) (made_of (item 2 rest (λ _. [])) (λ it. from_be_bytes w16 it.0) conditions)
 
+pub long_checked : (rest : Rest) (conditions : ℕ → Conditions) → long_at rest conditions ≡ (long_at rest (λ _. []) >>= λ n. refused_first (conditions n.0) n)
+unfolding long_at
+long_checked rest conditions =
+    rw (item_checked 4 rest (λ bytes. conditions (from_be_bytes w32 bytes))) (made_of (item 4 rest (λ _. [])) (λ it. from_be_bytes w32 it.0) conditions)
+
+width_checked : (width : Width) (rest : Rest) (conditions : ℕ → Conditions) → width_at width rest conditions ≡ (width_at width rest (λ _. []) >>= λ n. refused_first (conditions n.0) n)
+width_checked One rest conditions = byte_checked rest conditions
+width_checked Two rest conditions = number_checked rest conditions
+
 pub element_checked : (field : FieldKind) (rest : Rest) (conditions : ℕ → Conditions) → element_at field rest conditions ≡ (element_at field rest (λ _. []) >>= λ n. refused_first (conditions n.0) n)
-element_checked Eight rest conditions = byte_checked rest conditions
-element_checked Sixteen rest conditions = number_checked rest conditions
+element_checked field = width_checked (width_of field)
 
 -- the bytes of a name
 abbrev name_in : List ℕ × Rest → List ℕ

@@ -1,18 +1,20 @@
 -- Readers of the parts of a code file up to the operands.
-use Rattle.std.specs.Prelude.{◌≡◌, ℕ, ◌+◌, ◌*◌, ◌<◌, ◌≤◌, true, false, not, ◌||◌, ◌==◌, nat_lt, List, [], ◌∷◌, ◌++◌, length, map, drop, ◌⊎◌, if◌then◌else◌}
+use Rattle.std.specs.Prelude.{◌≡◌, ℕ, ◌+◌, ◌*◌, ◌<◌, ◌≤◌, Bool, true, false, not, ◌||◌, ◌==◌, nat_lt, List, [], ◌∷◌, ◌++◌, length, map, drop, Option, Some, None, unwrap_or, if◌then◌else◌}
 use Rattle.std.specs.List.{concat, flat_map, list_any}
+use Rattle.std.specs.Option.{option_map_or}
 use Rattle.std.specs.Str.{bytes_eq}
-use Rattle.std.proofs.Common.{refl, sym, ap, ◌∙◌, append-nil, arith, inl, inr}
-use Rattle.std.proofs.lemmas.Bool.{or_parts, or_from, or_cases, or_left, or_right, not-false, not_from_true, ltb-true, ltb-false, lt-ltb, le-ltb, eqb-true, eqb-false, eq-eqb, ne_eqb}
-use Rattle.gf_tables.specs.Product.{mark_of}
+use Rattle.std.proofs.Common.{refl, sym, ap, ◌∙◌, append-nil, arith}
+use Rattle.std.proofs.lemmas.Option.{same_Some}
+use Rattle.std.proofs.lemmas.Bool.{or_parts, or_from, not-false, not_from_true, ltb-true, ltb-false, lt-ltb, le-ltb, eqb-true, eqb-false, ne_eqb, false≢true}
+use Rattle.gf_tables.specs.Product.{kind_of_mark, mark_of}
 use Rattle.gf_tables.specs.declared.kind.FieldKind.{FieldKind}
-use Rattle.gf_tables.specs.declared.kind.FieldKind.TheVariants.{Eight, Sixteen}
+use Rattle.gf_tables.specs.declared.kind.FieldKind.TheVariants.{Eight, Nine, Sixteen}
 use Rattle.net_model.specs.Lists.{is_among}
 use Rattle.net_model.specs.Name.{is_name}
 use Rattle.net_model.specs.declared.Link.{Link}
 use Rattle.net_model.specs.declared.Pattern.{Pattern}
 use Rattle.code_items.specs.Items.{byte_item, number_item, name_item, link_items, pattern_items}
-use Rattle.code_items.specs.Reading.{Rest, Reading, ◌>>=◌, repeated_at, is_above_last, field_at, rate_at, nodes_at, link_at, links_at, source_at, sinks_at, pattern_at, patterns_at, failed_at, sink_at, other_name_at, tails_of, none_pattern}
+use Rattle.code_items.specs.Reading.{Rest, Reading, ◌>>=◌, repeated_at, is_above_last, has_field, is_field, field_at, rate_at, nodes_at, link_at, links_at, source_at, sinks_at, pattern_at, patterns_at, failed_at, sink_at, other_name_at, tails_of, none_pattern}
 use Rattle.code_items.proofs.Readers.{IsReader, AllAfter, empty_reader, then_reader, same_reader, repeated_reader}
 use Rattle.code_items.proofs.ItemReaders.{AreConditions, byte_reader, number_reader, name_reader}
 use Rattle.code_items.specs.declared.refusal.CodeRefusal.TheVariants.{BadField, BadRate, BadIndex, OutOfOrder, NotRising, TooMany}
@@ -61,48 +63,62 @@ some_conditions limit = record {
 
 -- ---- the field and the rate
 
--- the marks of the two fields
-field_conditions : AreConditions (λ rest n. (not ((n == 8) || (n == 16)), BadField) ∷ []) (λ n. (n ≡ 8) ⊎ (n ≡ 16))
-field_conditions = record {
-  to = λ rest n none.
-      elim (or_cases (n == 8) (n == 16) (not-false _ none.0)) [
-        | inl is ↦ inl (eqb-true n 8 is)
-        | inr is ↦ inr (eqb-true n 16 is)
-      ];
-  from = λ rest n is.
-      elim is [
-        | inl e ↦ (not_from_true _ (or_left _ _ (eq-eqb n 8 e)), tt)
-        | inr e ↦ (not_from_true _ (or_right _ _ (eq-eqb n 16 e)), tt)
-      ];
-  not_memory = λ rest n. (refl, tt);
-}
-
--- every kind has a mark
-mark_fits : (field : FieldKind) → (mark_of field ≡ 8) ⊎ (mark_of field ≡ 16)
-mark_fits Eight = inl refl
-mark_fits Sixteen = inr refl
-
 -- a kind of field is that of its mark
-kind_of_mark : (field : FieldKind) → field ≡ (if mark_of field == 8 then Eight else Sixteen)
-kind_of_mark Eight = refl
-kind_of_mark Sixteen = refl
+kind_of_own_mark : (field : FieldKind) → kind_of_mark (mark_of field) ≡ Some field
+kind_of_own_mark Eight = refl
+kind_of_own_mark Nine = refl
+kind_of_own_mark Sixteen = refl
 
--- a mark is that of its kind of field
-mark_of_kind : (n : ℕ) → (n ≡ 8) ⊎ (n ≡ 16) → mark_of (if n == 8 then Eight else Sixteen) ≡ n
-mark_of_kind n (inl e) = rw e refl
-mark_of_kind n (inr e) = rw e refl
+-- a number that is a mark is that of its kind of field
+mark_of_kind : (n : ℕ) (field : FieldKind) → kind_of_mark n ≡ Some field → mark_of field ≡ n
+mark_of_kind n field is = either (n == 8) (n == 9) (n == 16) (eqb-true n 8) (eqb-true n 9) (eqb-true n 16) is
+  where
+    either : (eight nine sixteen : Bool) → (eight ≡ true → n ≡ 8) → (nine ≡ true → n ≡ 9) → (sixteen ≡ true → n ≡ 16)
+        → (if eight then Some Eight else if nine then Some Nine else if sixteen then Some Sixteen else None) ≡ Some field → mark_of field ≡ n
+    either true nine sixteen e f g is = rw (e refl) (sym (ap mark_of (same_Some Eight field is)))
+    either false true sixteen e f g is = rw (f refl) (sym (ap mark_of (same_Some Nine field is)))
+    either false false true e f g is = rw (g refl) (sym (ap mark_of (same_Some Sixteen field is)))
+    either false false false e f g is = absurd cc
+
+-- a number that is a mark has a kind, which is a field of the version
+field_of_number : (version n : ℕ) → is_field version n ≡ true → (field : FieldKind) × (kind_of_mark n ≡ Some field) × (has_field version field ≡ true)
+field_of_number version n is = go (kind_of_mark n) refl is
+  where
+    go : (kind : Option FieldKind) → kind_of_mark n ≡ kind → option_map_or (has_field version) kind false ≡ true → (field : FieldKind) × (kind_of_mark n ≡ Some field) × (has_field version field ≡ true)
+    go None e is = absurd (false≢true is)
+    go (Some field) e is = (field, e, is)
 
 -- a mark fits a byte
 mark_small : (field : FieldKind) → mark_of field < 256
 mark_small Eight = omega arith
+mark_small Nine = omega arith
 mark_small Sixteen = omega arith
 
+-- the marks of the fields of a version
+field_conditions : (version : ℕ) → AreConditions (λ rest n. (not (is_field version n), BadField) ∷ []) (λ n. is_field version n ≡ true)
+field_conditions version = record {
+  to = λ rest n none. not-false _ none.0;
+  from = λ rest n is. (not_from_true _ is, tt);
+  not_memory = λ rest n. (refl, tt);
+}
+
 -- the field
-pub field_reader : IsReader field_at (λ field. byte_item (mark_of field)) (λ field. Unit {0})
+pub field_reader : (version : ℕ) → IsReader (field_at version) (λ field. byte_item (mark_of field)) (λ field. has_field version field ≡ true)
 unfolding field_at
-field_reader =
-    same_reader (then_reader mark_of (byte_reader field_conditions) (λ n. empty_reader (if n == 8 then Eight else Sixteen)) (λ n field fit is. ap mark_of is ∙ mark_of_kind n fit.1))
-    (λ field fit. refl) (λ field fit. tt) (λ field fit. ((mark_small field, mark_fits field), kind_of_mark field))
+field_reader version =
+    same_reader (then_reader mark_of (byte_reader (field_conditions version)) (λ n. empty_reader (unwrap_or (kind_of_mark n) Eight))
+    (λ n field fit is.
+        let of = field_of_number version n fit.1 in
+        let same : field ≡ of.0 = is ∙ ap (λ (kind : Option FieldKind). unwrap_or kind Eight) of.1 in
+        ap mark_of same ∙ mark_of_kind n of.0 of.1))
+    (λ field fit. refl)
+    (λ field fit.
+        let of = field_of_number version (mark_of field) fit.0.1 in
+        let same : field ≡ of.0 = same_Some field of.0 (sym (kind_of_own_mark field) ∙ of.1) in
+        ap (has_field version) same ∙ of.2)
+    (λ field fit.
+        let own = kind_of_own_mark field in
+        ((mark_small field, ap (λ (kind : Option FieldKind). option_map_or (has_field version) kind false) own ∙ fit), sym (ap (λ (kind : Option FieldKind). unwrap_or kind Eight) own)))
 
 -- the limits of the rate
 rate_conditions : AreConditions (λ rest n. ((n == 0) || nat_lt 32 n, BadRate) ∷ []) (λ n. (1 ≤ n) × (n ≤ 32))

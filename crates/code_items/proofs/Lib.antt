@@ -4,9 +4,11 @@ pub mod ItemReaders
 pub mod PartLaws
 pub mod PartReaders
 pub mod Readers
+pub mod SharingLaws
 pub mod Above
 pub mod Checks
 pub mod Joined
 pub mod Loop
 pub mod Named
 pub mod Sizes
+pub mod TextLaws

@@ -1,15 +1,17 @@
 -- What the items of the parts say one by one is what holds of a network and of a code.
-use Rattle.std.specs.Prelude.{◌≡◌, ℕ, suc, ◌+◌, ◌*◌, ◌<◌, ◌≤◌, Bool, true, false, ◌&&◌, ◌==◌, nat_eq, nat_lt, None, List, [], ◌∷◌, length, map, drop, codes, if◌then◌else◌}
+use Rattle.std.specs.Prelude.{◌≡◌, ℕ, zero, suc, ◌+◌, ◌*◌, ◌<◌, ◌≤◌, Bool, true, false, ◌&&◌, ◌==◌, nat_eq, nat_lt, None, List, [], ◌∷◌, ◌++◌, length, map, drop, slice_index, codes, if◌then◌else◌}
+use Rattle.std.specs.Bool.{MatchBool}
 use Rattle.std.specs.List.{list_all, list_any}
 use Rattle.std.specs.Str.{bytes_eq}
-use Rattle.std.proofs.Common.{refl, sym, subst, ap, ◌∙◌, arith}
+use Rattle.std.proofs.Common.{refl, sym, subst, ap, ◌∙◌, append_assoc, get_or, length-append, arith}
 use Rattle.std.proofs.lemmas.Bool.{false≢true, and_parts, and_from, or_parts, not-true, not_from_false, eqb-true, eq-eqb, ltb-true, lt-ltb}
-use Rattle.std.proofs.lemmas.List.{nil_from_length, length-map}
+use Rattle.std.proofs.lemmas.List.{get_or_append_left, nil_from_length, length-map}
 use Rattle.std.proofs.lemmas.List.Folds.{list_all-map}
 use Rattle.std.proofs.lemmas.Slice.Eq.{bytes_eq-Decides}
 use Rattle.gf_tables.specs.Product.{size_of}
 use Rattle.gf_tables.specs.declared.kind.FieldKind.{FieldKind}
-use Rattle.net_model.specs.Demands.{sinks_of_demands}
+use Rattle.failure_patterns.proofs.DemandLaws.{length-sinks_of_demands}
+use Rattle.net_model.specs.Demands.{demand_count, sinks_of_demands}
 use Rattle.net_model.specs.Lists.{are_distinct, is_rising, is_among}
 use Rattle.std.proofs.lemmas.Cmp.{nat_eq_equiv}
 use Rattle.item_list.proofs.Tests.{list_all-implied, list_any-map}
@@ -20,14 +22,18 @@ use Rattle.net_model.specs.declared.Link.{Link}
 use Rattle.net_model.specs.declared.Pattern.{Pattern}
 use Rattle.net_model.specs.declared.net.Net.{Net}
 use Rattle.node_program.proofs.DecodingLaws.{link_within}
+use Rattle.node_program.proofs.LinkLaws.{head_of-leads_into}
 use Rattle.node_program.specs.Code.{choice_of, leads_into, are_in_order, is_source_of, are_operands, are_operands_of, is_decoder, are_decoders, IsCode}
 use Rattle.node_program.specs.declared.Operand.{Operand}
 use Rattle.node_program.specs.declared.Decoder.{Decoder}
-use Rattle.code_items.specs.Reading.{Front, names_of, none_pattern}
+use Rattle.code_items.specs.Reading.{Front, has_field, demand_sinks, names_of, none_pattern}
+use Rattle.code_items.specs.Sharing.{decoder_of, no_decoder, same_of}
 use Rattle.code_items.specs.Spelling.{front_of}
-use Rattle.code_items.proofs.Readers.{AllAfter, EachFits}
+use Rattle.code_items.specs.Written.{has_elements, has_size}
+use Rattle.code_items.proofs.Readers.{AllAfter, EachFits, FitsAfter}
 use Rattle.code_items.proofs.FrontReaders.{NameAfter, LinkAfter, SinkAfter, LinkNumberAfter, PatternAfter}
-use Rattle.code_items.proofs.PartReaders.{OperandAfter, AreOperandsRead, DecoderLinkAfter, IsDecoderRead, IsFrontRead}
+use Rattle.code_items.proofs.PartReaders.{OperandAfter, AreOperandsRead, AreDecodersRead, DecoderLinkAfter, IsDecoderRead, IsFrontRead, IsSharedRead}
+use Rattle.code_items.proofs.SharingLaws.{IsFirst-from_same, same_of-within}
 use Rattle.code_items.proofs.AfterLaws.{Rises, LeadsOn, AllAfter-weaker, AllAfter-both, AllAfter-map, AllAfter-from_map, AllAfter-from_list_all, list_all-from_AllAfter, are_distinct-from_AllAfter, AllAfter-from_are_distinct, are_names-from_AllAfter, AllAfter-from_are_names, is_rising-from_AllAfter, AllAfter-from_is_rising, are_in_order-from_AllAfter, AllAfter-from_are_in_order}
 
 -- ---- links
@@ -176,8 +182,8 @@ PatternAfter-from_network links listed few names are =
 -- ---- the front
 
 -- what is read up to the operands is a network
-pub IsNetwork-from_read : (front : Front) → IsFrontRead front → IsNetwork front.nodes front.links front.source front.sinks front.patterns
-IsNetwork-from_read front is =
+pub IsNetwork-from_read : (version : ℕ) (front : Front) → IsFrontRead version front → IsNetwork front.nodes front.links front.source front.sinks front.patterns
+IsNetwork-from_read version front is =
     let nodes = length front.nodes in
     let listed = drop 1 front.patterns in
     let back : none_pattern ∷ listed ≡ front.patterns = sym is.patterns.none_first in
@@ -198,15 +204,15 @@ IsNetwork-from_read front is =
     }
 
 -- it has few demands
-pub few_demands-from_read : (front : Front) → IsFrontRead front → length front.sinks * length front.patterns ≤ 65536
-few_demands-from_read front is =
+pub few_demands-from_read : (version : ℕ) (front : Front) → IsFrontRead version front → length front.sinks * length front.patterns ≤ 65536
+few_demands-from_read version front is =
     let count : length front.patterns ≡ length (drop 1 front.patterns) + 1 = ap (λ (ps : List Pattern). length ps) is.patterns.none_first ∙ omega arith in
     rw count is.patterns.few_demands
 
--- a network with few demands and with links in order is read
-pub IsFrontRead-from_network : (front : Front) → IsNetwork front.nodes front.links front.source front.sinks front.patterns → 1 ≤ front.rate → front.rate ≤ 32
-    → length front.sinks * length front.patterns ≤ 65536 → are_in_order [] front.links ≡ true → IsFrontRead front
-IsFrontRead-from_network front is some_rate low_rate few_demands order =
+-- a network with few demands and with links in order is read, over a field of the version
+pub IsFrontRead-from_network : (version : ℕ) (front : Front) → has_field version front.field ≡ true → IsNetwork front.nodes front.links front.source front.sinks front.patterns
+    → 1 ≤ front.rate → front.rate ≤ 32 → length front.sinks * length front.patterns ≤ 65536 → are_in_order [] front.links ≡ true → IsFrontRead version front
+IsFrontRead-from_network version front says_field is some_rate low_rate few_demands order =
     let nodes = length front.nodes in
     let links = length front.links in
     let listed = drop 1 front.patterns in
@@ -216,6 +222,7 @@ IsFrontRead-from_network front is some_rate low_rate few_demands order =
     let sinks : length front.sinks ≤ nodes =
     length-are_distinct front.sinks nodes is.distinct_sinks (list_all-implied (is_sink_among nodes front.source) (λ sink. nat_lt sink nodes) front.sinks (λ sink among. (and_parts _ _ among).0) is.sink_nodes) in
     record {
+      says_field = says_field;
       some_rate = some_rate;
       low_rate = low_rate;
       few_nodes = is.few_nodes;
@@ -237,7 +244,123 @@ IsFrontRead-from_network front is some_rate low_rate few_demands order =
       };
     }
 
--- ---- the operands and the decoders
+-- ---- the decoders by the version
+
+module _ {X Y : Type 0} (Fits : X → Y → Type 0) where
+  -- items that fit one by one are as many
+  EachFits-length : (xs : List X) (ys : List Y) → EachFits Fits xs ys → length xs ≡ length ys
+  EachFits-length [] [] fit = refl
+  EachFits-length [] (y ∷ ys) fit = absurd fit
+  EachFits-length (x ∷ xs) [] fit = absurd fit
+  EachFits-length (x ∷ xs) (y ∷ ys) fit = ap suc (EachFits-length xs ys fit.1)
+
+  -- those at one place fit
+  EachFits-at : (xs : List X) (ys : List Y) (d : X) (e : Y) (i : ℕ) → EachFits Fits xs ys → i < length ys → Fits (get_or xs i d) (get_or ys i e)
+  EachFits-at [] [] d e i fit within = absurd (omega arith)
+  EachFits-at [] (y ∷ ys) d e i fit within = absurd fit
+  EachFits-at (x ∷ xs) [] d e i fit within = absurd fit
+  EachFits-at (x ∷ xs) (y ∷ ys) d e zero fit within = fit.0
+  EachFits-at (x ∷ xs) (y ∷ ys) d e (suc i) fit within = EachFits-at xs ys d e i fit.1 (omega arith)
+
+  -- and one more of each
+  EachFits-more : (xs : List X) (ys : List Y) (x : X) (y : Y) → EachFits Fits xs ys → Fits x y → EachFits Fits (xs ++ x ∷ []) (ys ++ y ∷ [])
+  EachFits-more [] [] x y fit one = (one, tt)
+  EachFits-more [] (z ∷ ys) x y fit one = absurd fit
+  EachFits-more (z ∷ xs) [] x y fit one = absurd fit
+  EachFits-more (z ∷ xs) (w ∷ ys) x y fit one = (fit.0, EachFits-more xs ys x y fit.1 one)
+
+module _ (front : Front) where
+  -- a decoder with links is that of one sink
+  one_sink : (one other : ℕ) (decoder : Decoder) → 1 ≤ front.rate → IsDecoderRead front one decoder → IsDecoderRead front other decoder → one ≡ other
+  one_sink one other decoder some_rate is is' = either decoder.links (omega (arith, is.link_count)) is.links is'.links
+    where
+      either : (links : List ℕ) → 0 < length links → AllAfter (DecoderLinkAfter front one) [] links → AllAfter (DecoderLinkAfter front other) [] links → one ≡ other
+      either [] some all all' = absurd (omega arith)
+      either (link ∷ links) some all all' = sym (head_of-leads_into front.links one link all.0.into) ∙ head_of-leads_into front.links other link all'.0.into
+
+  module _ (all : List ℕ) where
+    -- the decoder that a number names is that of its sink
+    named_decoder : (passed later : List ℕ) (earlier : List Decoder) (demand : ℕ) (decoder : Decoder) → all ≡ passed ++ later → EachFits (IsDecoderRead front) passed earlier
+        → same_of earlier decoder ≡ suc demand → IsDecoderRead front (slice_index all demand) decoder
+    named_decoder passed later earlier demand decoder whole own same =
+        let first = IsFirst-from_same earlier decoder demand same in
+        let within : demand < length passed = omega (arith, first.below, EachFits-length (IsDecoderRead front) passed earlier own) in
+        let sink : slice_index passed demand ≡ slice_index all demand = sym (get_or_append_left passed later 0 demand within) ∙ ap (λ (sinks : List ℕ). slice_index sinks demand) (sym whole) in
+        subst (λ (d : Decoder). IsDecoderRead front (slice_index all demand) d) first.is
+        (subst (λ (sink : ℕ). IsDecoderRead front sink (decoder_of earlier demand)) sink (EachFits-at (IsDecoderRead front) passed earlier 0 no_decoder demand own first.below))
+
+    -- each decoder that is said in view of the earlier ones is that of its sink
+    EachFits-from_shared : (passed later : List ℕ) (earlier decoders : List Decoder) → all ≡ passed ++ later → EachFits (IsDecoderRead front) passed earlier
+        → FitsAfter (IsSharedRead front all) earlier later decoders → EachFits (IsDecoderRead front) later decoders
+    EachFits-from_shared passed [] earlier [] whole own said = tt
+    EachFits-from_shared passed [] earlier (decoder ∷ decoders) whole own said = absurd said
+    EachFits-from_shared passed (sink ∷ later) earlier [] whole own said = absurd said
+    EachFits-from_shared passed (sink ∷ later) earlier (decoder ∷ decoders) whole own said =
+        let here = either (same_of earlier decoder) refl in
+        (here, EachFits-from_shared (passed ++ sink ∷ []) later (earlier ++ decoder ∷ []) decoders (whole ∙ sym (append_assoc passed (sink ∷ []) later))
+        (EachFits-more (IsDecoderRead front) passed earlier sink decoder own here) said.1)
+      where
+        either : (same : ℕ) → same_of earlier decoder ≡ same → IsDecoderRead front sink decoder
+        either zero is = said.0.own is
+        either (suc demand) is =
+            subst (λ (sink : ℕ). IsDecoderRead front sink decoder) (said.0.same_sink demand is) (named_decoder passed (sink ∷ later) earlier demand decoder whole own is)
+
+    -- and the other way round
+    FitsAfter-from_each : (passed later : List ℕ) (earlier decoders : List Decoder) → all ≡ passed ++ later → 1 ≤ front.rate → length earlier + length decoders ≤ 65536
+        → EachFits (IsDecoderRead front) passed earlier → EachFits (IsDecoderRead front) later decoders → FitsAfter (IsSharedRead front all) earlier later decoders
+    FitsAfter-from_each passed [] earlier [] whole some_rate few own each = tt
+    FitsAfter-from_each passed [] earlier (decoder ∷ decoders) whole some_rate few own each = absurd each
+    FitsAfter-from_each passed (sink ∷ later) earlier [] whole some_rate few own each = absurd each
+    FitsAfter-from_each passed (sink ∷ later) earlier (decoder ∷ decoders) whole some_rate few own each =
+        (record {
+          fits = omega (arith, same_of-within earlier decoder);
+          own = λ none. each.0;
+          same_sink = λ demand is. one_sink (slice_index all demand) sink decoder some_rate (named_decoder passed (sink ∷ later) earlier demand decoder whole own is) each.0;
+        },
+        FitsAfter-from_each (passed ++ sink ∷ []) later (earlier ++ decoder ∷ []) decoders (whole ∙ sym (append_assoc passed (sink ∷ []) later)) some_rate
+        (omega (arith, length-append earlier (decoder ∷ [])))
+        (EachFits-more (IsDecoderRead front) passed earlier sink decoder own each.0) each.1)
+
+  -- a decoder of a demand has the size that the rate asks for
+  pub has_size-from_read : (sink : ℕ) (decoder : Decoder) → IsDecoderRead front sink decoder → has_size front.rate decoder ≡ true
+  has_size-from_read sink decoder is =
+      and_from _ _ (and_from _ _ (eq-eqb _ _ is.link_count) (eq-eqb _ _ is.entry_count))
+      (list_all-from_AllAfter (λ link. nat_lt link 65536) [] decoder.links
+      (AllAfter-weaker (DecoderLinkAfter front sink) (λ before link. nat_lt link 65536 ≡ true) [] decoder.links (λ before link fit. lt-ltb _ _ fit.fits) is.links))
+
+  -- and its entries are elements
+  pub has_elements-from_read : (sink : ℕ) (decoder : Decoder) → IsDecoderRead front sink decoder → has_elements front.field decoder ≡ true
+  has_elements-from_read sink decoder is =
+      list_all-from_AllAfter (λ entry. nat_lt entry (size_of front.field)) [] decoder.entries
+      (AllAfter-weaker (λ before n. n < size_of front.field) (λ before n. nat_lt n (size_of front.field) ≡ true) [] decoder.entries (λ before n below. lt-ltb _ _ below) is.entries)
+
+  -- so have those of all demands
+  pub have_size-from_read : (sinks : List ℕ) (decoders : List Decoder) → EachFits (IsDecoderRead front) sinks decoders → list_all (has_size front.rate) decoders ≡ true
+  have_size-from_read [] [] each = refl
+  have_size-from_read [] (decoder ∷ decoders) each = absurd each
+  have_size-from_read (sink ∷ sinks) [] each = absurd each
+  have_size-from_read (sink ∷ sinks) (decoder ∷ decoders) each = and_from _ _ (has_size-from_read sink decoder each.0) (have_size-from_read sinks decoders each.1)
+
+-- each decoder that is said is that of its sink, in each version
+pub EachFits-from_read : (version : ℕ) (front : Front) (decoders : List Decoder) → AreDecodersRead version front decoders → EachFits (IsDecoderRead front) (demand_sinks front) decoders
+EachFits-from_read version front decoders =
+    let sinks = demand_sinks front in
+    elim (version == 1) as (λ first. MatchBool first (EachFits (IsDecoderRead front) sinks decoders) (FitsAfter (IsSharedRead front sinks) [] sinks decoders) → EachFits (IsDecoderRead front) sinks decoders) [
+      | true ↦ λ said. said
+      | false ↦ EachFits-from_shared front sinks [] sinks [] decoders refl tt
+    ]
+
+-- and the other way round
+AreDecodersRead-from_each : (version : ℕ) (front : Front) (decoders : List Decoder) → 1 ≤ front.rate → length decoders ≤ 65536 → EachFits (IsDecoderRead front) (demand_sinks front) decoders
+    → AreDecodersRead version front decoders
+AreDecodersRead-from_each version front decoders some_rate few each =
+    let sinks = demand_sinks front in
+    elim (version == 1) as (λ first. MatchBool first (EachFits (IsDecoderRead front) sinks decoders) (FitsAfter (IsSharedRead front sinks) [] sinks decoders)) [
+      | true ↦ each
+      | false ↦ FitsAfter-from_each front sinks [] sinks [] decoders refl some_rate (omega arith) tt each
+    ]
+
+-- ---- the operands and the decoders of a code
 
 module _ (net : Net) (rate : ℕ) (field : FieldKind) where
   -- the operands of a link
@@ -306,9 +429,7 @@ module _ (net : Net) (rate : ℕ) (field : FieldKind) where
       let rising = is_rising-from_AllAfter decoder.links (AllAfter-weaker (DecoderLinkAfter front sink) Rises [] decoder.links (λ before n fit. fit.rises) is.links) in
       let into = list_all-from_AllAfter (leads_into net.links sink) [] decoder.links
       (AllAfter-weaker (DecoderLinkAfter front sink) (λ before n. leads_into net.links sink n ≡ true) [] decoder.links (λ before n fit. fit.into) is.links) in
-      let entries = list_all-from_AllAfter (λ entry. nat_lt entry (size_of field)) [] decoder.entries
-      (AllAfter-weaker (λ before n. n < size_of field) (λ before n. nat_lt n (size_of field) ≡ true) [] decoder.entries (λ before n below. lt-ltb _ _ below) is.entries) in
-      and_from _ _ (and_from _ _ (and_from _ _ (and_from _ _ (eq-eqb _ _ is.link_count) rising) into) (eq-eqb _ _ is.entry_count)) entries
+      and_from _ _ (and_from _ _ (and_from _ _ (and_from _ _ (eq-eqb _ _ is.link_count) rising) into) (eq-eqb _ _ is.entry_count)) (has_elements-from_read front sink decoder is)
 
   -- the decoders of all demands
   are_decoders-from_read : (sinks : List ℕ) (decoders : List Decoder) → EachFits (IsDecoderRead (front_of net rate field)) sinks decoders → are_decoders net rate field sinks decoders ≡ true
@@ -347,15 +468,28 @@ module _ (net : Net) (rate : ℕ) (field : FieldKind) where
       let parts = and_parts _ _ are in
       (IsDecoderRead-from_code sink decoder few parts.0, EachFits-from_decoders_of_code sinks decoders few parts.1)
 
+  -- so there is one for each demand
+  pub length-decoders_of_code : (decoders : List Decoder) → length net.links ≤ 8192 → are_decoders net rate field (sinks_of_demands net) decoders ≡ true → length decoders ≡ demand_count net
+  length-decoders_of_code decoders few are =
+      let sinks = sinks_of_demands net in
+      omega (arith, length-sinks_of_demands net, EachFits-length (IsDecoderRead (front_of net rate field)) sinks decoders (EachFits-from_decoders_of_code sinks decoders few are))
+
+  -- and they are read in each version
+  pub AreDecodersRead-from_code : (version : ℕ) (decoders : List Decoder) → length net.links ≤ 8192 → 1 ≤ rate → demand_count net ≤ 65536 → are_decoders net rate field (sinks_of_demands net) decoders ≡ true
+      → AreDecodersRead version (front_of net rate field) decoders
+  AreDecodersRead-from_code version decoders few some_rate few_demands are =
+      AreDecodersRead-from_each version (front_of net rate field) decoders some_rate (omega (arith, few_demands, length-decoders_of_code decoders few are))
+      (EachFits-from_decoders_of_code (sinks_of_demands net) decoders few are)
+
   -- what is read with the parts of a network makes a code with it
-  pub IsCode-from_read : (operands : List (List Operand)) (decoders : List Decoder) → net.field ≡ choice_of field → net.wanted ≡ None
-      → IsFrontRead (front_of net rate field) → EachFits (AreOperandsRead (front_of net rate field)) net.links operands
+  pub IsCode-from_read : (version : ℕ) (operands : List (List Operand)) (decoders : List Decoder) → net.field ≡ choice_of field → net.wanted ≡ None
+      → IsFrontRead version (front_of net rate field) → EachFits (AreOperandsRead (front_of net rate field)) net.links operands
       → EachFits (IsDecoderRead (front_of net rate field)) (sinks_of_demands net) decoders → IsCode net rate field operands decoders
-  IsCode-from_read operands decoders named unwanted front links demands = record {
+  IsCode-from_read version operands decoders named unwanted front links demands = record {
     draft = record {
       some_rate = front.some_rate;
       low_rate = front.low_rate;
-      few_demands = few_demands-from_read (front_of net rate field) front;
+      few_demands = few_demands-from_read version (front_of net rate field) front;
       link_order = link_order-from_read (length net.nodes) net.links front.links;
       link_operands = are_operands_of-from_read net.links operands links;
       named_field = named;

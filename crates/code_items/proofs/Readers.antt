@@ -1,12 +1,12 @@
 -- Readers: a part of a file is read exactly from its one spelling.
-use Rattle.std.specs.Prelude.{◌≡◌, ℕ, zero, suc, ◌+◌, ◌<◌, Bool, true, false, nat_lt, List, [], ◌∷◌, ◌++◌, length, take, drop, Result, Ok, Err, if◌then◌else◌}
+use Rattle.std.specs.Prelude.{◌≡◌, ℕ, zero, suc, ◌+◌, ◌<◌, Bool, true, false, nat_lt, List, [], ◌∷◌, ◌++◌, length, take, drop, replicate, Result, Ok, Err, if◌then◌else◌}
 use Rattle.std.proofs.Common.{refl, sym, subst, ap, ◌∙◌, get_or, append_assoc, append-nil, add-zero, arith, inl, inr}
 use Rattle.std.specs.List.{flat_map}
 use Rattle.std.proofs.lemmas.Bool.{cases_lt, ltb-false, le-ltb}
 use Rattle.std.proofs.lemmas.List.{take_at, drop_at, take-append-drop, length-append, length-take, get_or-drop, get_or-take, get_or_past}
 use Rattle.code_items.specs.declared.refusal.CodeRefusal.{CodeRefusal}
 use Rattle.code_items.specs.declared.refusal.CodeRefusal.TheVariants.{Truncated, OutOfMemory}
-use Rattle.code_items.specs.Reading.{Rest, Reading, ◌>>=◌, refused_first, item, repeated_at, each_at, Conditions}
+use Rattle.code_items.specs.Reading.{Rest, Reading, ◌>>=◌, refused_first, item, each_after_at, repeated_at, each_at, Conditions}
 
 -- each byte is one
 abbrev pub IsBytes : List ℕ → Type 0
@@ -172,22 +172,22 @@ empty_reader {Z} z = record {
 }
 
 -- one reader and then another, in view of what the first one read
-pub then_reader : {X Z : Type 0} {read : Rest → Reading X} {spell : X → List ℕ} {Fits : X → Type 0} {read_more : X → Rest → Reading Z} {spell_more : Z → List ℕ} {FitsMore : X → Z → Type 0}
-    (first : Z → X) → IsReader read spell Fits → ((x : X) → IsReader (read_more x) spell_more (FitsMore x)) → ((x : X) (z : Z) → Fits x → FitsMore x z → first z ≡ x)
-    → IsReader (λ rest. read rest >>= λ x. read_more x.0 x.1) (λ z. spell (first z) ++ spell_more z) (λ z. Fits (first z) × FitsMore (first z) z)
+pub then_reader : {X Z : Type 0} {read : Rest → Reading X} {spell : X → List ℕ} {Fits : X → Type 0} {read_more : X → Rest → Reading Z} {spell_more : X → Z → List ℕ} {FitsMore : X → Z → Type 0}
+    (first : Z → X) → IsReader read spell Fits → ((x : X) → IsReader (read_more x) (spell_more x) (FitsMore x)) → ((x : X) (z : Z) → Fits x → FitsMore x z → first z ≡ x)
+    → IsReader (λ rest. read rest >>= λ x. read_more x.0 x.1) (λ z. spell (first z) ++ spell_more (first z) z) (λ z. Fits (first z) × FitsMore (first z) z)
 then_reader {X} {Z} {read} {spell} {Fits} {read_more} {spell_more} {FitsMore} first one other first_is = record {
   takes = λ rest z left fits e.
       let b = bind_ok (read rest) (λ x. read_more x.0 x.1) (z, left) e in
       let t = one.takes rest b.0.0 b.0.1 fits b.1 in
       let u = (other b.0.0).takes b.0.1 z left t.0.left_fits b.2 in
-      subst (λ (x : X). Takes rest (spell x ++ spell_more z) left × (Fits x × FitsMore x z)) (sym (first_is b.0.0 z t.1 u.1))
-      (Takes-then rest (spell b.0.0) b.0.1 (spell_more z) left t.0 u.0, (t.1, u.1));
+      subst (λ (x : X). Takes rest (spell x ++ spell_more x z) left × (Fits x × FitsMore x z)) (sym (first_is b.0.0 z t.1 u.1))
+      (Takes-then rest (spell b.0.0) b.0.1 (spell_more b.0.0 z) left t.0 u.0, (t.1, u.1));
   again = λ at more z fits.
       let x = first z in
-      let regrouped : (spell x ++ spell_more z) ++ more ≡ spell x ++ (spell_more z ++ more) = append_assoc (spell x) (spell_more z) more in
-      let begins = one.again at (spell_more z ++ more) x fits.0 in
+      let regrouped : (spell x ++ spell_more x z) ++ more ≡ spell x ++ (spell_more x z ++ more) = append_assoc (spell x) (spell_more x z) more in
+      let begins = one.again at (spell_more x z ++ more) x fits.0 in
       let ends = (other x).again (at + length (spell x)) more z fits.1 in
-      let place : (at + length (spell x)) + length (spell_more z) ≡ at + length (spell x ++ spell_more z) = omega (arith, length-append (spell x) (spell_more z)) in
+      let place : (at + length (spell x)) + length (spell_more x z) ≡ at + length (spell x ++ spell_more x z) = omega (arith, length-append (spell x) (spell_more x z)) in
       ap (λ (bytes : List ℕ). read (record { at = at; bytes = bytes }) >>= λ x. read_more x.0 x.1) regrouped
       ∙ ap (λ (r : Reading X). r >>= λ x. read_more x.0 x.1) begins
       ∙ ends
@@ -208,6 +208,97 @@ same_reader {X} {read} {spell} {spell'} {Fits} {Fits'} reader same_text to from 
   not_memory = reader.not_memory;
 }
 
+-- ---- a part for each, in view of the earlier ones
+
+-- what each part has to be, for each of these in view of the earlier parts
+abbrev pub FitsAfter : {X Y : Type 0} → (List Y → X → Y → Type 0) → List Y → List X → List Y → Type 0
+FitsAfter Fits earlier [] [] = Unit {0}
+FitsAfter Fits earlier (x ∷ xs) (y ∷ ys) = Fits earlier x y × FitsAfter Fits (earlier ++ y ∷ []) xs ys
+FitsAfter Fits earlier [] (y ∷ ys) = ⊥
+FitsAfter Fits earlier (x ∷ xs) [] = ⊥
+
+-- parts as a text, each spelled in view of the earlier ones
+abbrev pub spelled_after : {Y : Type 0} → (List Y → Y → List ℕ) → List Y → List Y → List ℕ
+spelled_after spell earlier [] = []
+spelled_after spell earlier (y ∷ ys) = spell earlier y ++ spelled_after spell (earlier ++ y ∷ []) ys
+
+-- a further part for each of these was read
+pub record TakesEach {X Y : Type 0} (spell : List Y → Y → List ℕ) (Fits : List Y → X → Y → Type 0) (xs : List X) (earlier : List Y) (rest : Rest) (all : List Y) (left : Rest) : Type 0 where
+  pub further : List Y
+  pub whole : all ≡ earlier ++ further
+  pub fit : FitsAfter Fits earlier xs further
+  pub takes : Takes rest (spelled_after spell earlier further) left
+
+module _ {X Y : Type 0} (part : List Y → X → Rest → Reading Y) (spell : List Y → Y → List ℕ) (Fits : List Y → X → Y → Type 0) (each : (earlier : List Y) (x : X) → IsReader (part earlier x) (spell earlier) (Fits earlier x)) where
+  -- parts that were read were taken from the front
+  each_after_takes : (xs : List X) (earlier : List Y) (rest : Rest) (all : List Y) (left : Rest) → IsBytes rest.bytes
+      → each_after_at part earlier xs rest ≡ Ok (all, left) → TakesEach spell Fits xs earlier rest all left
+  unfolding each_after_at
+  each_after_takes [] earlier rest all left fits e =
+      let same = ok_is (earlier, rest) (all, left) e in
+      let here : TakesEach spell Fits [] earlier rest earlier rest = record {
+        further = [];
+        whole = sym (append-nil earlier);
+        fit = tt;
+        takes = Takes-none rest fits;
+      } in
+      subst (λ (p : List Y × Rest). TakesEach spell Fits [] earlier rest p.0 p.1) same here
+  each_after_takes (x ∷ xs) earlier rest all left fits e =
+      let b = bind_ok (part earlier x rest) (λ one. each_after_at part (earlier ++ one.0 ∷ []) xs one.1) (all, left) e in
+      let t = (each earlier x).takes rest b.0.0 b.0.1 fits b.1 in
+      let u = each_after_takes xs (earlier ++ b.0.0 ∷ []) b.0.1 all left t.0.left_fits b.2 in
+      record {
+        further = b.0.0 ∷ u.further;
+        whole = u.whole ∙ append_assoc earlier (b.0.0 ∷ []) u.further;
+        fit = (t.1, u.fit);
+        takes = Takes-then rest (spell earlier b.0.0) b.0.1 (spelled_after spell (earlier ++ b.0.0 ∷ []) u.further) left t.0 u.takes;
+      }
+
+  -- parts that stand at the front are read
+  each_after_again : (xs : List X) (further earlier : List Y) (at : ℕ) (more : List ℕ) → FitsAfter Fits earlier xs further
+      → each_after_at part earlier xs (record { at = at; bytes = spelled_after spell earlier further ++ more }) ≡ Ok (earlier ++ further, record { at = at + length (spelled_after spell earlier further); bytes = more })
+  unfolding each_after_at
+  each_after_again [] [] earlier at more fit = rw (append-nil earlier, add-zero) refl
+  each_after_again [] (y ∷ further) earlier at more fit = absurd fit
+  each_after_again (x ∷ xs) [] earlier at more fit = absurd fit
+  each_after_again (x ∷ xs) (y ∷ further) earlier at more fit =
+      let others = spelled_after spell (earlier ++ y ∷ []) further in
+      let regrouped : (spell earlier y ++ others) ++ more ≡ spell earlier y ++ (others ++ more) = append_assoc (spell earlier y) others more in
+      let begins = (each earlier x).again at (others ++ more) y fit.0 in
+      let ends = each_after_again xs further (earlier ++ y ∷ []) (at + length (spell earlier y)) more fit.1 in
+      let place : (at + length (spell earlier y)) + length others ≡ at + length (spell earlier y ++ others) = omega (arith, length-append (spell earlier y) others) in
+      ap (λ (bytes : List ℕ). part earlier x (record { at = at; bytes = bytes }) >>= λ one. each_after_at part (earlier ++ one.0 ∷ []) xs one.1) regrouped
+      ∙ ap (λ (r : Reading Y). r >>= λ one. each_after_at part (earlier ++ one.0 ∷ []) xs one.1) begins
+      ∙ ends
+      ∙ ap (λ (n : ℕ). ok_of ((earlier ++ y ∷ []) ++ further, record { at = n; bytes = more })) place
+      ∙ ap (λ (all : List Y). ok_of (all, record { at = at + length (spell earlier y ++ others); bytes = more })) (append_assoc earlier (y ∷ []) further)
+
+  -- the refusal of parts is that of one of them
+  each_after_not_memory : (xs : List X) (earlier : List Y) (rest : Rest) → is_memory (each_after_at part earlier xs rest) ≡ false
+  unfolding each_after_at
+  each_after_not_memory [] earlier rest = refl
+  each_after_not_memory (x ∷ xs) earlier rest =
+      bind_not_memory (part earlier x rest) (λ one. each_after_at part (earlier ++ one.0 ∷ []) xs one.1) ((each earlier x).not_memory rest) (λ one. each_after_not_memory xs (earlier ++ one.0 ∷ []) one.1)
+
+  -- a part for each of these behind the earlier ones
+  pub each_after_reader : (xs : List X) (earlier : List Y) → IsReader (each_after_at part earlier xs) (λ all. spelled_after spell earlier (drop (length earlier) all))
+      (λ all. (all ≡ earlier ++ drop (length earlier) all) × FitsAfter Fits earlier xs (drop (length earlier) all))
+  each_after_reader xs earlier = record {
+    takes = λ rest all left fits e.
+        let t = each_after_takes xs earlier rest all left fits e in
+        let behind : t.further ≡ drop (length earlier) all = sym (drop_at earlier t.further (length earlier) refl) ∙ ap (λ (ys : List Y). drop (length earlier) ys) (sym t.whole) in
+        subst (λ (ys : List Y). Takes rest (spelled_after spell earlier ys) left × ((all ≡ earlier ++ ys) × FitsAfter Fits earlier xs ys)) behind (t.takes, (t.whole, t.fit));
+    again = λ at more all fit.
+        let further = drop (length earlier) all in
+        each_after_again xs further earlier at more fit.1 ∙ ap (λ (ys : List Y). ok_of (ys, record { at = at + length (spelled_after spell earlier further); bytes = more })) (sym fit.0);
+    not_memory = each_after_not_memory xs earlier;
+  }
+
+-- parts that are spelled alike behind any others
+spelled_alike : {Y : Type 0} (spell : Y → List ℕ) (earlier ys : List Y) → spelled_after (λ _. spell) earlier ys ≡ flat_map spell ys
+spelled_alike spell earlier [] = refl
+spelled_alike spell earlier (y ∷ ys) = ap (λ (t : List ℕ). spell y ++ t) (spelled_alike spell (earlier ++ y ∷ []) ys)
+
 -- ---- so many parts
 
 -- what each item has to be in view of the earlier ones
@@ -215,80 +306,32 @@ abbrev pub AllAfter : {X : Type 0} → (List X → X → Type 0) → List X → 
 AllAfter Fits earlier [] = Unit {0}
 AllAfter Fits earlier (x ∷ xs) = Fits earlier x × AllAfter Fits (earlier ++ x ∷ []) xs
 
--- so many further items were read
-pub record TakesSome {X : Type 0} (spell : X → List ℕ) (Fits : List X → X → Type 0) (count : ℕ) (earlier : List X) (rest : Rest) (all : List X) (left : Rest) : Type 0 where
-  pub further : List X
-  pub whole : all ≡ earlier ++ further
-  pub count_is : length further ≡ count
-  pub fit : AllAfter Fits earlier further
-  pub takes : Takes rest (flat_map spell further) left
+module _ {X : Type 0} (Fits : List X → X → Type 0) where
+  -- items that are parts for so many nothings
+  AllAfter-from_fits : (count : ℕ) (earlier further : List X) → FitsAfter (λ earlier (nothing : Unit {0}). Fits earlier) earlier (replicate count tt) further → (length further ≡ count) × AllAfter Fits earlier further
+  AllAfter-from_fits zero earlier [] fit = (refl, tt)
+  AllAfter-from_fits zero earlier (x ∷ further) fit = absurd fit
+  AllAfter-from_fits (suc count) earlier [] fit = absurd fit
+  AllAfter-from_fits (suc count) earlier (x ∷ further) fit =
+      let others = AllAfter-from_fits count (earlier ++ x ∷ []) further fit.1 in
+      (ap suc others.0, (fit.0, others.1))
 
-module _ {X : Type 0} (part : List X → Rest → Reading X) (spell : X → List ℕ) (Fits : List X → X → Type 0) (each : (earlier : List X) → IsReader (part earlier) spell (Fits earlier)) where
-  -- so many parts that were read were taken from the front
-  pub repeated_takes : (count : ℕ) (earlier : List X) (rest : Rest) (all : List X) (left : Rest) → IsBytes rest.bytes
-      → repeated_at part count earlier rest ≡ Ok (all, left) → TakesSome spell Fits count earlier rest all left
-  unfolding repeated_at
-  repeated_takes zero earlier rest all left fits e =
-      let same = ok_is (earlier, rest) (all, left) e in
-      let here : TakesSome spell Fits 0 earlier rest earlier rest = record {
-        further = [];
-        whole = sym (append-nil earlier);
-        count_is = refl;
-        fit = tt;
-        takes = Takes-none rest fits;
-      } in
-      subst (λ (p : List X × Rest). TakesSome spell Fits 0 earlier rest p.0 p.1) same here
-  repeated_takes (suc count) earlier rest all left fits e =
-      let b = bind_ok (part earlier rest) (λ one. repeated_at part count (earlier ++ one.0 ∷ []) one.1) (all, left) e in
-      let t = (each earlier).takes rest b.0.0 b.0.1 fits b.1 in
-      let u = repeated_takes count (earlier ++ b.0.0 ∷ []) b.0.1 all left t.0.left_fits b.2 in
-      record {
-        further = b.0.0 ∷ u.further;
-        whole = u.whole ∙ append_assoc earlier (b.0.0 ∷ []) u.further;
-        count_is = ap suc u.count_is;
-        fit = (t.1, u.fit);
-        takes = Takes-then rest (spell b.0.0) b.0.1 (flat_map spell u.further) left t.0 u.takes;
-      }
+  -- and the other way round
+  FitsAfter-from_all : (earlier further : List X) → AllAfter Fits earlier further → FitsAfter (λ earlier (nothing : Unit {0}). Fits earlier) earlier (replicate (length further) tt) further
+  FitsAfter-from_all earlier [] fit = tt
+  FitsAfter-from_all earlier (x ∷ further) fit = (fit.0, FitsAfter-from_all (earlier ++ x ∷ []) further fit.1)
 
-  -- so many parts that stand at the front are read
-  pub repeated_again : (further earlier : List X) (at : ℕ) (more : List ℕ) → AllAfter Fits earlier further
-      → repeated_at part (length further) earlier (record { at = at; bytes = flat_map spell further ++ more }) ≡ Ok (earlier ++ further, record { at = at + length (flat_map spell further); bytes = more })
-  unfolding repeated_at
-  repeated_again [] earlier at more fit = rw (append-nil earlier, add-zero) refl
-  repeated_again (x ∷ further) earlier at more fit =
-      let others = flat_map spell further in
-      let regrouped : (spell x ++ others) ++ more ≡ spell x ++ (others ++ more) = append_assoc (spell x) others more in
-      let begins = (each earlier).again at (others ++ more) x fit.0 in
-      let ends = repeated_again further (earlier ++ x ∷ []) (at + length (spell x)) more fit.1 in
-      let place : (at + length (spell x)) + length others ≡ at + length (spell x ++ others) = omega (arith, length-append (spell x) others) in
-      ap (λ (bytes : List ℕ). part earlier (record { at = at; bytes = bytes }) >>= λ one. repeated_at part (length further) (earlier ++ one.0 ∷ []) one.1) regrouped
-      ∙ ap (λ (r : Reading X). r >>= λ one. repeated_at part (length further) (earlier ++ one.0 ∷ []) one.1) begins
-      ∙ ends
-      ∙ ap (λ (n : ℕ). ok_of ((earlier ++ x ∷ []) ++ further, record { at = n; bytes = more })) place
-      ∙ ap (λ (all : List X). ok_of (all, record { at = at + length (spell x ++ others); bytes = more })) (append_assoc earlier (x ∷ []) further)
-
-  -- the refusal of so many parts is that of one of them
-  pub repeated_not_memory : (count : ℕ) (earlier : List X) (rest : Rest) → is_memory (repeated_at part count earlier rest) ≡ false
-  unfolding repeated_at
-  repeated_not_memory zero earlier rest = refl
-  repeated_not_memory (suc count) earlier rest =
-      bind_not_memory (part earlier rest) (λ one. repeated_at part count (earlier ++ one.0 ∷ []) one.1) ((each earlier).not_memory rest) (λ one. repeated_not_memory count (earlier ++ one.0 ∷ []) one.1)
-
-  -- so many items behind the earlier ones
-  pub repeated_reader : (count : ℕ) (earlier : List X) → IsReader (repeated_at part count earlier) (λ all. flat_map spell (drop (length earlier) all))
-      (λ all. (length (drop (length earlier) all) ≡ count) × ((all ≡ earlier ++ drop (length earlier) all) × AllAfter Fits earlier (drop (length earlier) all)))
-  repeated_reader count earlier = record {
-    takes = λ rest all left fits e.
-        let t = repeated_takes count earlier rest all left fits e in
-        let behind : t.further ≡ drop (length earlier) all = sym (drop_at earlier t.further (length earlier) refl) ∙ ap (λ (xs : List X). drop (length earlier) xs) (sym t.whole) in
-        subst (λ (xs : List X). Takes rest (flat_map spell xs) left × ((length xs ≡ count) × ((all ≡ earlier ++ xs) × AllAfter Fits earlier xs))) behind (t.takes, (t.count_is, (t.whole, t.fit)));
-    again = λ at more all fit.
-        let further = drop (length earlier) all in
-        let read = repeated_again further earlier at more fit.1.1 in
-        let bytes : Rest = record { at = at; bytes = flat_map spell further ++ more } in
-        ap (λ (n : ℕ). repeated_at part n earlier bytes) (sym fit.0) ∙ read ∙ ap (λ (xs : List X). ok_of (xs, record { at = at + length (flat_map spell further); bytes = more })) (sym fit.1.0);
-    not_memory = λ rest. repeated_not_memory count earlier rest;
-  }
+-- so many items behind the earlier ones
+pub repeated_reader : {X : Type 0} (part : List X → Rest → Reading X) (spell : X → List ℕ) (Fits : List X → X → Type 0) → ((earlier : List X) → IsReader (part earlier) spell (Fits earlier)) → (count : ℕ) (earlier : List X)
+    → IsReader (repeated_at part count earlier) (λ all. flat_map spell (drop (length earlier) all))
+    (λ all. (length (drop (length earlier) all) ≡ count) × ((all ≡ earlier ++ drop (length earlier) all) × AllAfter Fits earlier (drop (length earlier) all)))
+repeated_reader {X} part spell Fits each count earlier =
+    same_reader (each_after_reader (λ earlier _. part earlier) (λ _. spell) (λ earlier (nothing : Unit {0}). Fits earlier) (λ earlier _. each earlier) (replicate count tt) earlier)
+    (λ all fit. spelled_alike spell earlier (drop (length earlier) all))
+    (λ all fit.
+        let are = AllAfter-from_fits Fits count earlier (drop (length earlier) all) fit.1 in
+        (are.0, (fit.0, are.1)))
+    (λ all fit. (fit.1.0, subst (λ (n : ℕ). FitsAfter (λ earlier (nothing : Unit {0}). Fits earlier) earlier (replicate n tt) (drop (length earlier) all)) fit.0 (FitsAfter-from_all Fits earlier (drop (length earlier) all) fit.1.1)))
 
 -- ---- a part for each
 
@@ -299,47 +342,25 @@ EachFits Fits (x ∷ xs) (y ∷ ys) = Fits x y × EachFits Fits xs ys
 EachFits Fits [] (y ∷ ys) = ⊥
 EachFits Fits (x ∷ xs) [] = ⊥
 
-module _ {X Y : Type 0} (part : X → Rest → Reading Y) (spell : Y → List ℕ) (Fits : X → Y → Type 0) (each : (x : X) → IsReader (part x) spell (Fits x)) where
-  -- a part for each, if read, was taken from the front
-  each_takes : (xs : List X) (rest : Rest) (ys : List Y) (left : Rest) → IsBytes rest.bytes
-      → each_at part xs rest ≡ Ok (ys, left) → Takes rest (flat_map spell ys) left × EachFits Fits xs ys
-  unfolding each_at
-  each_takes [] rest ys left fits e =
-      subst (λ (p : List Y × Rest). Takes rest (flat_map spell p.0) p.1 × EachFits Fits [] p.0) (ok_is ([], rest) (ys, left) e) (Takes-none rest fits, tt)
-  each_takes (x ∷ xs) rest ys left fits e =
-      let b = bind_ok (part x rest) (λ one. each_at part xs one.1 >>= λ others. Ok (one.0 ∷ others.0, others.1)) (ys, left) e in
-      let c = bind_ok (each_at part xs b.0.1) (λ others. Ok (b.0.0 ∷ others.0, others.1)) (ys, left) b.2 in
-      let t = (each x).takes rest b.0.0 b.0.1 fits b.1 in
-      let u = each_takes xs b.0.1 c.0.0 c.0.1 t.0.left_fits c.1 in
-      subst (λ (p : List Y × Rest). Takes rest (flat_map spell p.0) p.1 × EachFits Fits (x ∷ xs) p.0) {x = (b.0.0 ∷ c.0.0, c.0.1)} (ok_is (b.0.0 ∷ c.0.0, c.0.1) (ys, left) c.2)
-      (Takes-then rest (spell b.0.0) b.0.1 (flat_map spell c.0.0) c.0.1 t.0 u.0, (t.1, u.1))
+module _ {X Y : Type 0} (Fits : X → Y → Type 0) where
+  -- parts that fit whatever stands before them
+  EachFits-from_after : (earlier : List Y) (xs : List X) (ys : List Y) → FitsAfter (λ _. Fits) earlier xs ys → EachFits Fits xs ys
+  EachFits-from_after earlier [] [] fit = tt
+  EachFits-from_after earlier [] (y ∷ ys) fit = absurd fit
+  EachFits-from_after earlier (x ∷ xs) [] fit = absurd fit
+  EachFits-from_after earlier (x ∷ xs) (y ∷ ys) fit = (fit.0, EachFits-from_after (earlier ++ y ∷ []) xs ys fit.1)
 
-  -- a part for each that stands at the front is read
-  each_again : (xs : List X) (at : ℕ) (more : List ℕ) (ys : List Y) → EachFits Fits xs ys
-      → each_at part xs (record { at = at; bytes = flat_map spell ys ++ more }) ≡ Ok (ys, record { at = at + length (flat_map spell ys); bytes = more })
-  unfolding each_at
-  each_again [] at more [] fit = rw add-zero refl
-  each_again [] at more (y ∷ ys) fit = absurd fit
-  each_again (x ∷ xs) at more [] fit = absurd fit
-  each_again (x ∷ xs) at more (y ∷ ys) fit =
-      let others = flat_map spell ys in
-      let regrouped : (spell y ++ others) ++ more ≡ spell y ++ (others ++ more) = append_assoc (spell y) others more in
-      let begins = (each x).again at (others ++ more) y fit.0 in
-      let ends = each_again xs (at + length (spell y)) more ys fit.1 in
-      let place : (at + length (spell y)) + length others ≡ at + length (spell y ++ others) = omega (arith, length-append (spell y) others) in
-      ap (λ (bytes : List ℕ). part x (record { at = at; bytes = bytes }) >>= λ one. each_at part xs one.1 >>= λ others. Ok (one.0 ∷ others.0, others.1)) regrouped
-      ∙ ap (λ (r : Reading Y). r >>= λ one. each_at part xs one.1 >>= λ others. Ok (one.0 ∷ others.0, others.1)) begins
-      ∙ ap (λ (r : Reading (List Y)). r >>= λ others. Ok (y ∷ others.0, others.1)) ends
-      ∙ ap (λ (n : ℕ). ok_of (y ∷ ys, record { at = n; bytes = more })) place
+  -- and the other way round
+  FitsAfter-from_each : (earlier : List Y) (xs : List X) (ys : List Y) → EachFits Fits xs ys → FitsAfter (λ _. Fits) earlier xs ys
+  FitsAfter-from_each earlier [] [] fit = tt
+  FitsAfter-from_each earlier [] (y ∷ ys) fit = absurd fit
+  FitsAfter-from_each earlier (x ∷ xs) [] fit = absurd fit
+  FitsAfter-from_each earlier (x ∷ xs) (y ∷ ys) fit = (fit.0, FitsAfter-from_each (earlier ++ y ∷ []) xs ys fit.1)
 
-  -- the refusal of a part for each is that of one of them
-  each_not_memory : (xs : List X) (rest : Rest) → is_memory (each_at part xs rest) ≡ false
-  unfolding each_at
-  each_not_memory [] rest = refl
-  each_not_memory (x ∷ xs) rest =
-      bind_not_memory (part x rest) (λ one. each_at part xs one.1 >>= λ others. Ok (one.0 ∷ others.0, others.1)) ((each x).not_memory rest)
-      (λ one. bind_not_memory (each_at part xs one.1) (λ others. Ok (one.0 ∷ others.0, others.1)) (each_not_memory xs one.1) (λ others. refl))
-
-  -- a part for each of these
-  pub each_reader : (xs : List X) → IsReader (each_at part xs) (flat_map spell) (EachFits Fits xs)
-  each_reader xs = record { takes = each_takes xs; again = each_again xs; not_memory = each_not_memory xs }
+-- a part for each of these
+pub each_reader : {X Y : Type 0} (part : X → Rest → Reading Y) (spell : Y → List ℕ) (Fits : X → Y → Type 0) → ((x : X) → IsReader (part x) spell (Fits x)) → (xs : List X) → IsReader (each_at part xs) (flat_map spell) (EachFits Fits xs)
+each_reader part spell Fits each xs =
+    same_reader (each_after_reader (λ _. part) (λ _. spell) (λ _. Fits) (λ _. each) xs [])
+    (λ ys fit. spelled_alike spell [] ys)
+    (λ ys fit. EachFits-from_after Fits [] xs ys fit.1)
+    (λ ys fit. (refl, FitsAfter-from_each Fits [] xs ys fit))

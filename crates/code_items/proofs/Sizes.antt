@@ -4,15 +4,16 @@ use Rattle.std.specs.List.{concat, flat_map}
 use Rattle.std.proofs.lemmas.List.{take_more, map_push, append-nil}
 use Rattle.std.proofs.lemmas.List.Concat.{flat_map-append}
 use Rattle.std.proofs.lemmas.List.Folds.{concat-append}
-use Rattle.gf_tables.specs.Product.{bytes_of_element}
+use Rattle.gf_tables.specs.Product.{bytes_of_element, bytes_of_width, width_of}
 use Rattle.gf_tables.specs.declared.kind.FieldKind.{FieldKind}
-use Rattle.gf_tables.specs.declared.kind.FieldKind.TheVariants.{Eight, Sixteen}
+use Rattle.gf_tables.specs.declared.kind.Width.{Width}
+use Rattle.gf_tables.specs.declared.kind.Width.TheVariants.{One, Two}
 use Rattle.net_model.specs.declared.net.Net.{Net}
 use Rattle.net_model.specs.declared.Link.{Link}
 use Rattle.net_model.specs.declared.Pattern.{Pattern}
 use Rattle.node_program.specs.declared.Operand.{Operand}
 use Rattle.node_program.specs.declared.Decoder.{Decoder}
-use Rattle.code_items.specs.Items.{Item, number_item, name_item, element_item, link_items, pattern_items, operand_items, operand_list_items, decoder_items, front_items, operands_items}
+use Rattle.code_items.specs.Items.{Item, number_item, name_item, width_item, element_item, link_items, pattern_items, operand_items, operand_list_items, decoder_items, front_items, operands_items}
 use Rattle.code_items.specs.Room.{size_of_items}
 
 pub size-append : (items others : List Item) → size_of_items (items ++ others) ≡ size_of_items items + size_of_items others
@@ -36,9 +37,13 @@ sizes f size (x ∷ xs) each =
     let one = each x in
     grind (arith)
 
-element-size : (field : FieldKind) (n : ℕ) → length (element_item field n) ≡ bytes_of_element field
-element-size Eight n = refl
-element-size Sixteen n = refl
+-- a number of a width
+width-size : (width : Width) (n : ℕ) → length (width_item width n) ≡ bytes_of_width width
+width-size One n = refl
+width-size Two n = refl
+
+pub element-size : (field : FieldKind) (n : ℕ) → length (element_item field n) ≡ bytes_of_element field
+element-size field n = width-size (width_of field) n
 
 pub numbers-size : (numbers : List ℕ) → size_of_items (map number_item numbers) ≡ 2 * length numbers
 numbers-size numbers = sizes number_item 2 numbers (λ n. refl)

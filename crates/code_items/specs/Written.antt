@@ -16,10 +16,11 @@ Adds result old new items = OnOk result (new.items ≡ old.items ++ concat items
 abbrev pub are_elements : FieldKind → List Operand → Bool
 are_elements field operands = list_all (λ operand. nat_lt operand.times (size_of field)) operands
 
--- the decoder has so many links, and so many times so many entries
+-- the decoder has so many links, the number of each fits two bytes, and so many times so many entries
 abbrev pub has_size : ℕ → Decoder → Bool
 has_size rate decoder =
     (length decoder.links == rate) && (length decoder.entries == rate * rate)
+    && list_all (λ link. nat_lt link 65536) decoder.links
 
 -- each entry is an element
 abbrev pub has_elements : FieldKind → Decoder → Bool

@@ -1,21 +1,25 @@
 use Rattle.std.proofs.Common.{rules, append_assoc}
 use Rattle.std.proofs.lemmas.Result.{IfOk-equal}
 use Rattle.std.proofs.lemmas.List.Folds.{concat-append}
-use Rattle.net_model.specs.Demands.{sinks_of_demands}
-use Rattle.code_file.specs.Items.{items_of, bytes_of}
-use Rattle.code_items.proofs.Joined.{operands_fit, decoders_fit}
+use Rattle.code_file.specs.Items.{items_in, bytes_in}
+use Rattle.code_file.proofs.WrittenLaws.{coefficients_fit, entries_fit, few_decoders, sizes_fit}
 use Rattle.code_file.proofs.writing.write_code.Goals as goal
 
-pub put_operand_table-requires : goal.put_operand_table-requires
-put_operand_table-requires c =
-    let code = c.args.code.now in
-    rw c.as_slice.ensures (operands_fit code.net code.rate code.field code.net.links code.operands code.code.draft.link_operands)
+pub sames_of-requires-clause-sizes : goal.sames_of-requires-clause-sizes
+sames_of-requires-clause-sizes c = rw c.as_slice-decoders.ensures (sizes_fit c.args.code.now)
 
-pub put_decoders-requires : goal.put_decoders-requires
-put_decoders-requires c =
-    let code = c.args.code.now in
-    rw c.as_slice-2.ensures (decoders_fit code.net code.rate code.field (sinks_of_demands code.net) code.decoders code.code.demand_decoders)
+pub sames_of-requires-clause-elements : goal.sames_of-requires-clause-elements
+sames_of-requires-clause-elements c = rw c.as_slice-decoders.ensures (entries_fit c.args.code.now)
+
+pub sames_of-requires-clause-few : goal.sames_of-requires-clause-few
+sames_of-requires-clause-few c = rw c.as_slice-decoders.ensures (few_decoders c.args.code.now)
+
+pub put_operand_table-requires : goal.put_operand_table-requires
+put_operand_table-requires c = rw c.as_slice.ensures (coefficients_fit c.args.code.now)
+
+pub put_shared_decoders-requires-clause-elements : goal.put_shared_decoders-requires-clause-elements
+put_shared_decoders-requires-clause-elements c = rw c.as_slice-decoders.ensures (entries_fit c.args.code.now)
 
 pub returns : goal.returns
-unfolding items_of bytes_of
+unfolding items_in bytes_in
 returns c = search (rules, IfOk-equal, append_assoc, concat-append)
