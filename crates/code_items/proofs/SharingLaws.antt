@@ -13,7 +13,7 @@ use Rattle.node_program.specs.declared.Decoder.{Decoder}
 use Rattle.code_items.specs.Sharing.{is_same_decoder, is_shared, same_of, decoder_of, no_decoder, shares}
 
 -- two decoders of the same links and the same entries are one
-decoders_same : (one other : Decoder) → one.links ≡ other.links → one.entries ≡ other.entries → one ≡ other
+pub decoders_same : (one other : Decoder) → one.links ≡ other.links → one.entries ≡ other.entries → one ≡ other
 decoders_same one other links entries = λ i. record { links = links i; entries = entries i }
 
 -- the test tells whether two decoders are one
@@ -27,7 +27,7 @@ is_same_decoder-Decides one other = (
 -- ---- the first place of a list at which a test passes
 
 -- some item passes exactly where the first that does stands in the list
-any_position : {X : Type 0} (p : X → Bool) (xs : List X) → list_any p xs ≡ nat_lt (position_or_len p xs) (length xs)
+pub any_position : {X : Type 0} (p : X → Bool) (xs : List X) → list_any p xs ≡ nat_lt (position_or_len p xs) (length xs)
 any_position p [] = refl
 any_position p (x ∷ xs) = ap (λ (b : Bool). p x || b) (any_position p xs) ∙ one_more (p x) (position_or_len p xs) (length xs)
   where
