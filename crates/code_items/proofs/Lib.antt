@@ -12,3 +12,6 @@ pub mod Loop
 pub mod Named
 pub mod Sizes
 pub mod TextLaws
+pub mod SharingLaws
+pub mod SharedItems
+pub mod SameLaws

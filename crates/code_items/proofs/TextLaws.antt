@@ -1,11 +1,14 @@
 -- The bytes of a decoder tell which one it is.
-use Rattle.std.proofs.Common.{◌≡◌, ℕ, ◌+◌, ◌*◌, ◌<◌, Bool, true, ◌&&◌, List, [], ◌∷◌, ◌++◌, length, map, refl, sym, ap, ◌∙◌, arith}
+use Rattle.std.proofs.Common.{◌≡◌, ℕ, ◌+◌, ◌*◌, ◌<◌, Bool, true, false, ◌&&◌, ◌||◌, List, [], ◌∷◌, ◌++◌, length, map, refl, sym, subst, ap, ◌∙◌, arith}
 use Rattle.std.specs.Prelude.{nat_lt}
 use Rattle.std.specs.List.{concat, list_all}
+use Rattle.std.specs.Str.{bytes_eq}
 use Rattle.std.specs.Int.{w16, from_be_bytes}
 use Rattle.std.proofs.lemmas.Bool.{and_parts, ltb-true, eqb-true}
-use Rattle.std.proofs.lemmas.List.Folds.{concat-append}
+use Rattle.std.proofs.lemmas.Bool.Decides.{same_from_decides}
+use Rattle.std.proofs.lemmas.List.Folds.{concat-append, list_any-append}
 use Rattle.std.proofs.lemmas.Nat.{from_be_bytes-to_be_bytes_2}
+use Rattle.std.proofs.lemmas.Slice.Eq.{bytes_eq-Decides}
 use Rattle.gf_tables.specs.Product.{size_of, size_of_width, width_of, bytes_of_element}
 use Rattle.gf_tables.specs.declared.kind.FieldKind.{FieldKind}
 use Rattle.gf_tables.specs.declared.kind.Width.{Width}
@@ -13,8 +16,10 @@ use Rattle.gf_tables.specs.declared.kind.Width.TheVariants.{One, Two}
 use Rattle.node_program.specs.declared.Decoder.{Decoder}
 use Rattle.code_items.specs.Items.{Item, number_item, width_item, element_item}
 use Rattle.code_items.specs.Room.{size_of_items}
-use Rattle.code_items.specs.Shared.{decoder_text}
+use Rattle.code_items.specs.Shared.{AreTexts, decoder_text}
+use Rattle.code_items.specs.Sharing.{is_same_decoder, is_shared}
 use Rattle.code_items.specs.Written.{has_elements, has_size}
+use Rattle.code_items.proofs.SharingLaws.{decoders_same, is_same_decoder-Decides}
 use Rattle.code_items.proofs.Sizes.{numbers-size, decoder-size, element-size}
 
 -- texts that begin with parts of one size are the same only where these are, and what follows
@@ -74,7 +79,15 @@ decoder_text-same field rate one other sized fit sized' fit' same =
       (sym (concat-append (map number_item one.links) (map (element_item field) one.entries)) ∙ same ∙ concat-append (map number_item other.links) (map (element_item field) other.entries)) in
     let links : one.links ≡ other.links = numbers_same (record { sized = λ n. refl; one = number_same }) one.links other.links links_count here.1 there.1 parts.0 in
     let entries : one.entries ≡ other.entries = numbers_same (record { sized = element-size field; one = width_same (width_of field) }) one.entries other.entries entries_count fit fit' parts.1 in
-    ap (λ (numbers : List ℕ). record { links = numbers; entries = one.entries }) links ∙ ap (λ (numbers : List ℕ). record { links = other.links; entries = numbers }) entries
+    decoders_same one other links entries
+
+-- so the bytes tell whether two are one
+pub decoder_text-tells : (field : FieldKind) (rate : ℕ) (one other : Decoder) → has_size rate one ≡ true → has_elements field one ≡ true → has_size rate other ≡ true → has_elements field other ≡ true
+    → bytes_eq (decoder_text field one) (decoder_text field other) ≡ is_same_decoder one other
+decoder_text-tells field rate one other sized fit sized' fit' =
+    let decides = is_same_decoder-Decides one other in
+    same_from_decides _ _ (bytes_eq-Decides (decoder_text field one) (decoder_text field other))
+    (λ is. ap (decoder_text field) (decides.0 is), λ is. decides.1 (decoder_text-same field rate one other sized fit sized' fit' is))
 
 -- how many bytes a decoder of a rate has
 pub decoder_text-size : (field : FieldKind) (rate : ℕ) (decoder : Decoder) → has_size rate decoder ≡ true → length (decoder_text field decoder) ≡ 2 * rate + bytes_of_element field * (rate * rate)
@@ -84,3 +97,29 @@ decoder_text-size field rate decoder sized =
     let links : length decoder.links ≡ rate = eqb-true _ _ counts.0 in
     let entries : length decoder.entries ≡ rate * rate = eqb-true _ _ counts.1 in
     decoder-size field decoder ∙ rw (links, entries) refl
+
+-- a decoder is that of one among more, or of the last
+is_shared-push : (earlier : List Decoder) (one decoder : Decoder) → is_shared (earlier ++ one ∷ []) decoder ≡ (is_shared earlier decoder || (is_same_decoder decoder one || false))
+is_shared-push earlier one decoder = list_any-append (is_same_decoder decoder) earlier (one ∷ [])
+
+-- one more decoder and its text
+pub AreTexts-push : (field : FieldKind) (rate : ℕ) (texts : List (List ℕ)) (earlier : List Decoder) (one : Decoder) → has_size rate one ≡ true → has_elements field one ≡ true
+    → AreTexts field rate texts earlier → AreTexts field rate (texts ++ decoder_text field one ∷ []) (earlier ++ one ∷ [])
+AreTexts-push field rate texts earlier one sized fit are decoder sized' fit' =
+    let text = decoder_text field decoder in
+    list_any-append (bytes_eq text) texts (decoder_text field one ∷ [])
+    ∙ ap (λ (b : Bool). b || (bytes_eq text (decoder_text field one) || false)) (are decoder sized' fit')
+    ∙ ap (λ (b : Bool). is_shared earlier decoder || (b || false)) (decoder_text-tells field rate decoder one sized' fit' sized fit)
+    ∙ sym (is_shared-push earlier one decoder)
+
+-- one more of the same decoders
+pub AreTexts-again : (field : FieldKind) (rate : ℕ) (texts : List (List ℕ)) (earlier : List Decoder) (one : Decoder) → is_shared earlier one ≡ true
+    → AreTexts field rate texts earlier → AreTexts field rate texts (earlier ++ one ∷ [])
+AreTexts-again field rate texts earlier one known are decoder sized fit =
+    are decoder sized fit ∙ sym (is_shared-push earlier one decoder ∙ absorb (is_shared earlier decoder) (is_same_decoder decoder one)
+    (λ same. subst (λ (d : Decoder). is_shared earlier d ≡ true) (sym ((is_same_decoder-Decides decoder one).0 same)) known))
+  where
+    absorb : (a b : Bool) → (b ≡ true → a ≡ true) → (a || (b || false)) ≡ a
+    absorb true b implied = refl
+    absorb false true implied = sym (implied refl)
+    absorb false false implied = refl

@@ -120,8 +120,8 @@ pub fn shared_decoders_room(field: FieldKind, decoders: &[Decoder], sames: &[u32
     ensures { result ≡ room_of (shared_table_items field [] decoders.now) }
 {
     let mut room: usize = 0;
-    for (decoder, same) in decoders.iter().zip(sames) {
-        room = room.saturating_add(demand_room(field, *same, decoder));
+    for (demand, decoder) in decoders.iter().enumerate() {
+        room = room.saturating_add(demand_room(field, sames[demand], decoder));
     }
     room
 }

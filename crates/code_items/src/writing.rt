@@ -153,8 +153,8 @@ pub fn put_shared_decoders(
     requires sames { sames.now ≡ sames_after [] decoders.now }
     ensures { Adds result out.old out.new (shared_table_items field [] decoders.now) }
 {
-    for (decoder, same) in decoders.iter().zip(sames) {
-        put_demand(out, field, *same, decoder)?;
+    for (demand, decoder) in decoders.iter().enumerate() {
+        put_demand(out, field, sames[demand], decoder)?;
     }
     Ok(())
 }
