@@ -1,4 +1,5 @@
 pub mod AfterLaws
+pub mod Bounds
 pub mod FrontReaders
 pub mod ItemReaders
 pub mod PartLaws
