@@ -24,6 +24,6 @@ items_of code =
 unfoldable pub bytes_of : Code → List ℕ
 bytes_of code = concat (items_of code)
 
--- these bytes are the file of this code
-abbrev pub IsFileOf : List ℕ → Code → Type 0
-IsFileOf bytes code = bytes ≡ bytes_of code
+-- these bytes are a file of this code
+pub record IsFileOf (bytes : List ℕ) (code : Code) : Type 0 where
+  pub bytes_are : bytes ≡ bytes_of code

@@ -1,6 +1,6 @@
 //! Writing a code file.
-ghost use Rattle.std.specs.Prelude.{IfOk};
-ghost use Rattle.code_file.specs.Items.{IsFileOf};
+ghost use Rattle.std.specs.Prelude.{◌≡◌, IfOk};
+ghost use Rattle.code_file.specs.Items.{bytes_of};
 
 use crate::reading::{MARK, VERSION};
 use crate::room::code_room;
@@ -11,7 +11,7 @@ use std::alloc::{AllocError, Global};
 /// The code file of a code. Its room is taken once.
 #[tactic(auto, unfolding(crate::specs::Items::items_of, crate::specs::Items::bytes_of))]
 pub fn write_code(alloc: Global, code: &Code) -> Result<Vec<u8>, AllocError>
-    ensures { IfOk result (λ bytes. IsFileOf bytes.items code.now) }
+    ensures { IfOk result (λ bytes. bytes.items ≡ bytes_of code.now) }
 {
     let mut out = Vec::with_capacity(alloc, code_room(code))?;
     put_front(&mut out, MARK, VERSION, &code.net, code.rate, code.field)?;
