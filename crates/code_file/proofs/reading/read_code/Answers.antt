@@ -11,12 +11,12 @@ pub returns-in_err-parts-clause-none : goal.returns-in_err-parts-clause-none
 returns-in_err-parts-clause-none c = λ code same.
     let p = err_from_is_err_and c.from_residual.result c.from_residual.ensures.1 in
     let why = c.in_err-parts.field-0.0 in
-    rw (p.1, p.2) (memory_alone why (λ other. not_both _ _ why (ap contents_of same ∙ contents_of-bytes_of code) (c.in_err-parts.ensures other)))
+    rw (p.1, p.2) (memory_alone why (λ other. not_both _ _ why (ap contents_of same.bytes_are ∙ contents_of-bytes_of code) (c.in_err-parts.ensures other)))
 
 pub code_of-requires : goal.code_of-requires
 code_of-requires c =
     (AreContents-from_contents_of c.args.bytes.now (contents_seen c.in_ok-parts.parts) (λ i. omega (arith, c.type_inv.bytes i)) c.in_ok-parts.ensures).1
 
 pub returns-clause-ok : goal.returns-clause-ok
-returns-clause-ok c =
-    bytes_of-from_contents_of c.args.bytes.now c.code_of.result (λ i. omega (arith, c.type_inv.bytes i)) (c.in_ok-parts.ensures ∙ ap (λ (contents : Contents). ok_of contents) (sym c.code_of.ensures))
+returns-clause-ok c = record { bytes_are =
+    bytes_of-from_contents_of c.args.bytes.now c.code_of.result (λ i. omega (arith, c.type_inv.bytes i)) (c.in_ok-parts.ensures ∙ ap (λ (contents : Contents). ok_of contents) (sym c.code_of.ensures)) }
