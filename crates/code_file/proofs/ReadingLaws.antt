@@ -9,10 +9,11 @@ use Rattle.node_program.specs.Code.{choice_of}
 use Rattle.node_program.specs.declared.Operand.{Operand}
 use Rattle.node_program.specs.declared.Decoder.{Decoder}
 use Rattle.node_program.specs.declared.code.Code.{Code}
-use Rattle.code_file.specs.Items.{bytes_of}
+use Rattle.code_file.specs.Items.{IsFileOf, bytes_of}
 use Rattle.code_items.specs.Reading.{Rest, Reading, ◌>>=◌, Front, each_at, front_at, operands_at_link, decoder_at, demand_sinks}
 use Rattle.code_file.specs.Reading.{Contents, contents_of}
 use Rattle.code_file.specs.Spelling.{contents_in, spelling_of, AreContents}
+use Rattle.code_file.proofs.Refusals.{not_both}
 use Rattle.code_file.proofs.SpellingLaws.{spelling_of-contents_in}
 use Rattle.code_items.proofs.Readers.{ok_of, IsBytes, bind_ok, ok_is}
 use Rattle.code_file.proofs.CodeReaders.{AreContentsRead, body_at, body_reader}
@@ -114,9 +115,17 @@ bytes_of-prefix one other more same =
     either true is e = nil_from_length more (eqb-true _ _ is)
     either false is e = absurd cc
 
+-- each file of a code says what the code has
+pub contents_of-file : (bytes : List ℕ) (code : Code) → IsFileOf bytes code → contents_of bytes ≡ Ok (contents_in code)
+contents_of-file bytes code is = ap contents_of is.bytes_are ∙ contents_of-bytes_of code
+
+-- so it isn't refused
+pub file_not_refused : (bytes : List ℕ) (code : Code) (why : CodeRefusal) → IsFileOf bytes code → contents_of bytes ≡ Err why → ⊥
+file_not_refused bytes code why is refused = not_both (contents_of bytes) (contents_in code) why (contents_of-file bytes code is) refused
+
 -- codes with one file have the same parts
-pub contents_in-same : (one other : Code) → bytes_of one ≡ bytes_of other → contents_in one ≡ contents_in other
-contents_in-same one other same = ok_is (contents_in one) (contents_in other) (sym (contents_of-bytes_of one) ∙ ap contents_of same ∙ contents_of-bytes_of other)
+pub contents_in-same : (bytes : List ℕ) (one other : Code) → IsFileOf bytes one → IsFileOf bytes other → contents_in one ≡ contents_in other
+contents_in-same bytes one other is is' = ok_is (contents_in one) (contents_in other) (sym (contents_of-file bytes one is) ∙ contents_of-file bytes other is')
 
 -- the code of contents
 unfoldable pub code_of : (contents : Contents) → AreContents contents → Code

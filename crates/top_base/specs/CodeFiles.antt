@@ -1,5 +1,5 @@
 -- A code's file that is read, whether the code is accepted or not.
-use Rattle.std.specs.Prelude.{◌≡◌, ◌⊎◌, ℕ, List, Option, Result, Err}
+use Rattle.std.specs.Prelude.{◌≡◌, ◌⊎◌, ℕ, List, Result, Err}
 use Rattle.lif_outside.specs.Events.{Event}
 use Rattle.code_file.specs.Items.{IsFileOf}
 use Rattle.code_file.specs.Limits.{code_limit}

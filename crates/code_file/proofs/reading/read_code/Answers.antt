@@ -1,17 +1,17 @@
 use Rattle.std.proofs.Common.{sym, ap, ◌∙◌, arith}
 use Rattle.std.proofs.lemmas.Result.{err_from_is_err_and}
-use Rattle.code_file.specs.Reading.{Contents, contents_of}
+use Rattle.code_file.specs.Reading.{Contents}
 use Rattle.code_items.proofs.Readers.{ok_of}
-use Rattle.code_file.proofs.ReadingLaws.{AreContents-from_contents_of, bytes_of-from_contents_of, contents_of-bytes_of}
+use Rattle.code_file.proofs.ReadingLaws.{AreContents-from_contents_of, bytes_of-from_contents_of, file_not_refused}
 use Rattle.code_file.specs.Parts.{contents_seen}
-use Rattle.code_file.proofs.Refusals.{memory_alone, not_both}
+use Rattle.code_file.proofs.Refusals.{memory_alone}
 use Rattle.code_file.proofs.reading.read_code.Goals as goal
 
 pub returns-in_err-parts-clause-none : goal.returns-in_err-parts-clause-none
 returns-in_err-parts-clause-none c = λ code same.
     let p = err_from_is_err_and c.from_residual.result c.from_residual.ensures.1 in
     let why = c.in_err-parts.field-0.0 in
-    rw (p.1, p.2) (memory_alone why (λ other. not_both _ _ why (ap contents_of same.bytes_are ∙ contents_of-bytes_of code) (c.in_err-parts.ensures other)))
+    rw (p.1, p.2) (memory_alone why (λ other. file_not_refused _ code why same (c.in_err-parts.ensures other)))
 
 pub code_of-requires : goal.code_of-requires
 code_of-requires c =
