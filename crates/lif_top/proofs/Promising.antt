@@ -14,11 +14,11 @@ use Rattle.lif_outside.specs.Puts.{Put}
 use Rattle.top_base.specs.Outcome.{SaysOutcome, status_unsaid}
 use Rattle.top_base.specs.Performs.{RunsOn}
 use Rattle.top_base.proofs.PerformingLaws.{IsKnown, at_once_known, performs_said}
-use Rattle.top_base.specs.Words.{Command, check, command_of, compile, cuts, demo, order, send}
+use Rattle.top_base.specs.Words.{Command, check, command_of, compile, cuts, demo, migrate, order, send}
 use Rattle.top_base.specs.declared.outcome.Outcome.{Outcome}
 use Rattle.top_base.specs.declared.status.Status.{Status}
 use Rattle.top_base.specs.declared.status.Status.TheVariants.{Done, Usage}
-use Rattle.top_tools.proofs.ToolLaws.{check_known, check_used, compile_known, compile_used, cuts_known, cuts_used, order_known, order_used}
+use Rattle.top_tools.proofs.ToolLaws.{check_known, check_used, compile_known, compile_used, cuts_known, cuts_used, migrate_known, migrate_used, order_known, order_used}
 use Rattle.lif_top.specs.Promises.{Promises, does_form, misuse}
 use Rattle.top_runs.proofs.DemoPerforms.{demo_known, demo_used}
 use Rattle.top_runs.proofs.SendPerforms.{send_known, send_used}
@@ -49,6 +49,7 @@ form_known faithful (Some (compile given)) = compile_known given
 form_known faithful (Some (check code)) = check_known code
 form_known faithful (Some (send given)) = send_known faithful given
 form_known faithful (Some (demo given)) = demo_known faithful given
+form_known faithful (Some (migrate given)) = migrate_known given
 
 command_used : (faithful : Bool) (command : Command) (outcome : Outcome) (calls : Calls) → (does_form faithful (Some command)).runs outcome calls → outcome.status ≢ Usage
 command_used faithful (order net) = order_used net
@@ -57,6 +58,7 @@ command_used faithful (compile given) = compile_used given
 command_used faithful (check code) = check_used code
 command_used faithful (send given) = send_used faithful given
 command_used faithful (demo given) = demo_used faithful given
+command_used faithful (migrate given) = migrate_used given
 
 -- the usage comes of words that are no form
 usage_of : (faithful : Bool) (form : Option Command) (outcome : Outcome) (status : Status) (calls : Calls) (puts : List Put) → (does_form faithful form).runs outcome calls → SaysOutcome outcome status puts → (status ≡ Usage) ↔ (form ≡ None)

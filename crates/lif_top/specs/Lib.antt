@@ -7,6 +7,7 @@ pub use Rattle.top_runs.specs.Send
 pub use Rattle.top_base.specs.Accepting
 pub use Rattle.top_base.specs.Acting
 pub use Rattle.top_base.specs.Causes
+pub use Rattle.top_base.specs.CodeFiles
 pub use Rattle.top_base.specs.Inputs
 pub use Rattle.top_base.specs.Inspecting
 pub use Rattle.top_base.specs.Lines
@@ -19,6 +20,7 @@ pub use Rattle.top_base.specs.Words
 pub use Rattle.top_tools.specs.Check
 pub use Rattle.top_tools.specs.Compile
 pub use Rattle.top_tools.specs.Cuts
+pub use Rattle.top_tools.specs.Migrate
 pub use Rattle.top_tools.specs.Order
 pub use Rattle.code_checker.specs.Checking
 pub use Rattle.code_file.specs.Items

@@ -7,10 +7,11 @@ use Rattle.lif_outside.specs.Calls.{Objects}
 use Rattle.top_tools.specs.Check.{check_command}
 use Rattle.top_tools.specs.Compile.Command.{compile_command}
 use Rattle.top_tools.specs.Cuts.{cuts_command}
+use Rattle.top_tools.specs.Migrate.{migrate_command}
 use Rattle.top_tools.specs.Order.{order_command}
 use Rattle.top_base.specs.Lines.{usage_line}
 use Rattle.top_base.specs.Performs.{Behaviour, Performs, at_once}
-use Rattle.top_base.specs.Words.{Command, check, command_of, compile, cuts, demo, order, send}
+use Rattle.top_base.specs.Words.{Command, check, command_of, compile, cuts, demo, migrate, order, send}
 use Rattle.top_base.specs.declared.outcome.Outcome.{Outcome}
 use Rattle.top_base.specs.declared.status.Status.{Status}
 use Rattle.top_base.specs.declared.status.Status.TheVariants.{Usage}
@@ -30,6 +31,7 @@ does_form faithful (Some (compile given)) = compile_command given
 does_form faithful (Some (check code)) = check_command code
 does_form faithful (Some (send given)) = send_command faithful given
 does_form faithful (Some (demo given)) = demo_command faithful given
+does_form faithful (Some (migrate given)) = migrate_command given
 
 pub record Promises {S C L : Type 0} {g : StoreGhosts S} {h : SinkGhosts C} {k : LinksGhosts L} (words : List (List ℕ)) (o : Objects g h k)
     (status : Status) : Type 0 where

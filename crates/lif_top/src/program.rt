@@ -10,7 +10,7 @@ use std::alloc::Global;
 use std::thread::Threads;
 use top_base::{Command, Outcome, Status, command_of, conclude};
 use top_runs::{demo, send};
-use top_tools::{check, compile, cuts, order};
+use top_tools::{check, compile, cuts, migrate, order};
 
 // What the words come to: the command that they are, or the usage.
 fn carry_out<'a, S: Store, L: Links, G: Gate + Sync, R: Threads + Sync>(
@@ -36,6 +36,7 @@ fn carry_out<'a, S: Store, L: Links, G: Gate + Sync, R: Threads + Sync>(
         Command::Check(path) => check(rt, alloc, path, store, gate),
         Command::Send(given) => send(rt, alloc, &given, store, links, gate),
         Command::Demo(given) => demo(rt, alloc, &given, links, gate),
+        Command::Migrate(given) => migrate(alloc, &given, store),
     }
 }
 
@@ -53,6 +54,8 @@ fn carry_out<'a, S: Store, L: Links, G: Gate + Sync, R: Threads + Sync>(
 ///   the sink decodes.
 /// - `demo N K BYTES` compiles the network with a sink behind each K of N nodes, carries BYTES bytes over the links, opened
 ///   with 1, to its sinks, and says how many frames that took and the sum of the bytes that came.
+/// - `migrate OLD NEW` reads a code file, in either version, and writes its code anew, in version 2, whether it is accepted
+///   or not.
 ///
 /// The jobs of certificates, of a compilation, of a check and of the sinks that decode enter the gate.
 pub fn lif<S: Store, C: Sink, L: Links, G: Gate + Sync, R: Threads + Sync>(

@@ -1,16 +1,14 @@
--- Codes as inputs: bytes are those of one accepted code, or are refused in one way.
+-- Accepted codes as inputs: bytes are a file of one accepted code, or are refused in one way.
 use Rattle.std.specs.Prelude.{◌≡◌, ◌<◌, ℕ, List, IsTrue}
 use Rattle.std.proofs.Common.{refl, sym, ap, subst, ◌∙◌}
 use Rattle.item_list.proofs.Numbers.{neither_below}
 use Rattle.code_checker.specs.Checking.{FailsFirst, DiffersFirst, entry_at, demand_product}
 use Rattle.code_checker.proofs.CheckingLaws.{FailsFirst-refuses}
-use Rattle.code_file.specs.Items.{bytes_of}
-use Rattle.code_file.specs.Reading.{contents_of}
-use Rattle.code_file.proofs.ReadingLaws.{contents_of-bytes_of}
 use Rattle.node_program.specs.Decoding.{IsAccepted}
 use Rattle.node_program.specs.declared.code.Code.{Code}
 use Rattle.code_file.specs.Limits.{code_limit}
 use Rattle.top_base.specs.Accepting.{IsCodeOf, RefusesCode}
+use Rattle.top_base.proofs.CodeFileLaws.{file_apart, same_file_refusal}
 use Rattle.top_base.proofs.InputLaws.{IsInput}
 use Rattle.top_base.specs.Inputs.{is_refusal}
 use Rattle.top_base.specs.Outcome.{any_cycle}
@@ -47,25 +45,21 @@ kind bytes (CheckFailed demand row column found) line refused = refl
 kind bytes status line refused = absurd refused
 
 -- the bytes of an accepted code aren't refused
-not_refused : (code : Code) (bytes : List ℕ) (status : Status) (line : List ℕ) → bytes_of code ≡ bytes → IsAccepted code → RefusesCode bytes status line → ⊥
-not_refused code bytes (CodeRefused why) line same accepted refused =
-    let says = sym (contents_of-bytes_of code) ∙ ap contents_of same ∙ refused.0 in cc
-not_refused code bytes (CheckFailed demand row column found) line same accepted refused =
-    FailsFirst-refuses refused.0 demand row column found refused.2 (subst IsAccepted (same_code code refused.0 (same ∙ refused.1)) accepted)
-not_refused code bytes status line same accepted refused = absurd refused
+apart : (bytes : List ℕ) (code : Code) (status : Status) (line : List ℕ) → IsCodeOf bytes code → RefusesCode bytes status line → ⊥
+apart bytes code (CodeRefused why) line is refused = file_apart bytes code (CodeRefused why) line is.spelled refused
+apart bytes code (CheckFailed demand row column found) line is refused =
+    FailsFirst-refuses refused.0 demand row column found refused.2 (subst IsAccepted (same_code bytes code refused.0 is.spelled refused.1) is.accepted)
+apart bytes code status line is refused = absurd refused
 
 -- bytes are refused in one way
 same_refusal : (bytes : List ℕ) (status : Status) (line : List ℕ) (status' : Status) (line' : List ℕ) → RefusesCode bytes status line → RefusesCode bytes status' line' → status ≡ status'
-same_refusal bytes (CodeRefused why) line (CodeRefused why') line' one other =
-    let says = sym one.0 ∙ other.0 in
-    let same : why ≡ why' = cc in
-    ap (λ w. CodeRefused w) same
+same_refusal bytes (CodeRefused why) line (CodeRefused why') line' one other = same_file_refusal bytes (CodeRefused why) line (CodeRefused why') line' one other
 same_refusal bytes (CodeRefused why) line (CheckFailed demand row column found) line' one other =
-    let says = sym (contents_of-bytes_of other.0) ∙ ap contents_of (sym other.1) ∙ one.0 in absurd (cc)
+    absurd (file_apart bytes other.0 (CodeRefused why) line other.1 one)
 same_refusal bytes (CheckFailed demand row column found) line (CodeRefused why) line' one other =
-    let says = sym (contents_of-bytes_of one.0) ∙ ap contents_of (sym one.1) ∙ other.0 in absurd (cc)
+    absurd (file_apart bytes one.0 (CodeRefused why) line' one.1 other)
 same_refusal bytes (CheckFailed demand row column found) line (CheckFailed demand' row' column' found') line' one other =
-    let same : other.0 ≡ one.0 = same_code other.0 one.0 (sym other.1 ∙ one.1) in
+    let same : other.0 ≡ one.0 = same_code bytes other.0 one.0 other.1 one.1 in
     let fails : FailsFirst one.0 demand' row' column' found' = subst (λ (code : Code). FailsFirst code demand' row' column' found') same other.2 in
     let there = same_fails one.0 demand row column found demand' row' column' found' one.2 fails in
     cc
@@ -73,11 +67,11 @@ same_refusal bytes (CodeRefused why) line status' line' one other = absurd other
 same_refusal bytes (CheckFailed demand row column found) line status' line' one other = absurd other
 same_refusal bytes status line status' line' one other = absurd one
 
--- what has to be known of a code as an input
+-- what has to be known of an accepted code as an input
 pub code_input : IsInput code_limit IsCodeOf RefusesCode
 code_input = record {
   kind = kind;
-  same = λ bytes one other is_one is_other. same_code one other (sym is_one.spelled ∙ is_other.spelled);
-  apart = λ bytes code status line is refused. not_refused code bytes status line (sym is.spelled) is.accepted refused;
+  same = λ bytes one other is_one is_other. same_code bytes one other is_one.spelled is_other.spelled;
+  apart = apart;
   alike = λ bytes status line status' line' one other. ap any_cycle (same_refusal bytes status line status' line' one other);
 }

@@ -1,5 +1,6 @@
 pub mod ActingLaws
 pub mod AcceptingLaws
+pub mod CodeFileLaws
 pub mod Exits
 pub mod InputLaws
 pub mod InspectingLaws

@@ -10,7 +10,7 @@ use Rattle.node_program.specs.Code.{IsCode}
 use Rattle.node_program.specs.declared.Operand.{Operand}
 use Rattle.node_program.specs.declared.Decoder.{Decoder}
 use Rattle.node_program.specs.declared.code.Code.{Code}
-use Rattle.code_file.specs.Items.{bytes_of}
+use Rattle.code_file.specs.Items.{IsFileOf}
 use Rattle.code_file.specs.Reading.{Front, Contents}
 use Rattle.code_file.proofs.ReadingLaws.{contents_in-same}
 use Rattle.code_file.specs.Spelling.{contents_in}
@@ -70,7 +70,7 @@ same_as contents one other =
     same_law contents one other (one.code.draft.named_field ∙ sym other.code.draft.named_field) (one.code.draft.no_wanted ∙ sym other.code.draft.no_wanted)
 
 -- codes with one file are equal
-pub same_code : (one other : Code) → bytes_of one ≡ bytes_of other → one ≡ other
-same_code one other same =
+pub same_code : (bytes : List ℕ) (one other : Code) → IsFileOf bytes one → IsFileOf bytes other → one ≡ other
+same_code bytes one other is is' =
     subst (λ (contents : Contents). (beside : AsCode contents) → code_as (contents_in one) (code_parts one) ≡ code_as contents beside)
-    (contents_in-same one other same) (same_as (contents_in one) (code_parts one)) (code_parts other)
+    (contents_in-same bytes one other is is') (same_as (contents_in one) (code_parts one)) (code_parts other)

@@ -1,7 +1,8 @@
 -- The commands that words were read as.
-use Rattle.top_base.specs.Words.{Compile, Demo, Send, Command as Form, check, compile, cuts, demo, order, send}
+use Rattle.top_base.specs.Words.{Compile, Demo, Migrate, Send, Command as Form, check, compile, cuts, demo, migrate, order, send}
 use Rattle.top_base.specs.declared.words.CompileWords.{CompileWords}
 use Rattle.top_base.specs.declared.demo_words.DemoWords.{DemoWords}
+use Rattle.top_base.specs.declared.words.MigrateWords.{MigrateWords}
 use Rattle.top_base.specs.declared.words.SendWords.{SendWords}
 use Rattle.top_base.specs.declared.words.Command.{Command}
 use Rattle.top_base.specs.declared.words.Command.TheVariants as read
@@ -9,6 +10,10 @@ use Rattle.top_base.specs.declared.words.Command.TheVariants as read
 -- what a command `compile` is given, by its words
 abbrev pub compile_given_in : CompileWords → Compile
 compile_given_in words = record { net = words.net.now; code = words.code.now; report = words.report.now }
+
+-- what a command `migrate` is given, by its words
+abbrev pub migrate_given_in : MigrateWords → Migrate
+migrate_given_in words = record { old = words.old.now; new = words.new.now }
 
 -- what a command `send` is given, by its words
 abbrev pub given_in : SendWords → Send
@@ -25,3 +30,4 @@ command_in (read.Compile words) = compile (compile_given_in words)
 command_in (read.Check path) = check path.now
 command_in (read.Send words) = send (given_in words)
 command_in (read.Demo words) = demo (demo_given_in words)
+command_in (read.Migrate words) = migrate (migrate_given_in words)

@@ -1,6 +1,7 @@
 pub mod Acting
 pub mod Accepting
 pub mod Causes
+pub mod CodeFiles
 pub mod Codes
 pub mod FileReading
 pub mod Given

@@ -18,7 +18,7 @@ use Rattle.node_program.specs.declared.code.Code.{Code}
 use Rattle.top_base.specs.Words.{Demo}
 
 abbrev pub usage_line : List ℕ
-usage_line = codes "usage: lif order NET | cuts NET | compile NET CODE REPORT | check CODE | send CODE PATTERN SEED SRC PREFIX | demo N K BYTES\n"
+usage_line = codes "usage: lif order NET | cuts NET | compile NET CODE REPORT | check CODE | send CODE PATTERN SEED SRC PREFIX | demo N K BYTES | migrate OLD NEW\n"
 
 abbrev pub read_fault_line : List ℕ
 read_fault_line = codes "read fault\n"
@@ -116,6 +116,10 @@ accepted_line code = codes "accepted " ++ code_text code
 
 abbrev pub compiled_line : ℕ → FieldKind → ℕ → List ℕ
 compiled_line rate field demands = codes "compiled " ++ rate_text rate field demands
+
+-- the line of a code that was written anew
+abbrev pub migrated_line : Code → List ℕ
+migrated_line code = codes "migrated " ++ code_text code
 
 -- the line of a source that was sent
 abbrev pub sent_line : ℕ → ℕ → ℕ → List ℕ

@@ -11,6 +11,11 @@ pub record Compile : Type 0 where
   pub code : List ℕ
   pub report : List ℕ
 
+-- what a command `migrate` is given
+pub record Migrate : Type 0 where
+  pub old : List ℕ
+  pub new : List ℕ
+
 -- what a command `send` is given
 pub record Send : Type 0 where
   pub code : List ℕ
@@ -19,9 +24,13 @@ pub record Send : Type 0 where
   pub source : List ℕ
   pub prefix : List ℕ
 
--- the greatest length of a source
+-- the greatest length of a source that is sent
 abbrev pub source_limit : ℕ
-source_limit = 67108864
+source_limit = 1099511627776
+
+-- the greatest length of a source that is made
+abbrev pub demo_limit : ℕ
+demo_limit = 67108864
 
 -- what a command `demo` is given: the network that is made, and the length of its source
 pub record Demo : Type 0 where
@@ -37,6 +46,7 @@ pub data Command : Type 0 where
   check : (code : List ℕ) → Command
   send : (given : Send) → Command
   demo : (given : Demo) → Command
+  migrate : (given : Migrate) → Command
 
 -- `order NET`
 abbrev pub order_of : List (List ℕ) → Option Command
@@ -67,12 +77,17 @@ send_of _ = None
 -- `demo N K BYTES`, where the network is one that is made, and the source within its limit
 abbrev pub demo_with : Option ℕ → Option ℕ → Option ℕ → Option Command
 demo_with (Some n) (Some k) (Some bytes) =
-    if fits n k && nat_le bytes source_limit then Some (demo (record { n = n; k = k; bytes = bytes })) else None
+    if fits n k && nat_le bytes demo_limit then Some (demo (record { n = n; k = k; bytes = bytes })) else None
 demo_with _ _ _ = None
 
 abbrev pub demo_of : List (List ℕ) → Option Command
 demo_of (n ∷ k ∷ bytes ∷ []) = demo_with (number_of n) (number_of k) (number_of bytes)
 demo_of _ = None
+
+-- `migrate OLD NEW`
+abbrev pub migrate_of : List (List ℕ) → Option Command
+migrate_of (old ∷ new ∷ []) = Some (migrate (record { old = old; new = new }))
+migrate_of _ = None
 
 -- the command that words are
 abbrev pub command_of : List (List ℕ) → Option Command
@@ -84,4 +99,5 @@ command_of (name ∷ given) =
     else if bytes_eq name (codes "check") then check_of given
     else if bytes_eq name (codes "send") then send_of given
     else if bytes_eq name (codes "demo") then demo_of given
+    else if bytes_eq name (codes "migrate") then migrate_of given
     else None

@@ -1,42 +1,26 @@
 //! A code that is read and checked.
-ghost use Rattle.std.specs.Prelude.{◌≡◌, ◌≢◌, ◌≤◌, Ok, Err, IfOk, IfErr, length};
+ghost use Rattle.std.specs.Prelude.{◌≤◌, ℕ, List, Ok, Err, IfOk, IfErr, length};
 ghost use Rattle.lif_outside.specs.Calls.{MakesCalls};
 ghost use Rattle.code_checker.specs.Checking.{IsRefusal};
-ghost use Rattle.code_file.specs.Items.{bytes_of};
+ghost use Rattle.code_file.specs.Items.{IsFileOf};
 ghost use Rattle.code_file.specs.Limits.{code_limit};
 ghost use Rattle.top_base.specs.Accepting.{IsCodeOf, RefusesCodeOrLosesIt, ReadsCode};
 
+use crate::code_files::parse;
 use crate::lines::Line;
 use crate::outcome::Outcome;
 use crate::reading::read_whole;
 use crate::status::Status;
 use code_checker::{CheckRefusal, Checked, Refused, check};
-use code_file::{CODE_LIMIT, CodeRefusal, read_code};
+use code_file::CODE_LIMIT;
 use lif_outside::{Gate, Store};
-use node_program::Code;
 use std::alloc::Global;
 use std::thread::Threads;
-
-// The code whose file the bytes are.
-fn parse<'a>(alloc: Global, bytes: &[u8]) -> Result<Code, Outcome<'a>>
-    requires { length bytes.now ≤ code_limit }
-    ensures code { IfOk result (λ code. bytes.now ≡ bytes_of code) }
-    ensures refused { IfErr result (λ outcome. RefusesCodeOrLosesIt bytes.now outcome) }
-{
-    match read_code(alloc, bytes) {
-        Ok(code) => Ok(code),
-        Err(CodeRefusal::OutOfMemory) => Err(Outcome::out_of_memory()),
-        Err(why) => Err(Outcome {
-            status: Status::CodeRefused(why),
-            line: Line::code_refused(why),
-        }),
-    }
-}
 
 // What a code that isn't accepted, or couldn't be checked, makes of the command.
 fn unaccepted<'a>(refused: &Refused) -> Outcome<'a>
     requires { IsRefusal refused.now.code refused.now.why }
-    ensures { RefusesCodeOrLosesIt (bytes_of refused.now.code) result }
+    ensures { (bytes : List ℕ) → IsFileOf bytes refused.now.code → RefusesCodeOrLosesIt bytes result }
 {
     match refused.why {
         CheckRefusal::NotIdentity {
@@ -57,7 +41,7 @@ fn unaccepted<'a>(refused: &Refused) -> Outcome<'a>
     }
 }
 
-// The code whose file the bytes are, checked.
+// The code of which the bytes are a file, checked.
 fn accept<'a, G: Gate + Sync, R: Threads + Sync>(
     rt: &R,
     alloc: Global,

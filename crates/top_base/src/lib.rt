@@ -1,12 +1,13 @@
 //! What the commands share: words, statuses and the lines said with them, whole files, and the codes and networks
 //! that are read from them.
 //!
-//! Begin with `command_of`, `read_whole`, `read_accepted` and `conclude`. Read `specs/Performs.antt`: what a
+//! Begin with `command_of`, `read_whole`, `read_file_of_code`, `read_accepted` and `conclude`. Read `specs/Performs.antt`: what a
 //! command does is one record of four words, and `Performs` what is promised of any. The law that matters is
 //! `performs_said` in proofs/PerformingLaws: all of it follows from the calls.
 #![tactic(auto)]
 
 mod accepting;
+mod code_files;
 mod demo_words;
 mod lines;
 mod long_texts;
@@ -18,11 +19,12 @@ mod text;
 mod words;
 
 pub use accepting::read_accepted;
-pub use demo_words::{DemoWords, SOURCE_LIMIT};
+pub use code_files::read_file_of_code;
+pub use demo_words::DemoWords;
 pub use lines::Line;
 pub use long_texts::{order_text, rate_unmet_line, zero_rate_line};
 pub use networks::{Ordered, read_ordered};
 pub use outcome::{Outcome, conclude};
 pub use reading::{FileRefusal, read_next, read_whole};
 pub use status::{NetWhy, Status};
-pub use words::{Command, CompileWords, SendWords, command_of};
+pub use words::{Command, CompileWords, MigrateWords, SOURCE_LIMIT, SendWords, command_of};

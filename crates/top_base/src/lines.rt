@@ -7,7 +7,7 @@ ghost use Rattle.name_texts.specs.Names.{demand_text};
 ghost use Rattle.net_model.specs.Demands.{demand_count};
 ghost use Rattle.net_model.specs.Limits.{longest_name};
 ghost use Rattle.top_base.specs.Given.{demo_given_in};
-ghost use Rattle.top_base.specs.Lines.{accepted_line, check_failed_line, code_refused_line, code_text, compiled_line, demo_lines, detail_text, link_fault_line, net_refused_line, out_of_memory_line, rate_over_line, read_fault_line, same_path_line, sent_line, too_long_line, too_many_demands_line, unknown_pattern_line, usage_line, write_fault_line};
+ghost use Rattle.top_base.specs.Lines.{accepted_line, check_failed_line, code_refused_line, code_text, compiled_line, demo_lines, detail_text, link_fault_line, migrated_line, net_refused_line, out_of_memory_line, rate_over_line, read_fault_line, same_path_line, sent_line, too_long_line, too_many_demands_line, unknown_pattern_line, usage_line, write_fault_line};
 
 use crate::demo_words::DemoWords;
 use crate::text::{ROOM, ShortText, Text};
@@ -187,7 +187,7 @@ impl<'a> Line<'a> {
         ensures { result ≡ usage_line }
     {
         Line::of(begin(
-            b"usage: lif order NET | cuts NET | compile NET CODE REPORT | check CODE | send CODE PATTERN SEED SRC PREFIX | demo N K BYTES\n",
+            b"usage: lif order NET | cuts NET | compile NET CODE REPORT | check CODE | send CODE PATTERN SEED SRC PREFIX | demo N K BYTES | migrate OLD NEW\n",
         ))
     }
 
@@ -323,6 +323,13 @@ impl<'a> Line<'a> {
         ensures { result ≡ compiled_line code.now.rate code.now.field (demand_count code.now.net) }
     {
         Line::of_code(b"compiled ", code)
+    }
+
+    /// A code was written anew.
+    pub fn migrated(code: &Code) -> Line<'a>
+        ensures { result ≡ migrated_line code.now }
+    {
+        Line::of_code(b"migrated ", code)
     }
 
     // A line that begins with a word and has the rate, the field and the demands of a code.

@@ -1,6 +1,6 @@
 //! How a command ends: a status, and the line that is said with it.
 ghost use Rattle.std.specs.Prelude.{◌≡◌, OnOk, OnErr};
-ghost use Rattle.top_base.specs.Lines.{link_fault_line, out_of_memory_line, usage_line, write_fault_line};
+ghost use Rattle.top_base.specs.Lines.{link_fault_line, out_of_memory_line, too_long_line, usage_line, write_fault_line};
 ghost use Rattle.lif_outside.specs.Calls.{MakesPuts};
 ghost use Rattle.lif_outside.specs.Puts.{SaysAll, SaysPart};
 ghost use Rattle.top_base.specs.Outcome.{SaysOutcome, status_unsaid};
@@ -52,6 +52,17 @@ impl<'a> Outcome<'a> {
         }
     }
 
+    /// An input, or what would be written, is longer than its limit.
+    pub fn too_long() -> Outcome<'a>
+        ensures status { result.status ≡ Status.TooLong }
+        ensures line { result.line ≡ too_long_line }
+    {
+        Outcome {
+            status: Status::TooLong,
+            line: Line::too_long(),
+        }
+    }
+
     /// There was no memory.
     pub fn out_of_memory() -> Outcome<'a>
         ensures status { result.status ≡ Status.OutOfMemory }
@@ -76,10 +87,7 @@ impl<'a> From<FileRefusal> for Outcome<'a> {
                 status: Status::ReadFault,
                 line: Line::read_fault(),
             },
-            FileRefusal::TooLong => Outcome {
-                status: Status::TooLong,
-                line: Line::too_long(),
-            },
+            FileRefusal::TooLong => Outcome::too_long(),
             FileRefusal::OutOfMemory => Outcome::out_of_memory(),
         }
     }

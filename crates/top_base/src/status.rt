@@ -59,7 +59,7 @@ pub enum Status {
     ReadFault,
     /// An output couldn't be written, or a line couldn't be said.
     WriteFault,
-    /// An input is longer than its limit.
+    /// An input is longer than its limit, or what would be written of a code.
     TooLong,
     /// There was no memory.
     OutOfMemory,

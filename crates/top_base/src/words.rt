@@ -1,10 +1,10 @@
 //! The words that the program is called with.
 ghost use Rattle.std.specs.Prelude.{◌≡◌, Some, map, string_bytes};
 ghost use Rattle.std.specs.Option.{option_map};
-ghost use Rattle.top_base.specs.Words.{check_of, command_of, compile_of, cuts_of, demo_of, demo_with, order_of, send_of};
+ghost use Rattle.top_base.specs.Words.{check_of, command_of, compile_of, cuts_of, demo_of, demo_with, migrate_of, order_of, send_of};
 ghost use Rattle.top_base.specs.Given.{command_in};
 
-use crate::demo_words::{DemoWords, SOURCE_LIMIT};
+use crate::demo_words::{DEMO_LIMIT, DemoWords};
 use net_maker::demo_fits;
 use net_reader::number_of;
 
@@ -17,6 +17,18 @@ pub struct CompileWords<'a> {
     pub code: &'a str,
     /// The path of the report, which is written.
     pub report: &'a str,
+}
+
+/// The greatest length of a source that is sent, in bytes: 1 TiB.
+pub const SOURCE_LIMIT: u64 = 1_099_511_627_776;
+
+/// What a command `migrate` is given.
+#[derive(Clone, Copy)]
+pub struct MigrateWords<'a> {
+    /// The path of a code.
+    pub old: &'a str,
+    /// The path where it is written anew.
+    pub new: &'a str,
 }
 
 /// What a command `send` is given.
@@ -49,6 +61,8 @@ pub enum Command<'a> {
     Send(SendWords<'a>),
     /// `demo N K BYTES`.
     Demo(DemoWords),
+    /// `migrate OLD NEW`.
+    Migrate(MigrateWords<'a>),
 }
 
 /// The command that the words are, if they are one.
@@ -65,6 +79,7 @@ pub fn command_of(words: &[String]) -> Option<Command<'_>>
         "check" => check_of(given),
         "send" => send_of(given),
         "demo" => demo_of(given),
+        "migrate" => migrate_of(given),
         _ => None,
     }
 }
@@ -151,8 +166,21 @@ fn demo_with<'a>(n: u64, k: u64, bytes: u64) -> Option<Command<'a>>
 {
     let n = u32::try_from(n).ok()?;
     let k = u32::try_from(k).ok()?;
-    if !demo_fits(n, k) || bytes > SOURCE_LIMIT as u64 {
+    if !demo_fits(n, k) || bytes > DEMO_LIMIT {
         return None;
     }
     Some(Command::Demo(DemoWords { n, k, bytes }))
+}
+
+// `migrate OLD NEW`.
+fn migrate_of(given: &[String]) -> Option<Command<'_>>
+    ensures { option_map command_in result ≡ migrate_of (map string_bytes given.now) }
+{
+    let [old, new] = given else {
+        return None;
+    };
+    Some(Command::Migrate(MigrateWords {
+        old: old.as_str(),
+        new: new.as_str(),
+    }))
 }

@@ -49,7 +49,7 @@ fn deliver<'a, F: Field + Send + Sync, S: Store, K: Links, G: Gate + Sync, R: Th
     let Ok(()) = delivery.create_outputs(store) else {
         return Outcome::write_fault();
     };
-    match delivery.stream(rt, store, links, words.source, SOURCE_LIMIT as u64, gate) {
+    match delivery.stream(rt, store, links, words.source, SOURCE_LIMIT, gate) {
         Ok(counts) => Outcome {
             status: Status::Done,
             line: Line::sent(counts.bytes, counts.generations, counts.sinks),

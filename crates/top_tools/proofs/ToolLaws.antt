@@ -1,5 +1,5 @@
 -- What has to be known of the commands.
-use Rattle.std.specs.Prelude.{◌≡◌, ◌≢◌, ℕ, List, IsTrue}
+use Rattle.std.specs.Prelude.{◌≡◌, ◌≢◌, ℕ, List, [], ◌∷◌, IsTrue}
 use Rattle.std.proofs.Common.{refl, sym, ap, ◌∙◌, ⊎_elim, arith}
 use Rattle.std.proofs.lemmas.Bool.{false≢true}
 use Rattle.cut_witness.proofs.CertificateLaws.{IsRate-least_value}
@@ -10,26 +10,32 @@ use Rattle.net_model.specs.Demands.{demand_count}
 use Rattle.net_model.specs.declared.net.Net.{Net}
 use Rattle.net_reader.specs.Text.{net_limit}
 use Rattle.topo_order.specs.Order.{order_of}
+use Rattle.code_file.specs.Items.{IsFileOf}
 use Rattle.code_file.specs.Limits.{code_limit}
+use Rattle.node_program.specs.declared.code.Code.{Code}
 use Rattle.top_base.specs.Accepting.{IsCodeOf, RefusesCode}
 use Rattle.top_base.proofs.AcceptingLaws.{code_input}
+use Rattle.top_base.specs.CodeFiles.{RefusesFile}
+use Rattle.top_base.proofs.CodeFileLaws.{file_input}
 use Rattle.top_base.proofs.InspectingLaws.{EndsWell, inspects_known, inspects_used}
 use Rattle.top_base.specs.Inspecting.{OwesDone}
 use Rattle.top_base.specs.Lines.{accepted_line, compiled_line, order_text}
+use Rattle.top_base.specs.Making.{DueMaking}
 use Rattle.top_base.proofs.MakingLaws.{MakesWell, makes_known, makes_used}
 use Rattle.top_base.proofs.NetworkLaws.{net_input}
 use Rattle.top_base.specs.Networks.{IsNetOf, RefusesNet}
 use Rattle.top_base.specs.Outcome.{any_cycle, is_of_inputs}
 use Rattle.top_base.proofs.PerformingLaws.{IsKnown}
-use Rattle.top_base.specs.Words.{Compile}
+use Rattle.top_base.specs.Words.{Compile, Migrate}
 use Rattle.top_base.specs.declared.outcome.Outcome.{Outcome}
 use Rattle.top_base.specs.declared.status.Status.{Status}
-use Rattle.top_base.specs.declared.status.Status.TheVariants.{Done, RateOver, RateUnmet, TooManyDemands, Usage, ZeroRate}
+use Rattle.top_base.specs.declared.status.Status.TheVariants.{Done, RateOver, RateUnmet, TooLong, TooManyDemands, Usage, ZeroRate}
 use Rattle.top_tools.specs.Check.{IsChecked, check_command}
 use Rattle.top_tools.specs.Compile.Command.{compile_command}
 use Rattle.top_tools.specs.Compile.Given.{outputs_of}
 use Rattle.top_tools.specs.Compile.Made.{IsGood, IsMade, RefusesMaking}
 use Rattle.top_tools.specs.Cuts.{IsCrowded, IsWitnessed, OwesCuts, cuts_command}
+use Rattle.top_tools.specs.Migrate.{CanMigrate, DeclinesLong, IsMigrated, migrate_command}
 use Rattle.top_tools.specs.Order.{IsOrdered, order_command}
 use Rattle.top_tools.proofs.RefusalLaws.{same_due}
 
@@ -132,3 +138,40 @@ module _ (given : Compile) where
 
   pub compile_used : (outcome : Outcome) (calls : Calls) → (compile_command given).runs outcome calls → outcome.status ≢ Usage
   compile_used = makes_used net_limit IsNetOf RefusesNet (IsMade given) IsGood RefusesMaking given.net (outputs_of given) compiles_well net_input
+
+-- the command `migrate`
+module _ (given : Migrate) where
+  -- a code whose file was written is within the limit
+  can_migrate : (code : Code) (files : List Written) (line : List ℕ) → IsMigrated given code files line → CanMigrate code line
+  can_migrate code files line made = record { within = made.within; line_is = made.line_is }
+
+  long_of_inputs : (code : Code) (status : Status) (line : List ℕ) → DeclinesLong code status line → IsTrue (is_of_inputs status)
+  long_of_inputs code TooLong line long = refl
+  long_of_inputs code status line long = absurd long
+
+  -- one status is due: a file is within the limit or longer
+  due_once : (code : Code) (status : Status) (line : List ℕ) (status' : Status) (line' : List ℕ) → DueMaking code_limit IsFileOf RefusesFile (IsMigrated given) CanMigrate DeclinesLong code status line
+      → DueMaking code_limit IsFileOf RefusesFile (IsMigrated given) CanMigrate DeclinesLong code status' line' → status ≡ status'
+  due_once code Done line Done line' one other = refl
+  due_once code Done line TooLong line' one other = absurd (omega (arith, one.within, other.0))
+  due_once code Done line status' line' one other = absurd other
+  due_once code TooLong line Done line' one other = absurd (omega (arith, one.0, other.within))
+  due_once code TooLong line TooLong line' one other = refl
+  due_once code TooLong line status' line' one other = absurd other
+  due_once code status line status' line' one other = absurd one
+
+  migrates_well : MakesWell code_limit IsFileOf RefusesFile (IsMigrated given) CanMigrate DeclinesLong given.old (given.new ∷ [])
+  migrates_well = record {
+    written = λ code files line made. ap paths_written made.files_are;
+    can = can_migrate;
+    of_inputs = long_of_inputs;
+    undone = λ code line long. long;
+    used = λ code line long. long;
+    alike = λ code status line status' line' one other. ap any_cycle (due_once code status line status' line' one other);
+  }
+
+  pub migrate_known : IsKnown (migrate_command given)
+  migrate_known = makes_known code_limit IsFileOf RefusesFile (IsMigrated given) CanMigrate DeclinesLong given.old (given.new ∷ []) migrates_well file_input
+
+  pub migrate_used : (outcome : Outcome) (calls : Calls) → (migrate_command given).runs outcome calls → outcome.status ≢ Usage
+  migrate_used = makes_used code_limit IsFileOf RefusesFile (IsMigrated given) CanMigrate DeclinesLong given.old (given.new ∷ []) migrates_well file_input

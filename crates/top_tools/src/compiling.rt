@@ -15,6 +15,7 @@ ghost use Rattle.top_tools.specs.Compile.Command.{Compiles, compile_command};
 ghost use Rattle.top_tools.specs.Compile.Given.{shared_of};
 ghost use Rattle.top_tools.specs.Compile.Ready.{IsReady, files_of};
 
+use crate::files::write_file;
 use crate::making::{Made, make};
 use lif_outside::{Failed, Gate, Store};
 use link_chains::Wiring;
@@ -34,17 +35,6 @@ fn shared_path<'a>(words: &CompileWords<'a>) -> Option<&'a str>
         return Some(words.report);
     }
     None
-}
-
-// Makes a file of these bytes.
-fn write_file<S: Store>(store: &mut S, path: &str, bytes: &[u8]) -> Result<(), Failed>
-    ensures written { OnOk result
-        (MakesCalls S.Store store.old store.new (Are (writes_of ((path.now, bytes.now) ∷ [])))) }
-    ensures stopped { OnErr result (MakesCalls S.Store store.old store.new
-        (StopsWithin (writes_of ((path.now, bytes.now) ∷ [])))) }
-{
-    store.create(path)?;
-    store.append(path, bytes)
 }
 
 // Makes the code's file, and then the report's.

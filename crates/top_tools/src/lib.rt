@@ -1,15 +1,18 @@
-//! The commands `order`, `cuts` and `check`, which read one input and say what they find, and `compile`, which
-//! makes a code of a network and writes it with the report; and the codes of combination networks.
+//! The commands `order`, `cuts` and `check`, which read one input and say what they find; `compile`, which makes a code
+//! of a network and writes it with the report, and `migrate`, which writes a code's file anew; and the codes of combination
+//! networks.
 //!
-//! There is a call for each command, of that name, and `combination_code`. Read `specs/Order.antt`,
-//! `specs/Cuts.antt`, `specs/Check.antt` and `specs/Compile.antt`, each the four words of its command.
+//! There is a call for each command, of that name, and `combination_code`. Read `specs/Order.antt`, `specs/Cuts.antt`,
+//! `specs/Check.antt`, `specs/Compile.antt` and `specs/Migrate.antt`, each the four words of its command.
 #![tactic(auto)]
 
 mod checking;
 mod combining;
 mod compiling;
 mod cutting;
+mod files;
 mod making;
+mod migrating;
 mod ordering;
 mod reporting;
 
@@ -17,4 +20,5 @@ pub use checking::check;
 pub use combining::combination_code;
 pub use compiling::compile;
 pub use cutting::cuts;
+pub use migrating::migrate;
 pub use ordering::order;

@@ -1,12 +1,12 @@
-use Rattle.std.proofs.Common.{sym, subst, ap, ◌∙◌}
-use Rattle.code_file.specs.Items.{bytes_of}
-use Rattle.top_base.specs.Accepting.{IsCodeOf, RefusesCodeOrLosesIt}
+use Rattle.std.proofs.Common.{sym, subst}
+use Rattle.code_file.specs.Items.{IsFileOf}
+use Rattle.top_base.specs.Accepting.{IsCodeOf}
 use Rattle.top_base.proofs.accepting.accept.Goals as goal
 
 pub returns-in-Err-clause-refused : goal.returns-in-Err-clause-refused
 returns-in-Err-clause-refused g c =
-    let is = ap bytes_of c.in-Err.ensures.returned ∙ sym c.in_ok-code.ensures.code in
-    subst (λ bytes. RefusesCodeOrLosesIt bytes c.unaccepted.result) is c.unaccepted.ensures
+    let bytes = c.args.bytes.now in
+    c.unaccepted.ensures bytes (subst (IsFileOf bytes) (sym c.in-Err.ensures.returned) c.in_ok-code.ensures.code)
 
 pub returns-in-Ok-clause-code : goal.returns-in-Ok-clause-code
 returns-in-Ok-clause-code g c =

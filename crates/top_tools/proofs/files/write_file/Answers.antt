@@ -6,7 +6,7 @@ use Rattle.lif_outside.specs.FileCalls.{StopsWithin}
 use Rattle.lif_outside.proofs.SequenceLaws.{stops_here}
 use Rattle.lif_outside.specs.Writes.{writes_of}
 use Rattle.top_tools.proofs.Writing.{append_if_err, append_if_ok}
-use Rattle.top_tools.proofs.compiling.write_file.Goals as goal
+use Rattle.top_tools.proofs.files.write_file.Goals as goal
 
 pub returns-in_err-create-clause-stopped : goal.returns-in_err-create-clause-stopped
 returns-in_err-create-clause-stopped g c =
