@@ -45,7 +45,7 @@ code_as contents beside = record {
   code = beside.code;
 }
 
-abbrev code_parts : (code : Code) → AsCode (contents_in code)
+abbrev code_parts : (code : Code) → AsCode (contents_in 2 code)
 code_parts code = record { choice = code.net.field; wanted = code.net.wanted; network = code.net.network; rate = code.net.rate; code = code.code }
 
 -- codes of the same contents are equal
@@ -72,5 +72,5 @@ same_as contents one other =
 -- codes with one file are equal
 pub same_code : (bytes : List ℕ) (one other : Code) → IsFileOf bytes one → IsFileOf bytes other → one ≡ other
 same_code bytes one other is is' =
-    subst (λ (contents : Contents). (beside : AsCode contents) → code_as (contents_in one) (code_parts one) ≡ code_as contents beside)
-    (contents_in-same bytes one other is is') (same_as (contents_in one) (code_parts one)) (code_parts other)
+    subst (λ (contents : Contents). (beside : AsCode contents) → code_as (contents_in 2 one) (code_parts one) ≡ code_as contents beside)
+    (contents_in-same bytes one other is is' 2) (same_as (contents_in 2 one) (code_parts one)) (code_parts other)

@@ -1,7 +1,6 @@
 //! The lines that are said.
 ghost use Rattle.std.specs.Prelude.{◌≡◌, ◌<◌, ◌≤◌, ◌+◌, ◌++◌, ◌∷◌, [], IfSome, IfNone, codes, decimal, length};
 ghost use Rattle.std.specs.Option.{option_map_or};
-ghost use Rattle.gf_tables.specs.Product.{mark_of};
 ghost use Rattle.failure_patterns.specs.Demands.{demand_of};
 ghost use Rattle.name_texts.specs.Names.{demand_text};
 ghost use Rattle.net_model.specs.Demands.{demand_count};
@@ -14,7 +13,6 @@ use crate::text::{ROOM, ShortText, Text};
 use arrayvec::ArrayVec;
 use code_file::CodeRefusal;
 use failure_patterns::{demand_at, demands};
-use gf_tables::FieldKind;
 use itoa::Buffer;
 use name_texts::{pattern_name, sink_name};
 use net_model::{Demand, Net};
@@ -125,16 +123,6 @@ fn push_demand(text: &mut ShortText, net: &Net, demand: u32)
     push(text, sink_name(net, sink as usize));
     push(text, b" ");
     push(text, pattern_name(net, pattern as usize));
-}
-
-// The number of a field in code files.
-fn mark_of(field: FieldKind) -> u64
-    ensures { result ≡ mark_of field }
-{
-    match field {
-        FieldKind::Eight => 8,
-        FieldKind::Sixteen => 16,
-    }
 }
 
 impl<'a> Line<'a> {
@@ -341,7 +329,7 @@ impl<'a> Line<'a> {
         push(&mut text, b"rate ");
         push_number(&mut text, u64::from(code.rate));
         push(&mut text, b" field ");
-        push_number(&mut text, mark_of(code.field));
+        push_number(&mut text, u64::from(code.field.mark()));
         push(&mut text, b" demands ");
         push_number(&mut text, demands(&code.net));
         push(&mut text, b"\n");
@@ -374,7 +362,7 @@ impl<'a> Line<'a> {
         push_field(&mut text, b"\nnodes ", code.net.nodes.len() as u64);
         push_field(&mut text, b"\nlinks ", code.net.links.len() as u64);
         push_field(&mut text, b"\ndemands ", demands(&code.net));
-        push_field(&mut text, b"\nfield ", mark_of(code.field));
+        push_field(&mut text, b"\nfield ", u64::from(code.field.mark()));
         push_field(&mut text, b"\nrate ", u64::from(code.rate));
         push_field(&mut text, b"\ngenerations ", generations);
         push_field(&mut text, b"\nframes ", frames);

@@ -1,7 +1,8 @@
 //! The codes of combination networks.
-ghost use Rattle.std.specs.Prelude.{◌≡◌, ◌<◌, ◌≤◌, ℕ, List, IfErr, IfOk};
+ghost use Rattle.std.specs.Prelude.{◌≡◌, ◌≢◌, ◌<◌, ◌≤◌, ℕ, List, IfErr, IfOk};
 ghost use Rattle.cut_witness.specs.declared.cert.Cert.{Cert};
 ghost use Rattle.gf_tables.specs.Kind.{IsOfKind};
+ghost use Rattle.gf_tables.specs.declared.kind.FieldKind.TheVariants.{Nine};
 ghost use Rattle.lif_compiler.specs.Compiled.{IsCompiled, marked_kind};
 ghost use Rattle.lif_compiler.specs.Refused.{IsRefusal};
 ghost use Rattle.net_maker.specs.Fits.{Fits};
@@ -66,6 +67,7 @@ fn code_in<F: Field, G: Gate + Sync, L: Ledger, R: Threads + Sync>(
     blank: Blank,
 ) -> Result<(Code, Vec<Cert>), CompileRefusal>
     requires field { IsOfKind (marked_kind F.MARK) F.SIZE F.BYTES F.MARK F.product }
+    requires named { marked_kind F.MARK ≢ Nine }
     requires name { blank.name ≡ L.name }
     requires parts { blank.parts ≡ L.parts }
     requires some_part { 0 < blank.parts }
@@ -84,6 +86,7 @@ fn code_over<F: Field, G: Gate + Sync, R: Threads + Sync>(
     gate: &G,
 ) -> Result<Checked, AllocError>
     requires field { IsOfKind (marked_kind F.MARK) F.SIZE F.BYTES F.MARK F.product }
+    requires named { marked_kind F.MARK ≢ Nine }
     requires served { demand_count net.now ≤ F.SIZE }
     requires rate { (rate : ℕ) × HasRate net.now rate }
     ensures { IfOk result (λ code. (certs : List Cert)
