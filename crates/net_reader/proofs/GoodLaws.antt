@@ -7,6 +7,7 @@ use Rattle.std.proofs.lemmas.Bool.{and_parts, and_from, not-false, not_from_fals
 use Rattle.std.proofs.lemmas.List.{length-append}
 use Rattle.std.proofs.lemmas.List.Elements.{All-append, All-cons, All-nil}
 use Rattle.std.proofs.lemmas.List.Folds.{list_all-append, list_any-append}
+use Rattle.net_model.specs.Failed.{member_count}
 use Rattle.net_model.specs.Limits.{highest_rate, most_links, most_listed, most_nodes}
 use Rattle.net_model.specs.Lists.{are_distinct, is_among}
 use Rattle.net_model.specs.Name.{is_name}
@@ -21,7 +22,7 @@ use Rattle.net_reader.proofs.Pushes.{each_after-push, flat_map-push, nodes_of-pu
 use Rattle.net_reader.proofs.Tables.{NoneHolds}
 use Rattle.net_reader.proofs.WordsSaid.{IsWithinLimits, IsWithinLimits-statement_of}
 use Rattle.net_reader.specs.Bundles.{in_rising_order, numbers_named, numbers_of_words}
-use Rattle.net_reader.specs.Statements.{Statement, field_is, rate_is, source_is, sink_is, link_is, pattern_is, fail_each_is, bundles_of, is_unknown, links_in, names_made, nodes_in, numbers_in, link_names, pattern_in, pattern_names, patterns_in, patterns_of, rates_in, rates_of, sink_names, sinks_in, nodes_of, faults_of, refused_first, read_words, read_line, statement_of}
+use Rattle.net_reader.specs.Statements.{Statement, field_is, rate_is, source_is, sink_is, link_is, pattern_is, fail_each_is, bundles_of, is_unknown, most_members, links_in, names_made, nodes_in, numbers_in, link_names, pattern_in, pattern_names, patterns_in, patterns_of, rates_in, rates_of, sink_names, sinks_in, nodes_of, faults_of, refused_first, read_words, read_line, statement_of}
 use Rattle.net_reader.specs.Text.{and_then, read_lines}
 use Rattle.net_reader.specs.declared.refusal.ReadRefusal.{ReadRefusal}
 use Rattle.net_reader.specs.declared.refusal.ReadRefusal.TheVariants.{BadByte, BadLine}
@@ -43,6 +44,7 @@ pub record AreGood (statements : List Statement) : Type 0 where
   pub few_nodes : length (nodes_of statements) ≤ most_nodes
   pub few_links : length (link_names statements) ≤ most_links
   pub few_patterns : length (pattern_names statements) ≤ most_listed
+  pub few_members : member_count (patterns_of statements) ≤ most_members
 
 -- no statements are good
 pub AreGood-none : AreGood []
@@ -57,6 +59,7 @@ AreGood-none = record {
   few_nodes = omega arith;
   few_links = omega arith;
   few_patterns = omega arith;
+  few_members = omega arith;
 }
 
 -- ---- patterns
@@ -210,6 +213,16 @@ module _ (earlier : List Statement) (line : ℕ) (good : AreGood earlier) where
   few_patterns-more (link_is name tail head bundle) none = rw (flat_map-push patterns_in earlier (link_is name tail head bundle) ∙ append-nil (pattern_names earlier)) good.few_patterns
   few_patterns-more fail_each_is none = rw (flat_map-push patterns_in earlier fail_each_is ∙ append-nil (pattern_names earlier)) good.few_patterns
 
+  -- the patterns have few links together
+  few_members-more : (statement : Statement) → NoneHolds (faults_of earlier line statement) → member_count (patterns_of (earlier ++ statement ∷ [])) ≤ most_members
+  few_members-more (pattern_is name links) none = ltb-false _ _ none.1.1.1.1.1.0
+  few_members-more (field_is bits) none = rw (each_after-push pattern_in [] earlier (field_is bits) ∙ append-nil (patterns_of earlier)) good.few_members
+  few_members-more (rate_is rate) none = rw (each_after-push pattern_in [] earlier (rate_is rate) ∙ append-nil (patterns_of earlier)) good.few_members
+  few_members-more (source_is node) none = rw (each_after-push pattern_in [] earlier (source_is node) ∙ append-nil (patterns_of earlier)) good.few_members
+  few_members-more (sink_is node) none = rw (each_after-push pattern_in [] earlier (sink_is node) ∙ append-nil (patterns_of earlier)) good.few_members
+  few_members-more (link_is name tail head bundle) none = rw (each_after-push pattern_in [] earlier (link_is name tail head bundle) ∙ append-nil (patterns_of earlier)) good.few_members
+  few_members-more fail_each_is none = rw (each_after-push pattern_in [] earlier fail_each_is ∙ append-nil (patterns_of earlier)) good.few_members
+
   -- so statements with one more are good
   pub AreGood-more : (statement : Statement) → IsWithinLimits statement → NoneHolds (faults_of earlier line statement) → AreGood (earlier ++ statement ∷ [])
   AreGood-more statement within none =
@@ -230,6 +243,7 @@ module _ (earlier : List Statement) (line : ℕ) (good : AreGood earlier) where
         few_nodes = few_nodes-more statement none;
         few_links = few_links-more statement none;
         few_patterns = few_patterns-more statement none;
+        few_members = few_members-more statement none;
       }
 
 -- ---- what words say

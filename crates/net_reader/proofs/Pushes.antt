@@ -1,16 +1,15 @@
 -- What statements give with a statement more.
-use Rattle.std.specs.Prelude.{◌≡◌, ℕ, ◌+◌, ◌||◌, Bool, true, false, List, [], ◌∷◌, ◌++◌, map, if◌then◌else◌}
+use Rattle.std.specs.Prelude.{◌≡◌, ℕ, ◌||◌, Bool, true, false, List, [], ◌∷◌, ◌++◌, map, if◌then◌else◌}
 use Rattle.std.specs.List.{flat_map, list_all, list_any}
-use Rattle.std.proofs.Common.{refl, ap, sym, ◌∙◌, arith}
+use Rattle.std.proofs.Common.{refl, ap, sym, ◌∙◌}
 use Rattle.std.proofs.Math.Bool.{or-false}
 use Rattle.std.proofs.lemmas.Bool.{and_parts}
 use Rattle.std.proofs.lemmas.List.{append-nil, append_assoc}
 use Rattle.std.proofs.lemmas.List.Folds.{list_all-append, list_any-append}
 use Rattle.std.proofs.lemmas.Grind.{flat_map-append}
 use Rattle.net_model.specs.declared.Link.{Link}
-use Rattle.net_model.specs.declared.Pattern.{Pattern}
 use Rattle.name_index.specs.Seen.{has, distinct_from}
-use Rattle.net_reader.specs.Statements.{Statement, field_is, rate_is, source_is, sink_is, link_is, pattern_is, fail_each_is, each_after, members, nodes_in, nodes_of, links_named}
+use Rattle.net_reader.specs.Statements.{Statement, field_is, rate_is, source_is, sink_is, link_is, pattern_is, fail_each_is, each_after, nodes_in, nodes_of, links_named}
 use Rattle.net_reader.specs.Text.{links_of, links_with}
 use Rattle.net_reader.proofs.NameLaws.{distinct_from-has, number_in-more}
 
@@ -32,11 +31,6 @@ each_after-push gives earlier (statement ∷ statements) more =
 -- whether one passes a test
 pub list_any-push : {X : Type 0} (test : X → Bool) (xs : List X) (more : X) → list_any test (xs ++ more ∷ []) ≡ (list_any test xs || test more)
 list_any-push test xs more = list_any-append test xs (more ∷ []) ∙ ap (λ b. list_any test xs || b) (or-false (test more))
-
--- how many links patterns have together
-pub members-append : (patterns more : List Pattern) → members (patterns ++ more) ≡ members patterns + members more
-members-append [] more = omega arith
-members-append (pattern ∷ patterns) more = omega (arith, members-append patterns more)
 
 -- ---- nodes
 

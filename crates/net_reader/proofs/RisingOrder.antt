@@ -13,9 +13,9 @@ use Rattle.std.proofs.lemmas.List.Sorted.{IsPermutation-sym, list_any-IsPermutat
 use Rattle.std.proofs.lemmas.Map.Keys.{IsDistinct-IsPermutation}
 use Rattle.std.proofs.lemmas.Map.Made.{AllPairs-from_IsDistinct}
 use Rattle.net_model.specs.Lists.{are_distinct, is_among, is_rising}
-use Rattle.net_model.proofs.ListLaws.{IsDistinct-from_are_distinct, is_among-filter, is_among-range_with_len, is_among-same}
+use Rattle.net_model.proofs.ListLaws.{IsDistinct-from_are_distinct, is_among-filter, is_among-range_with_len}
 use Rattle.net_model.proofs.RenumberedParts.{is_rising-filter_range}
-use Rattle.net_model.proofs.RisingLaws.{is_rising-from_increasing, place-from_is_among}
+use Rattle.net_model.proofs.RisingLaws.{are_distinct-from_rising, is_rising-from_increasing, place-from_is_among}
 use Rattle.net_reader.specs.Bundles.{in_rising_order}
 
 -- ---- numbers that follow each other
@@ -38,15 +38,6 @@ above-is_among low (one ∷ numbers) above number among =
       | inl here ↦ omega (arith, ltb-true low one parts.0, eqb-true one number here)
       | inr later ↦ above-is_among low numbers parts.1 number later
     ]
-
--- rising numbers are distinct
-are_distinct-from_rising : (numbers : List ℕ) → is_rising numbers ≡ true → are_distinct nat_eq numbers ≡ true
-are_distinct-from_rising [] rising = refl
-are_distinct-from_rising (one ∷ numbers) rising =
-    let parts = and_parts (list_all (nat_lt one) numbers) (is_rising numbers) rising in
-    and_from _ _
-    (not_from_false _ (is_among-same numbers one ∙ false_from_ne_true _ (λ among. absurd (omega (arith, above-is_among one numbers parts.0 one among)))))
-    (are_distinct-from_rising numbers parts.1)
 
 -- the first of numbers stands among them
 first_among : (number : ℕ) (numbers : List ℕ) → is_among (number ∷ numbers) number ≡ true

@@ -3,6 +3,8 @@ use Rattle.std.specs.Prelude.{◌≡◌, ℕ, ◌+◌, ◌||◌, ◌≤◌, zero
 use Rattle.std.specs.List.{flat_map}
 use Rattle.std.proofs.Common.{refl, ap, sym, ◌∙◌}
 use Rattle.std.proofs.lemmas.List.{map-append}
+use Rattle.std.proofs.lemmas.List.Sums.{sum_by-append}
+use Rattle.net_model.specs.Failed.{member_count}
 use Rattle.net_model.specs.Limits.{most_links, most_listed, most_nodes}
 use Rattle.net_model.specs.declared.Link.{Link}
 use Rattle.net_model.specs.declared.Pattern.{Pattern}
@@ -11,9 +13,9 @@ use Rattle.net_reader.specs.Bundles.{Bundle}
 use Rattle.net_reader.specs.declared.refusal.ReadRefusal.{ReadRefusal}
 use Rattle.net_reader.specs.declared.state.State.{State}
 use Rattle.net_reader.specs.State.{AreTables, bundle_seen, with_statement}
-use Rattle.net_reader.specs.Statements.{Statement, Fault, bundle_in, bundles_of, each_after, faults_of, fields_in, is_fail_each, links_in, members, most_members, nodes_in, nodes_of, pattern_in, patterns_in, patterns_of, rates_in, refused_first, sinks_in, sources_in, too_many_nodes}
+use Rattle.net_reader.specs.Statements.{Statement, Fault, bundle_in, bundles_of, each_after, faults_of, fields_in, is_fail_each, links_in, most_members, nodes_in, nodes_of, pattern_in, patterns_in, patterns_of, rates_in, refused_first, sinks_in, sources_in, too_many_nodes}
 use Rattle.net_reader.specs.Text.{and_then, links_of, links_with}
-use Rattle.net_reader.proofs.Pushes.{flat_map-push, each_after-push, list_any-push, members-append, nodes_of-push, links_of-push}
+use Rattle.net_reader.proofs.Pushes.{flat_map-push, each_after-push, list_any-push, nodes_of-push, links_of-push}
 
 -- ---- faults
 
@@ -61,7 +63,7 @@ pub record Adds (earlier : List Statement) (more : Statement) (old new : State) 
   pub bundles : map bundle_seen new.bundles.links.items ≡ map bundle_seen old.bundles.links.items ++ bundle_in earlier more
   pub pattern_names : new.pattern_names ≡ old.pattern_names ++ patterns_in more
   pub patterns : new.patterns.items ≡ old.patterns.items ++ pattern_in earlier more
-  pub members : new.members ≡ old.members + members (pattern_in earlier more)
+  pub members : new.members ≡ old.members + member_count (pattern_in earlier more)
   pub sinks : new.sinks ≡ old.sinks ++ sinks_in more
   pub source : map (λ name. name.now) (option_to_list new.source) ≡ map (λ name. name.now) (option_to_list old.source) ++ sources_in more
   pub field : option_to_list new.field ≡ option_to_list old.field ++ fields_in more
@@ -96,8 +98,8 @@ AreTables-more earlier more old new tables adds =
       bundles = more_after bundle_in earlier more (map bundle_seen old.bundles.links.items) (map bundle_seen new.bundles.links.items) tables.bundles adds.bundles;
       pattern_names = more_of patterns_in earlier more old.pattern_names new.pattern_names tables.pattern_names adds.pattern_names;
       patterns = more_after pattern_in earlier more old.patterns.items new.patterns.items tables.patterns adds.patterns;
-      members = adds.members ∙ ap (λ (n : ℕ). n + members (pattern_in earlier more)) tables.members
-          ∙ sym (members-append (patterns_of earlier) (pattern_in earlier more)) ∙ ap (λ (all : List Pattern). members all) (sym (each_after-push pattern_in [] earlier more));
+      members = adds.members ∙ ap (λ (n : ℕ). n + member_count (pattern_in earlier more)) tables.members
+          ∙ sym (sum_by-append (λ (pattern : Pattern). length pattern.links) (patterns_of earlier) (pattern_in earlier more)) ∙ ap member_count (sym (each_after-push pattern_in [] earlier more));
       sinks = more_of sinks_in earlier more old.sinks new.sinks tables.sinks adds.sinks;
       source = more_of sources_in earlier more _ _ tables.source adds.source;
       field = more_of fields_in earlier more _ _ tables.field adds.field;

@@ -6,8 +6,10 @@ use Rattle.std.proofs.Common.{refl, sym, subst, ap, ◌∙◌, append-nil, arith
 use Rattle.std.proofs.lemmas.Bool.{and_parts, and_from, false_from_ne_true, or_parts, not-true, not_from_false, lt-ltb, ltb-false}
 use Rattle.std.proofs.lemmas.List.{length-append, length-map, map-append}
 use Rattle.std.proofs.lemmas.List.Folds.{list_all-append}
+use Rattle.std.proofs.lemmas.List.Sums.{sum_by-append, sum_by-cons}
 use Rattle.std.proofs.lemmas.Option.{none-some}
 use Rattle.item_list.proofs.Tests.{position_or_len-within}
+use Rattle.net_model.specs.Failed.{member_count}
 use Rattle.net_model.specs.Limits.{highest_rate, most_listed}
 use Rattle.net_model.specs.Lists.{are_distinct}
 use Rattle.net_model.specs.Name.{is_name}
@@ -20,7 +22,7 @@ use Rattle.net_reader.proofs.GoodLaws.{AreGood, AreGood-none, ends_differ, read_
 use Rattle.net_reader.proofs.LinkLines.{length-links_of}
 use Rattle.net_reader.proofs.NameLaws.{distinct_from-are_names, distinct_from-has, number_below, numbers_apart, sinks_among, distinct_numbers}
 use Rattle.net_reader.specs.Lines.{lines_of}
-use Rattle.net_reader.specs.Statements.{Statement, field_is, rate_is, source_is, sink_is, link_is, pattern_is, fail_each_is, has_fail_each, links_in, links_named, nodes_in, link_names, pattern_in, pattern_names, patterns_in, patterns_of, rates_of, sink_names, sinks_in, source_names, sources_in, nodes_of, each_after}
+use Rattle.net_reader.specs.Statements.{Statement, field_is, rate_is, source_is, sink_is, link_is, pattern_is, fail_each_is, has_fail_each, links_in, links_named, most_read_members, nodes_in, link_names, pattern_in, pattern_names, patterns_in, patterns_of, rates_of, sink_names, sinks_in, source_names, sources_in, nodes_of, each_after}
 use Rattle.net_reader.specs.Text.{alone_fault, each_alone, names_pattern, number_in, links_of, links_with, read_lines, Parts, parts_in, unless_fault, whole_of, whole_in, network_of}
 use Rattle.net_reader.specs.declared.refusal.ReadRefusal.{ReadRefusal}
 use Rattle.net_reader.specs.declared.refusal.ReadRefusal.TheVariants.{SinkIsSource, PatternNamed, TooManyPatterns}
@@ -142,17 +144,25 @@ length-each_alone : (names : List (List ℕ)) (link : ℕ) → length (each_alon
 length-each_alone [] link = refl
 length-each_alone (name ∷ names) link = ap suc (length-each_alone names (link + 1))
 
+-- and have as many links
+members-each_alone : (names : List (List ℕ)) (link : ℕ) → member_count (each_alone names link) ≡ length (each_alone names link)
+members-each_alone [] link = refl
+members-each_alone (name ∷ names) link =
+    omega (arith, sum_by-cons (λ (pattern : Pattern). length pattern.links) (record { name = name; links = link ∷ [] }) (each_alone names (link + 1)), members-each_alone names (link + 1))
+
 -- they are listed ones
 alone_listed : (names : List (List ℕ)) (link count : ℕ) → link + length names ≤ count → list_all (is_listed_pattern count) (each_alone names link) ≡ true
 alone_listed [] link count within = refl
 alone_listed (name ∷ names) link count within =
     and_from _ _ (and_from _ _ (and_from _ _ refl refl) (and_from _ _ (lt-ltb link count (omega (arith, within))) refl)) (alone_listed names (link + 1) count (omega (arith, within)))
 
--- Patterns that are added to the listed ones: their names are no others', they are listed ones, and there are few.
+-- Patterns that are added to the listed ones: their names are no others', they are listed ones, there are few, and each has one
+-- link.
 record AreAdded (statements : List Statement) (more : List Pattern) : Type 0 where
   named : are_names (codes "none" ∷ pattern_names statements ++ map (λ (pattern : Pattern). pattern.name) more) ≡ true
   listed : list_all (is_listed_pattern (length (link_names statements))) more ≡ true
   few : length (pattern_names statements) + length more ≤ most_listed
+  members : member_count more ≡ length more
 
 -- none
 added_none : (statements : List Statement) → AreGood statements → AreAdded statements []
@@ -160,6 +170,7 @@ added_none statements good = record {
   named = subst (λ (names : List (List ℕ)). are_names (codes "none" ∷ names) ≡ true) (sym (append-nil (pattern_names statements))) good.patterns_named;
   listed = refl;
   few = omega (arith, good.few_patterns);
+  members = refl;
 }
 
 -- where no link is named as a pattern, the names of links are new beside those of patterns
@@ -197,6 +208,7 @@ added_each statements good none = by (position (names_pattern statements) (link_
               (names_added (codes "none" ∷ pattern_names statements) links good.patterns_named named.0 (and_from _ _ new named.1));
           listed = alone_listed links 0 (length links) (omega arith);
           few = omega (arith, few (nat_lt most_listed count) refl e, length-each_alone links 0);
+          members = members-each_alone links 0;
         }
       where
         found : list_any (names_pattern statements) links ≡ true → position (names_pattern statements) links ≡ Some (position_or_len (names_pattern statements) links)
@@ -209,10 +221,11 @@ added_each statements good none = by (position (names_pattern statements) (link_
 
 -- ---- the parts
 
--- the parts are those of a network, with a wanted rate within the limits
+-- the parts are those of a network, with a wanted rate within the limits and few links in all patterns together
 record Stands (parts : Parts) : Type 0 where
   network : IsNetwork parts.nodes parts.links parts.source parts.sinks parts.patterns
   wanted : IsWanted parts.wanted
+  few_members : member_count parts.patterns ≤ most_read_members
 
 -- the first of the wanted rates, if there is one, is low
 first_low : (rates : List ℕ) → All (λ rate. (1 ≤ rate) × (rate ≤ highest_rate)) rates → IsWanted (slice_get rates 0)
@@ -248,6 +261,7 @@ parts_stand statements source good added has_source some_sink apart =
         few_patterns = omega (arith, added.few, length-append (patterns_of statements) more, length-map (patterns_of statements) (λ (pattern : Pattern). pattern.name), ap (λ (names : List (List ℕ)). length names) (pattern_names-patterns_of statements));
       };
       wanted = first_low (rates_of statements) good.rates_low;
+      few_members = omega (arith, sum_by-append (λ (pattern : Pattern). length pattern.links) (patterns_of statements) more, good.few_members, added.members, added.few);
     }
 
 -- what good statements stand for
@@ -282,7 +296,7 @@ read_stands : (read : Result (List Statement) ReadRefusal) → IfOk read AreGood
 read_stands (Err refusal) good = tt
 read_stands (Ok statements) good = whole_stands statements (source_names statements) (sink_names statements) good refl refl
 
--- a good text stands for a network, and its wanted rate is within the limits
+-- a good text stands for a network, its wanted rate is within the limits, and its patterns have few links together
 stands-from_text : (text : List ℕ) (parts : Parts) → network_of text ≡ Ok parts → Stands parts
 stands-from_text text parts good =
     subst (λ (read : Result Parts ReadRefusal). IfOk read Stands) good (read_stands (read_lines [] 1 (lines_of text)) (read_lines-good [] 1 (lines_of text) AreGood-none))
@@ -292,3 +306,7 @@ IsNetwork-from_text text parts good = (stands-from_text text parts good).network
 
 pub IsWanted-from_text : (text : List ℕ) (parts : Parts) → network_of text ≡ Ok parts → IsWanted parts.wanted
 IsWanted-from_text text parts good = (stands-from_text text parts good).wanted
+
+-- so they are few in the parts of a good text
+pub few_members : (text : List ℕ) (parts : Parts) → network_of text ≡ Ok parts → member_count parts.patterns ≤ most_read_members
+few_members text parts good = (stands-from_text text parts good).few_members

@@ -1,6 +1,7 @@
 -- What the reader keeps of the statements so far.
 use Rattle.std.specs.Prelude.{◌≡◌, ◌≤◌, ◌+◌, ◌||◌, ℕ, Bool, All, length, List, ◌++◌, map, option_to_list, Result, Ok, Err}
 use Rattle.name_index.specs.Seen.{has}
+use Rattle.net_model.specs.Failed.{member_count}
 use Rattle.net_model.specs.Limits.{most_links, most_listed, most_nodes}
 use Rattle.net_reader.specs.declared.refusal.ReadRefusal.{ReadRefusal}
 use Rattle.net_reader.specs.declared.bundles.BundleLinks.{BundleLinks}
@@ -8,7 +9,7 @@ use Rattle.net_reader.specs.declared.bundles.Bundles.{Bundles}
 use Rattle.net_reader.specs.declared.state.State.{State}
 use Rattle.net_reader.specs.Bundles.{Bundle}
 use Rattle.net_reader.specs.Gives.{Fails}
-use Rattle.net_reader.specs.Statements.{Statement, Heard, bundle_names, bundles_of, faults_of, field_bits, has_fail_each, link_names, members, most_members, nodes_of, pattern_names, patterns_of, rates_of, read_line, read_words, refused_first, sink_names, source_names}
+use Rattle.net_reader.specs.Statements.{Statement, Heard, bundle_names, bundles_of, faults_of, field_bits, has_fail_each, link_names, most_members, nodes_of, pattern_names, patterns_of, rates_of, read_line, read_words, refused_first, sink_names, source_names}
 use Rattle.net_reader.specs.Text.{and_then, links_of, read_lines}
 
 -- the bundle of a value of the reader
@@ -29,7 +30,7 @@ pub record AreTables (statements : List Statement) (state : State) : Type 0 wher
   pub bundles : map bundle_seen state.bundles.links.items ≡ bundles_of statements
   pub pattern_names : state.pattern_names ≡ pattern_names statements
   pub patterns : state.patterns.items ≡ patterns_of statements
-  pub members : state.members ≡ members (patterns_of statements)
+  pub members : state.members ≡ member_count (patterns_of statements)
   pub sinks : state.sinks ≡ sink_names statements
   pub source : map (λ name. name.now) (option_to_list state.source) ≡ source_names statements
   pub field : option_to_list state.field ≡ field_bits statements

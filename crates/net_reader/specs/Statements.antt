@@ -4,6 +4,7 @@ use Rattle.std.specs.List.{flat_map, list_all, list_any}
 use Rattle.std.specs.Option.{option_map}
 use Rattle.std.specs.Str.{bytes_eq}
 use Rattle.name_index.specs.Seen.{has, distinct_from}
+use Rattle.net_model.specs.Failed.{member_count}
 use Rattle.net_model.specs.Limits.{highest_rate, most_links, most_listed, most_nodes}
 use Rattle.net_model.specs.Lists.{are_distinct}
 use Rattle.net_model.specs.Name.{is_name}
@@ -189,10 +190,9 @@ patterns_of = each_after pattern_in []
 abbrev pub most_members : ℕ
 most_members = 2097152
 
--- how many links listed patterns have together
-abbrev pub members : List Pattern → ℕ
-members [] = 0
-members (pattern ∷ patterns) = length pattern.links + members patterns
+-- the most in all patterns of a network that is read: where each link fails alone too, its pattern counts as a listed one
+abbrev pub most_read_members : ℕ
+most_read_members = most_members + most_listed
 
 -- with this statement there are too many nodes
 abbrev pub too_many_nodes : List Statement → Statement → Bool
@@ -237,7 +237,7 @@ faults_of earlier line (pattern_is name links) =
     ∷ (list_any (is_unknown earlier) links, UnknownLink line)
     ∷ (not (are_distinct nat_eq (numbers_in earlier links)), RepeatedLink line)
     ∷ (nat_lt most_listed (length (pattern_names (earlier ++ pattern_is name links ∷ []))), TooMany line Patterns)
-    ∷ (nat_lt most_members (members (patterns_of (earlier ++ pattern_is name links ∷ []))), TooMany line Members) ∷ []
+    ∷ (nat_lt most_members (member_count (patterns_of (earlier ++ pattern_is name links ∷ []))), TooMany line Members) ∷ []
 faults_of earlier line fail_each_is =
     (has_fail_each earlier, SecondFailEach line) ∷ []
 

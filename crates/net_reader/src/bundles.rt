@@ -134,6 +134,32 @@ fn push_range(numbers: &mut Vec<u32>, first: u32, count: u32) -> Result<(), Allo
     Ok(())
 }
 
+// Whether each of the words names a link. For each byte the last word that ended with it is kept, and isn't looked up again
+// where it comes next.
+fn are_known(links: &OwnedNames, bundles: &Bundles, words: &[&[u8]]) -> bool
+    requires few { length links.now ≤ most_links }
+    requires bundles { AreBundles links.now bundles.now }
+    ensures { result ≡ not (list_any (names_none links.now (map bundle_seen bundles.now.links.items)) (texts_of words.now)) }
+{
+    let Some(first) = words.first() else {
+        return true;
+    };
+    if named(links, bundles, first).1 == 0 {
+        return false;
+    }
+    let mut known = [*first; 256];
+    for word in words {
+        let end = usize::from(word.last().copied().unwrap_or(0));
+        if known[end] != *word {
+            if named(links, bundles, word).1 == 0 {
+                return false;
+            }
+            known[end] = *word;
+        }
+    }
+    true
+}
+
 /// The numbers of the links that words name, in the order of the words, or none where a word names no link. Where more come
 /// than there are links, one of them stands twice, and those of later words may be left out.
 pub(crate) fn numbers_of_words(
@@ -153,13 +179,18 @@ pub(crate) fn numbers_of_words(
         All (λ number. number < length links.now) numbers.items)) }
 {
     let mut numbers = Vec::new(alloc);
-    for word in words {
+    for (place, word) in words.iter().enumerate() {
         let (first, count) = named(links, bundles, word);
         if count == 0 {
             return Ok(None);
         }
-        if numbers.len() <= links.len() {
-            push_range(&mut numbers, first, count)?;
+        push_range(&mut numbers, first, count)?;
+        if numbers.len() > links.len() {
+            // One of them stands twice, whatever later words name.
+            if !are_known(links, bundles, &words[place + 1..]) {
+                return Ok(None);
+            }
+            return Ok(Some(numbers));
         }
     }
     Ok(Some(numbers))

@@ -5,5 +5,5 @@ use Rattle.net_reader.proofs.Gathering.{AreGathered}
 use Rattle.net_reader.proofs.bundles.numbers_of_words.Given as goal
 
 -- the numbers so far are gathered from the words so far
-abbrev pub invariant-loop-word : goal.invariant-loop-word
-invariant-loop-word l = AreGathered l.links (map bundle_seen l.bundles.links.items) (texts_of (take l.word-index l.words)) l.numbers.items
+abbrev pub invariant-loop-place : goal.invariant-loop-place
+invariant-loop-place l = AreGathered l.links (map bundle_seen l.bundles.links.items) (texts_of (take l.place l.words)) l.numbers.items

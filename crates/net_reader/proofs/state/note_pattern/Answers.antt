@@ -4,19 +4,21 @@ use Rattle.std.specs.Str.{bytes_eq}
 use Rattle.std.proofs.Math.Bool.{or-false}
 use Rattle.std.proofs.lemmas.Bool.{le-ltb, lt-ltb, not-true, not_from_true, or_from}
 use Rattle.std.proofs.lemmas.List.{append-nil}
+use Rattle.std.proofs.lemmas.List.Sums.{sum_by-append}
 use Rattle.name_index.specs.Seen.{has}
+use Rattle.net_model.specs.Failed.{member_count}
 use Rattle.net_model.specs.Limits.{most_listed}
 use Rattle.net_model.specs.Lists.{are_distinct}
 use Rattle.net_model.specs.declared.Pattern.{Pattern}
 use Rattle.net_model.specs.Name.{is_name}
 use Rattle.net_reader.specs.Bundles.{IsGathered, in_rising_order, names_none, numbers_of_words}
 use Rattle.net_reader.specs.State.{AreTables, bundle_seen}
-use Rattle.net_reader.specs.Statements.{Statement, is_unknown, link_names, members, most_members, numbers_in, pattern_in, pattern_is, pattern_names, patterns_in, patterns_of}
+use Rattle.net_reader.specs.Statements.{Statement, is_unknown, link_names, most_members, numbers_in, pattern_in, pattern_is, pattern_names, patterns_in, patterns_of}
 use Rattle.net_reader.specs.Words.{texts_of}
 use Rattle.net_reader.specs.declared.refusal.ReadRefusal.TheVariants.{TooMany}
 use Rattle.net_reader.specs.declared.refusal.What.TheVariants.{Members, Patterns}
 use Rattle.net_reader.proofs.BundleLaws.{AreBundles-from_tables}
-use Rattle.net_reader.proofs.Pushes.{each_after-push, flat_map-push, members-append}
+use Rattle.net_reader.proofs.Pushes.{each_after-push, flat_map-push}
 use Rattle.net_reader.proofs.Tables.{Hears-said, with_statement-refused}
 use Rattle.net_reader.proofs.state.note_pattern.Goals as goal
 use Rattle.net_reader.proofs.state.note_pattern.Goals.{After-len}
@@ -64,7 +66,7 @@ module _ (c : After-len) (earlier : List Statement) (tables : AreTables earlier 
       c.in-Some-in_rising_order.ensures.rising (length c.args.state.now.link_names) within ∙ (λ i. in_rising_order (length (tables.link_names i)) (gathered i))
 
   -- which has so many
-  own : length c.in-Some-in_rising_order.links.items ≡ members (pattern_in earlier (pattern_is c.args.name.now (texts_of c.args.words.now)))
+  own : length c.in-Some-in_rising_order.links.items ≡ member_count (pattern_in earlier (pattern_is c.args.name.now (texts_of c.args.words.now)))
   own =
       let count : length c.in-Some-in_rising_order.links.items ≡ length (in_rising_order (length (link_names earlier)) (numbers_in earlier (texts_of c.args.words.now))) = ap (λ (links : List ℕ). length links) rising in
       omega (arith, count)
@@ -78,10 +80,10 @@ module _ (c : After-len) (earlier : List Statement) (tables : AreTables earlier 
       ∙ ap (nat_lt most_listed) (sym c.len.ensures.len)
 
   -- how many links all patterns have then
-  sum : members (patterns_of (earlier ++ pattern_is c.args.name.now (texts_of c.args.words.now) ∷ [])) ≡ c.args.state.now.members + length c.in-Some-in_rising_order.links.items
+  sum : member_count (patterns_of (earlier ++ pattern_is c.args.name.now (texts_of c.args.words.now) ∷ [])) ≡ c.args.state.now.members + length c.in-Some-in_rising_order.links.items
   sum =
       let pattern = pattern_is c.args.name.now (texts_of c.args.words.now) in
-      let all : members (patterns_of (earlier ++ pattern ∷ [])) ≡ members (patterns_of earlier) + members (pattern_in earlier pattern) = ap (λ (patterns : List Pattern). members patterns) (each_after-push pattern_in [] earlier pattern) ∙ members-append (patterns_of earlier) (pattern_in earlier pattern) in
+      let all : member_count (patterns_of (earlier ++ pattern ∷ [])) ≡ member_count (patterns_of earlier) + member_count (pattern_in earlier pattern) = ap member_count (each_after-push pattern_in [] earlier pattern) ∙ sum_by-append (λ (pattern : Pattern). length pattern.links) (patterns_of earlier) (pattern_in earlier pattern) in
       omega (arith, all, own, tables.members)
 
 pub returns-then-len-gt-MOST_LISTED : goal.returns-then-len-gt-MOST_LISTED
