@@ -24,7 +24,7 @@ AreContents-from_read contents is = record {
       let same = front_is net contents.front nodes links source sinks patterns in
       let read = subst (λ (front : Front). AreContentsRead (record { version = contents.version; front = front; operands = contents.operands; decoders = contents.decoders })) same is in
       IsCode-from_read net contents.front.rate contents.front.field contents.version contents.operands contents.decoders field wanted read.front read.operands
-          (EachFits-from_read contents.version (front_of net contents.front.rate contents.front.field) contents.decoders read.decoders);
+      (EachFits-from_read contents.version (front_of net contents.front.rate contents.front.field) contents.decoders read.decoders);
 }
 
 -- what the file of a code says is read, in each version in which a code over its field can stand

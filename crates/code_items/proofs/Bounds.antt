@@ -22,7 +22,7 @@ use Rattle.node_program.specs.Code.{IsDraft}
 use Rattle.node_program.specs.declared.Decoder.{Decoder}
 use Rattle.node_program.specs.declared.Operand.{Operand}
 use Rattle.code_items.specs.Items.{Item, name_item, long_item, link_items, pattern_items, operand_list_items, operand_table_items, decoder_items, demand_items, front_items, shared_table_items}
-use Rattle.code_items.specs.Limits.{code_limit}
+use Rattle.code_items.specs.Limits.{code_limit, fitting_members}
 use Rattle.code_items.specs.Room.{size_of_items}
 use Rattle.code_items.specs.Sharing.{same_of}
 use Rattle.code_items.specs.Written.{has_size}
@@ -49,8 +49,14 @@ patterns-bound : (patterns : List Pattern) → list_all is_name (map (λ pattern
     → size_of_items (flat_map pattern_items patterns) ≤ 2 * member_count patterns + 35 * length patterns
 patterns-bound [] all = omega (arith, size-nil)
 patterns-bound (pattern ∷ patterns) all =
-    omega (arith, size-append (pattern_items pattern) (flat_map pattern_items patterns), pattern-size pattern, short pattern.name (and_parts _ _ all).0,
-      sum_by-cons (λ (one : Pattern). length one.links) pattern patterns, patterns-bound patterns (and_parts _ _ all).1)
+    omega (
+      arith,
+      size-append (pattern_items pattern) (flat_map pattern_items patterns),
+      pattern-size pattern,
+      short pattern.name (and_parts _ _ all).0,
+      sum_by-cons (λ (one : Pattern). length one.links) pattern patterns,
+      patterns-bound patterns (and_parts _ _ all).1,
+    )
 
 -- so have all patterns but the first
 listed-bound : (patterns : List Pattern) → list_all is_name (map (λ pattern. pattern.name) patterns) ≡ true
@@ -64,8 +70,13 @@ pub front-bound : (mark : Item) (version rate : ℕ) (field : FieldKind) (net : 
     → size_of_items (front_items mark version net rate field)
     ≤ 33 * length net.nodes + 37 * length net.links + 2 * length net.sinks + 2 * member_count net.patterns + 35 * length net.patterns + 17
 front-bound mark version rate field net four =
-    omega (arith, front-size mark version rate field net four, names-bound net.nodes (and_parts _ _ net.network.node_names).0,
-      links-bound net.links (and_parts _ _ net.network.link_names).0, listed-bound net.patterns (and_parts _ _ net.network.pattern_names).0)
+    omega (
+      arith,
+      front-size mark version rate field net four,
+      names-bound net.nodes (and_parts _ _ net.network.node_names).0,
+      links-bound net.links (and_parts _ _ net.network.link_names).0,
+      listed-bound net.patterns (and_parts _ _ net.network.pattern_names).0,
+    )
 
 module _ (field : FieldKind) where
   -- an element has one byte or two
@@ -76,8 +87,14 @@ module _ (field : FieldKind) where
   pub operand_table-bound : (table : List (List Operand)) → size_of_items (operand_table_items field table) ≤ 4 * sum_by (λ operands. length operands) table + 2 * length table
   operand_table-bound [] = omega (arith, size-nil)
   operand_table-bound (operands ∷ table) =
-      omega (arith, size-append (operand_list_items field operands) (operand_table_items field table), operand_list-size field operands, small_element (length operands),
-        sum_by-cons (λ (one : List Operand). length one) operands table, operand_table-bound table)
+      omega (
+        arith,
+        size-append (operand_list_items field operands) (operand_table_items field table),
+        operand_list-size field operands,
+        small_element (length operands),
+        sum_by-cons (λ (one : List Operand). length one) operands table,
+        operand_table-bound table,
+      )
 
   module _ (rate : ℕ) where
     -- a decoder
@@ -106,7 +123,7 @@ module _ (field : FieldKind) where
 
 module _ (mark : Item) (version : ℕ) (net : Net) (rate : ℕ) (field : FieldKind) (operands : List (List Operand)) (decoders : List Decoder) where
   -- the whole of a code, where the network's patterns have few links together
-  pub whole-bound : length mark ≡ 4 → IsDraft net rate field operands → list_all (has_size rate) decoders ≡ true → length decoders ≤ 65536 → member_count net.patterns ≤ 2101247
+  pub whole-bound : length mark ≡ 4 → IsDraft net rate field operands → list_all (has_size rate) decoders ≡ true → length decoders ≤ 65536 → member_count net.patterns ≤ fitting_members
       → size_of_items (front_items mark version net rate field ++ (operand_table_items field operands ++ shared_table_items field [] decoders)) ≤ code_limit
   whole-bound four draft sized few_decoders few_members =
       let front = front_items mark version net rate field in
@@ -122,5 +139,12 @@ module _ (mark : Item) (version : ℕ) (net : Net) (rate : ℕ) (field : FieldKi
       let entries = mul-le rate rate 32 32 rates rates in
       let demands = mul-le (4 + 2 * rate + 2 * (rate * rate)) (length decoders) 2116 65536 (omega arith) few_decoders in
       let counted : sum_by (λ (list : List Operand). length list) operands ≤ 17039360 = omega (arith, operand_count-bound draft) in
-      omega (arith, size-append front (table ++ shared), size-append table shared, front-bound mark version rate field net four,
-        operand_table-bound field operands, shared_table-bound field rate [] decoders sized, few_sinks net)
+      omega (
+        arith,
+        size-append front (table ++ shared),
+        size-append table shared,
+        front-bound mark version rate field net four,
+        operand_table-bound field operands,
+        shared_table-bound field rate [] decoders sized,
+        few_sinks net,
+      )

@@ -108,17 +108,17 @@ unfolding field_at
 field_reader version =
     same_reader (then_reader mark_of (byte_reader (field_conditions version)) (λ n. empty_reader (unwrap_or (kind_of_mark n) Eight))
     (λ n field fit is.
-        let of = field_of_number version n fit.1 in
-        let same : field ≡ of.0 = is ∙ ap (λ (kind : Option FieldKind). unwrap_or kind Eight) of.1 in
-        ap mark_of same ∙ mark_of_kind n of.0 of.1))
+    let of = field_of_number version n fit.1 in
+    let same : field ≡ of.0 = is ∙ ap (λ (kind : Option FieldKind). unwrap_or kind Eight) of.1 in
+    ap mark_of same ∙ mark_of_kind n of.0 of.1))
     (λ field fit. refl)
     (λ field fit.
-        let of = field_of_number version (mark_of field) fit.0.1 in
-        let same : field ≡ of.0 = same_Some field of.0 (sym (kind_of_own_mark field) ∙ of.1) in
-        ap (has_field version) same ∙ of.2)
+    let of = field_of_number version (mark_of field) fit.0.1 in
+    let same : field ≡ of.0 = same_Some field of.0 (sym (kind_of_own_mark field) ∙ of.1) in
+    ap (has_field version) same ∙ of.2)
     (λ field fit.
-        let own = kind_of_own_mark field in
-        ((mark_small field, ap (λ (kind : Option FieldKind). option_map_or (has_field version) kind false) own ∙ fit), sym (ap (λ (kind : Option FieldKind). unwrap_or kind Eight) own)))
+    let own = kind_of_own_mark field in
+    ((mark_small field, ap (λ (kind : Option FieldKind). option_map_or (has_field version) kind false) own ∙ fit), sym (ap (λ (kind : Option FieldKind). unwrap_or kind Eight) own)))
 
 -- the limits of the rate
 rate_conditions : AreConditions (λ rest n. ((n == 0) || nat_lt 32 n, BadRate) ∷ []) (λ n. (1 ≤ n) × (n ≤ 32))

@@ -296,9 +296,11 @@ module _ (front : Front) where
     EachFits-from_shared passed [] earlier (decoder ∷ decoders) whole own said = absurd said
     EachFits-from_shared passed (sink ∷ later) earlier [] whole own said = absurd said
     EachFits-from_shared passed (sink ∷ later) earlier (decoder ∷ decoders) whole own said =
-        let here = either (same_of earlier decoder) refl in
-        (here, EachFits-from_shared (passed ++ sink ∷ []) later (earlier ++ decoder ∷ []) decoders (whole ∙ sym (append_assoc passed (sink ∷ []) later))
-        (EachFits-more (IsDecoderRead front) passed earlier sink decoder own here) said.1)
+        let here = either (same_of earlier decoder) refl in (
+          here,
+          EachFits-from_shared (passed ++ sink ∷ []) later (earlier ++ decoder ∷ []) decoders (whole ∙ sym (append_assoc passed (sink ∷ []) later))
+              (EachFits-more (IsDecoderRead front) passed earlier sink decoder own here) said.1,
+        )
       where
         either : (same : ℕ) → same_of earlier decoder ≡ same → IsDecoderRead front sink decoder
         either zero is = said.0.own is
@@ -311,15 +313,16 @@ module _ (front : Front) where
     FitsAfter-from_each passed [] earlier [] whole some_rate few own each = tt
     FitsAfter-from_each passed [] earlier (decoder ∷ decoders) whole some_rate few own each = absurd each
     FitsAfter-from_each passed (sink ∷ later) earlier [] whole some_rate few own each = absurd each
-    FitsAfter-from_each passed (sink ∷ later) earlier (decoder ∷ decoders) whole some_rate few own each =
-        (record {
-          fits = omega (arith, same_of-within earlier decoder);
-          own = λ none. each.0;
-          same_sink = λ demand is. one_sink (slice_index all demand) sink decoder some_rate (named_decoder passed (sink ∷ later) earlier demand decoder whole own is) each.0;
-        },
-        FitsAfter-from_each (passed ++ sink ∷ []) later (earlier ++ decoder ∷ []) decoders (whole ∙ sym (append_assoc passed (sink ∷ []) later)) some_rate
-        (omega (arith, length-append earlier (decoder ∷ [])))
-        (EachFits-more (IsDecoderRead front) passed earlier sink decoder own each.0) each.1)
+    FitsAfter-from_each passed (sink ∷ later) earlier (decoder ∷ decoders) whole some_rate few own each = (
+      record {
+        fits = omega (arith, same_of-within earlier decoder);
+        own = λ none. each.0;
+        same_sink = λ demand is. one_sink (slice_index all demand) sink decoder some_rate (named_decoder passed (sink ∷ later) earlier demand decoder whole own is) each.0;
+      },
+      FitsAfter-from_each (passed ++ sink ∷ []) later (earlier ++ decoder ∷ []) decoders (whole ∙ sym (append_assoc passed (sink ∷ []) later)) some_rate
+          (omega (arith, length-append earlier (decoder ∷ [])))
+          (EachFits-more (IsDecoderRead front) passed earlier sink decoder own each.0) each.1,
+    )
 
   -- a decoder of a demand has the size that the rate asks for
   pub has_size-from_read : (sink : ℕ) (decoder : Decoder) → IsDecoderRead front sink decoder → has_size front.rate decoder ≡ true

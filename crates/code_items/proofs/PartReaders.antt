@@ -304,9 +304,11 @@ same_conditions_are sinks earlier sink = record { to = to; from = from; not_memo
     to : (rest : Rest) (n : ℕ) → NoneHolds (same_conditions sinks earlier sink rest.at n) → NamesFirst sinks earlier sink n
     to rest zero none = tt
     to rest (suc demand) none = (ltb-true _ _ (not-false _ none.0), eqb-true _ _ (not-false _ none.1.0), none.1.1.0)
+
     from : (rest : Rest) (n : ℕ) → NamesFirst sinks earlier sink n → NoneHolds (same_conditions sinks earlier sink rest.at n)
     from rest zero names = tt
     from rest (suc demand) names = (not_from_true _ (lt-ltb _ _ names.0), (not_from_true _ (eq-eqb _ _ names.1), (names.2, tt)))
+
     not_memory : (rest : Rest) (n : ℕ) → AreNotMemory (same_conditions sinks earlier sink rest.at n)
     not_memory rest zero = tt
     not_memory rest (suc demand) = (refl, (refl, (refl, tt)))
@@ -367,8 +369,8 @@ shared_decoder_reader front sinks earlier sink =
       same_sink = λ demand is. (subst (NamesFirst sinks earlier sink) is fit.0.1).1;
     })
     (λ decoder read.
-        let named = named-from_read front sinks earlier sink decoder read in
-        ((read.fits, named.0), named.1))
+    let named = named-from_read front sinks earlier sink decoder read in
+    ((read.fits, named.0), named.1))
 
 -- ---- the decoders of all demands
 

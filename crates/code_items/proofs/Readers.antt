@@ -329,8 +329,8 @@ repeated_reader {X} part spell Fits each count earlier =
     same_reader (each_after_reader (λ earlier _. part earlier) (λ _. spell) (λ earlier (nothing : Unit {0}). Fits earlier) (λ earlier _. each earlier) (replicate count tt) earlier)
     (λ all fit. spelled_alike spell earlier (drop (length earlier) all))
     (λ all fit.
-        let are = AllAfter-from_fits Fits count earlier (drop (length earlier) all) fit.1 in
-        (are.0, (fit.0, are.1)))
+    let are = AllAfter-from_fits Fits count earlier (drop (length earlier) all) fit.1 in
+    (are.0, (fit.0, are.1)))
     (λ all fit. (fit.1.0, subst (λ (n : ℕ). FitsAfter (λ earlier (nothing : Unit {0}). Fits earlier) earlier (replicate n tt) (drop (length earlier) all)) fit.0 (FitsAfter-from_all Fits earlier (drop (length earlier) all) fit.1.1)))
 
 -- ---- a part for each

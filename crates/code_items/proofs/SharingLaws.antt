@@ -22,7 +22,8 @@ is_same_decoder-Decides one other = (
   λ same.
       let both = and_parts _ _ same in
       decoders_same one other ((bytes_eq-Decides one.links other.links).0 both.0) ((bytes_eq-Decides one.entries other.entries).0 both.1),
-  λ is. and_from _ _ ((bytes_eq-Decides one.links other.links).1 (ap (λ (d : Decoder). d.links) is)) ((bytes_eq-Decides one.entries other.entries).1 (ap (λ (d : Decoder). d.entries) is)))
+  λ is. and_from _ _ ((bytes_eq-Decides one.links other.links).1 (ap (λ (d : Decoder). d.links) is)) ((bytes_eq-Decides one.entries other.entries).1 (ap (λ (d : Decoder). d.entries) is)),
+)
 
 -- ---- the first place of a list at which a test passes
 
@@ -106,7 +107,7 @@ same_of-first_demand earlier decoder demand first =
     let none : list_any test (take demand earlier) ≡ false = subst (λ (d : Decoder). list_any (is_same_decoder d) (take demand earlier) ≡ false) first.is first.first in
     let below : demand < length earlier = first.below in
     let before : (k : ℕ) → k < demand → test (get_or earlier k no_decoder) ≡ false = λ k lt.
-        sym (ap test (get_or-take demand earlier k no_decoder lt)) ∙ none_at test (take demand earlier) k no_decoder none (omega (arith, length-take demand earlier)) in
+    sym (ap test (get_or-take demand earlier k no_decoder lt)) ∙ none_at test (take demand earlier) k no_decoder none (omega (arith, length-take demand earlier)) in
     let place : position_or_len test earlier ≡ demand = position_or_len_is test earlier demand no_decoder (omega arith) before (λ within. here) in
     same_of-first earlier decoder (list_any_at test earlier demand no_decoder below here) ∙ ap suc place
 

@@ -26,14 +26,14 @@ module _ (bound : ℕ) (order : List ℕ) (once : HasEachOnce bound order) where
       let kept : ℕ → Bool = λ new. is_among links (old_number order new) in
       let set = renumbered_set order links in
       let old_there : (link : ℕ) → is_among links link ≡ true → is_among (map (old_number order) set) link ≡ true = λ link among.
-          let within : link < bound = below_bound links bound link below (list_any-from_is_among links link among) in
-          let back : old_number order (new_number order link) ≡ link = old-new once link within in
-          let new_there : is_among set (new_number order link) ≡ true = is_among-renumbered_set order links (new_number order link) (new_number-below once link within) ∙ ap (is_among links) back ∙ among in
-          ap (is_among (map (old_number order) set)) (sym back) ∙ is_among-map (old_number order) set (new_number order link) new_there in
+      let within : link < bound = below_bound links bound link below (list_any-from_is_among links link among) in
+      let back : old_number order (new_number order link) ≡ link = old-new once link within in
+      let new_there : is_among set (new_number order link) ≡ true = is_among-renumbered_set order links (new_number order link) (new_number-below once link within) ∙ ap (is_among links) back ∙ among in
+      ap (is_among (map (old_number order) set)) (sym back) ∙ is_among-map (old_number order) set (new_number order link) new_there in
       let new_there : (new : ℕ) → is_among set new ≡ true → is_among (map (new_number order) links) new ≡ true = λ new among.
-          let parts = and_parts (kept new) (is_among (range_with_len 0 (length order)) new) (sym (is_among-filter kept (range_with_len 0 (length order)) new) ∙ among) in
-          let within : new < length order = ltb-true new (length order) (sym (is_among-range_with_len (length order) new) ∙ parts.1) in
-          ap (is_among (map (new_number order) links)) (sym (new-old once new within)) ∙ is_among-map (new_number order) links (old_number order new) parts.0 in
+      let parts = and_parts (kept new) (is_among (range_with_len 0 (length order)) new) (sym (is_among-filter kept (range_with_len 0 (length order)) new) ∙ among) in
+      let within : new < length order = ltb-true new (length order) (sym (is_among-range_with_len (length order) new) ∙ parts.1) in
+      ap (is_among (map (new_number order) links)) (sym (new-old once new within)) ∙ is_among-map (new_number order) links (old_number order new) parts.0 in
       let no_fewer = length-le_from_is_among links (map (old_number order) set) (are_distinct-from_rising links rising) old_there in
       let no_more = length-le_from_is_among set (map (new_number order) links) (are_distinct-from_rising set (is_rising-filter_range kept 0 (length order))) new_there in
       omega (arith, no_fewer, no_more, length-map set (old_number order), length-map links (new_number order))

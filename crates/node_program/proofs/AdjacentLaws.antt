@@ -39,8 +39,14 @@ more_pairs : (link : Link) (links others : List Link)
     → sum_by (λ b. into_count (link ∷ links) b.tail) others ≡ out_count others link.head + sum_by (λ b. into_count links b.tail) others
 more_pairs link links [] = refl
 more_pairs link links (b ∷ others) =
-    omega (arith, sum_by-cons (λ b. into_count (link ∷ links) b.tail) b others, sum_by-cons (λ b. into_count links b.tail) b others,
-      into_count-cons link links b.tail, out_count-cons b others link.head, more_pairs link links others)
+    omega (
+      arith,
+      sum_by-cons (λ b. into_count (link ∷ links) b.tail) b others,
+      sum_by-cons (λ b. into_count links b.tail) b others,
+      into_count-cons link links b.tail,
+      out_count-cons b others link.head,
+      more_pairs link links others,
+    )
 
 -- one link more before all others of an order
 adjacent_count-cons : (tails : List ℕ) (link : Link) (links : List Link) → are_in_order tails (link ∷ links) ≡ true
@@ -57,8 +63,13 @@ counted_once false = omega arith
 apart_tails : (links : List Link) (one other : ℕ) → one ≢ other → out_count links one + out_count links other ≤ length links
 apart_tails [] one other apart = omega arith
 apart_tails (link ∷ links) one other apart =
-    omega (arith, out_count-cons link links one, out_count-cons link links other, apart_tails links one other apart,
-      here (one == link.tail) (other == link.tail) (λ e f. apart (eqb-true one link.tail e ∙ sym (eqb-true other link.tail f))))
+    omega (
+      arith,
+      out_count-cons link links one,
+      out_count-cons link links other,
+      apart_tails links one other apart,
+      here (one == link.tail) (other == link.tail) (λ e f. apart (eqb-true one link.tail e ∙ sym (eqb-true other link.tail f))),
+    )
   where
     here : (a b : Bool) → (a ≡ true → b ≡ true → ⊥) → cond a 1 0 + cond b 1 0 ≤ 1
     here true true apart = absurd (apart refl refl)
@@ -74,9 +85,11 @@ most_out tails (link ∷ links) order =
     let pairs = adjacent_count-cons tails link links order in
     elim (cases_lt (out_count links link.tail) most) [
       | inl fits ↦ (most, still most widest fits, omega (arith, pairs, few, widest link.head))
-      | inr over ↦
-          (suc most, (λ node. omega (arith, out_count-cons link links node, counted_once (node == link.tail), widest node)),
-            omega (arith, pairs, few, apart_tails links link.head link.tail (apart_behind tails (link ∷ links) order 0 0 (omega arith) (omega arith))))
+      | inr over ↦ (
+        suc most,
+        (λ node. omega (arith, out_count-cons link links node, counted_once (node == link.tail), widest node)),
+        omega (arith, pairs, few, apart_tails links link.head link.tail (apart_behind tails (link ∷ links) order 0 0 (omega arith) (omega arith))),
+      )
     ]
   where
     still : (most : ℕ) → ((node : ℕ) → out_count links node ≤ most) → out_count links link.tail < most → (node : ℕ) → out_count (link ∷ links) node ≤ most

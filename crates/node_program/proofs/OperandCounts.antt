@@ -55,8 +55,8 @@ module _ (net : Net) (rate : ℕ) (field : FieldKind) where
       let numbers = map (λ (operand : Operand). operand.from) operands in
       let parts = and_parts (is_rising numbers) (list_all test operands) are in
       let named : list_all (is_source_of net rate link) numbers ≡ true =
-          list_all-map (is_source_of net rate link) (λ (operand : Operand). operand.from) operands
-          ∙ list_all-implied test (λ operand. is_source_of net rate link operand.from) operands (λ operand h. (and_parts _ _ (and_parts _ _ h).0).0) parts.1 in
+      list_all-map (is_source_of net rate link) (λ (operand : Operand). operand.from) operands
+      ∙ list_all-implied test (λ operand. is_source_of net rate link operand.from) operands (λ operand h. (and_parts _ _ (and_parts _ _ h).0).0) parts.1 in
       omega (arith, length-map operands (λ (operand : Operand). operand.from), either (link.tail == net.source) numbers parts.0 named)
     where
       either : (leaves : Bool) (xs : List ℕ) → is_rising xs ≡ true → list_all (λ from. if leaves then nat_lt from rate else leads_into net.links link.tail from) xs ≡ true

@@ -2,7 +2,9 @@
 ghost use Rattle.std.specs.Prelude.{◌≡◌, ◌≢◌, ◌≤◌, ℕ, List, [], Ok, Err, IfOk, IfErr, length, unwrap_or};
 ghost use Rattle.lif_outside.specs.Calls.{MakesCalls};
 ghost use Rattle.link_chains.specs.Wiring.{IsWiring};
+ghost use Rattle.net_model.specs.Failed.{member_count};
 ghost use Rattle.net_model.specs.Limits.{longest_name};
+ghost use Rattle.net_reader.specs.Statements.{most_read_members};
 ghost use Rattle.net_reader.specs.Text.{net_limit, network_of, parts_of};
 ghost use Rattle.topo_order.specs.Order.{IsShownCycle, order_of};
 ghost use Rattle.top_base.specs.Lines.{refused_name};
@@ -89,6 +91,7 @@ fn parse<'a>(alloc: Global, text: &[u8]) -> Result<Ordered, Outcome<'a>>
     ensures wiring { IfOk result (λ ordered.
         IsWiring ordered.net.links (length ordered.net.nodes) ordered.wiring) }
     ensures order { IfOk result (λ ordered. ordered.order.items ≡ order_of ordered.net.links) }
+    ensures members { IfOk result (λ ordered. member_count ordered.net.patterns ≤ most_read_members) }
     ensures refused { IfErr result (λ outcome. RefusesNetOrLosesIt text.now outcome) }
 {
     let net = match read_net(alloc, text) {
@@ -114,6 +117,7 @@ pub fn read_ordered<'a, S: Store>(
     ensures had { IfOk result
         (λ ordered. MakesCalls S.Store store.old store.new (ReadsNet path.now (Ok ordered.net))) }
     ensures order { IfOk result (λ ordered. ordered.order.items ≡ order_of ordered.net.links) }
+    ensures members { IfOk result (λ ordered. member_count ordered.net.patterns ≤ most_read_members) }
     ensures lost { IfErr result
         (λ outcome. MakesCalls S.Store store.old store.new (ReadsNet path.now (Err outcome))) }
 {

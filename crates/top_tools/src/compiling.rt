@@ -1,11 +1,13 @@
 //! The command `compile`.
-ghost use Rattle.std.specs.Prelude.{◌≡◌, ◌∷◌, [], OnErr, OnOk, ℕ, length};
+ghost use Rattle.std.specs.Prelude.{◌≡◌, ◌≤◌, ◌∷◌, [], OnErr, OnOk, ℕ, length};
 ghost use Rattle.std.specs.Option.{option_map};
+ghost use Rattle.code_file.specs.Limits.{fitting_members};
 ghost use Rattle.lif_outside.specs.Calls.{MakesCalls};
 ghost use Rattle.lif_outside.specs.FileCalls.{StopsWithin};
 ghost use Rattle.lif_outside.specs.Sequences.{Are};
 ghost use Rattle.lif_outside.specs.Writes.{writes_of};
 ghost use Rattle.link_chains.specs.Wiring.{IsWiring};
+ghost use Rattle.net_model.specs.Failed.{member_count};
 ghost use Rattle.net_model.specs.Walks.{IsAcyclic};
 ghost use Rattle.net_model.specs.declared.net.Net.{Net};
 ghost use Rattle.topo_order.specs.Order.{order_of};
@@ -81,6 +83,7 @@ fn compile_net<'a, S: Store, G: Gate + Sync, R: Threads + Sync>(
     requires wiring { IsWiring net.now.links (length net.now.nodes) wiring.now }
     requires order { order.now ≡ order_of net.now.links }
     requires acyclic { IsAcyclic net.now.links }
+    requires members { member_count net.now.patterns ≤ fitting_members }
     ensures { MakesCalls S.Store store.old store.new
         (Compiles (compile_given_in words.now) net.now result.status result.line) }
 {

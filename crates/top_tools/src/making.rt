@@ -1,10 +1,12 @@
 //! A code of a network and its report, as they are written.
-ghost use Rattle.std.specs.Prelude.{◌≡◌, ◌≢◌, ◌<◌, IfErr, IfOk, IsNone, length};
+ghost use Rattle.std.specs.Prelude.{◌≡◌, ◌≢◌, ◌≤◌, ◌<◌, IfErr, IfOk, IsNone, length};
+ghost use Rattle.code_file.specs.Limits.{fitting_members};
 ghost use Rattle.gf_tables.specs.Kind.{IsOfKind};
 ghost use Rattle.gf_tables.specs.declared.kind.FieldKind.TheVariants.{Nine};
 ghost use Rattle.lif_compiler.specs.Compiled.{IsCompiled, marked_kind};
 ghost use Rattle.lif_compiler.specs.Refused.{IsRefusal};
 ghost use Rattle.link_chains.specs.Wiring.{IsWiring};
+ghost use Rattle.net_model.specs.Failed.{member_count};
 ghost use Rattle.net_model.specs.Walks.{IsAcyclic};
 ghost use Rattle.topo_order.specs.Order.{order_of};
 ghost use Rattle.top_tools.specs.Compile.Made.{IsServedBy};
@@ -49,6 +51,7 @@ fn of_code<'a, R: Threads + Sync>(
 ) -> Result<Made<'a>, AllocError>
     requires compiled { IsCompiled net.now code.now.field code.now certs.now }
     requires served { IsServedBy net.now code.now.field }
+    requires members { member_count net.now.patterns ≤ fitting_members }
     ensures { IfOk result (IsReady net.now) }
 {
     Ok(Made {
@@ -138,6 +141,7 @@ fn make_over<'a, F: Field, G: Gate + Sync, R: Threads + Sync>(
     requires wiring { IsWiring net.now.links (length net.now.nodes) wiring.now }
     requires order { order.now ≡ order_of net.now.links }
     requires acyclic { IsAcyclic net.now.links }
+    requires members { member_count net.now.patterns ≤ fitting_members }
     ensures ready { IfOk result (IsReady net.now) }
     ensures refused { IfErr result (RefusesOrLosesIt net.now) }
 {
@@ -161,6 +165,7 @@ pub fn make<'a, G: Gate + Sync, R: Threads + Sync>(
     requires wiring { IsWiring net.now.links (length net.now.nodes) wiring.now }
     requires order { order.now ≡ order_of net.now.links }
     requires acyclic { IsAcyclic net.now.links }
+    requires members { member_count net.now.patterns ≤ fitting_members }
     ensures ready { IfOk result (IsReady net.now) }
     ensures refused { IfErr result (RefusesOrLosesIt net.now) }
 {

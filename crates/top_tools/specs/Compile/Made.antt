@@ -1,7 +1,8 @@
 -- What `compile` makes of a network without a cycle, and which networks it refuses.
-use Rattle.std.specs.Prelude.{◌≡◌, ◌≤◌, ℕ, List, [], ◌∷◌, Some}
+use Rattle.std.specs.Prelude.{◌≡◌, ◌≤◌, ℕ, List, [], ◌∷◌, Some, length}
 use Rattle.cut_witness.specs.declared.cert.Cert.{Cert}
 use Rattle.code_file.specs.Items.{bytes_of}
+use Rattle.code_file.specs.Limits.{code_limit}
 use Rattle.failure_patterns.specs.Rate.{IsRate, rate_used}
 use Rattle.gf_tables.specs.declared.kind.FieldKind.{FieldKind}
 use Rattle.lif_compiler.specs.Compiled.{IsCompiled}
@@ -23,13 +24,15 @@ use Rattle.top_tools.specs.Cuts.{IsCrowded, field_of}
 abbrev pub IsServedBy : Net → FieldKind → Type 0
 IsServedBy net field = field_of net ≡ Some (choice_of field)
 
--- a code of the network with certificates of its rate, and what is written and said of them
+-- a code of the network with certificates of its rate, whose file is within the limit of code files, and what is written and said of
+-- them
 pub record IsMade (given : Compile) (net : Net) (files : List Written) (line : List ℕ) : Type 0 where
   pub field : FieldKind
   pub served : IsServedBy net field
   pub code : Code
   pub certs : List Cert
   pub compiled : IsCompiled net field code certs
+  pub within : length (bytes_of code) ≤ code_limit
   pub files_are : files ≡ (given.code, bytes_of code) ∷ (given.report, report_of net compiled.least certs) ∷ []
   pub line_is : line ≡ compiled_line code.rate field (demand_count net)
 

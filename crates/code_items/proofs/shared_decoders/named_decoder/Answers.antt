@@ -9,5 +9,5 @@ pub returns-in_ok-copy_of-in-Some-clause-texts : goal.returns-in_ok-copy_of-in-S
 returns-in_ok-copy_of-in-Some-clause-texts c =
     let below : c.in-Some.demand < length c.args.earlier.now = omega (arith, c.in-Some.ensures, c.requires.within) in
     let copy : c.in_ok-copy_of-in-Some.field-0 ≡ decoder_of c.args.earlier.now c.in-Some.demand =
-      c.in_ok-copy_of-in-Some.ensures ∙ c.index-earlier-demand.is ∙ get_or_default _ _ _ no_decoder below in
+    c.in_ok-copy_of-in-Some.ensures ∙ c.index-earlier-demand.is ∙ get_or_default _ _ _ no_decoder below in
     rw copy (AreTexts-again c.args.front.now.field c.args.front.now.rate c.args.texts.now c.args.earlier.now _ (is_shared-earlier c.args.earlier.now c.in-Some.demand below) c.requires.texts)

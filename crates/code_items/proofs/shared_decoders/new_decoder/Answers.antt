@@ -21,7 +21,7 @@ unfolding new_decoder_at
 returns-then-not-branch-clause-reads c earlier are other =
     let took = IsTaken-from_read (front_seen c.args.front.now) c.args.sink (left_of c.args.start) (left_of c.in_ok-decoder.rest) c.in_ok-decoder.decoder c.before-text.ensures.bytes c.in_ok-decoder.ensures in
     let known : is_shared earlier c.in_ok-decoder.decoder ≡ true =
-      sym (are c.in_ok-decoder.decoder took.sized took.elements) ∙ ap (has c.args.texts.now) (sym took.text ∙ sym c.before-text.ensures.value) ∙ not-false _ (sym c.in_ok-add.ensures.fresh ∙ c.if-not-branch.true) in
+    sym (are c.in_ok-decoder.decoder took.sized took.elements) ∙ ap (has c.args.texts.now) (sym took.text ∙ sym c.before-text.ensures.value) ∙ not-false _ (sym c.in_ok-add.ensures.fresh ∙ c.if-not-branch.true) in
     rw (c.in_ok-decoder.ensures, known, c.saturating_sub-last.ensures, c.element_room.ensures) refl
 
 pub returns-clause-reads : goal.returns-clause-reads
@@ -29,7 +29,7 @@ unfolding new_decoder_at
 returns-clause-reads c earlier are =
     let took = IsTaken-from_read (front_seen c.args.front.now) c.args.sink (left_of c.args.start) (left_of c.in_ok-decoder.rest) c.in_ok-decoder.decoder c.before-text.ensures.bytes c.in_ok-decoder.ensures in
     let new : is_shared earlier c.in_ok-decoder.decoder ≡ false =
-      sym (are c.in_ok-decoder.decoder took.sized took.elements) ∙ ap (has c.args.texts.now) (sym took.text ∙ sym c.before-text.ensures.value) ∙ not-true _ (sym c.in_ok-add.ensures.fresh ∙ c.if-not-branch.false) in
+    sym (are c.in_ok-decoder.decoder took.sized took.elements) ∙ ap (has c.args.texts.now) (sym took.text ∙ sym c.before-text.ensures.value) ∙ not-true _ (sym c.in_ok-add.ensures.fresh ∙ c.if-not-branch.false) in
     rw (c.in_ok-decoder.ensures, new) refl
 
 pub returns-clause-texts : goal.returns-clause-texts

@@ -51,13 +51,13 @@ pub returns-in-None-clause-reads : goal.returns-in-None-clause-reads
 returns-in-None-clause-reads c earlier are other =
     let number : c.in_ok-same.same ≡ suc c.in-Some.demand = omega (arith, c.in-Some.ensures) in
     rw (long_checked (left_of c.args.rest) (same_conditions c.args.sinks.now earlier c.args.sink c.args.rest.at), c.in_ok-same.ensures, number)
-      (is_far c.args.sinks.now c.args.firsts.now earlier are c.args.sink c.args.rest.at c.in-Some.demand _ (ltb-false _ _ (sym c.in-None.ensures.lookup.0)))
+    (is_far c.args.sinks.now c.args.firsts.now earlier are c.args.sink c.args.rest.at c.in-Some.demand _ (ltb-false _ _ (sym c.in-None.ensures.lookup.0)))
 
 pub returns-in-Some-get-clause-reads : goal.returns-in-Some-get-clause-reads
 returns-in-Some-get-clause-reads c earlier are other =
     let number : c.in_ok-same.same ≡ suc c.in-Some.demand = omega (arith, c.in-Some.ensures) in
     rw (long_checked (left_of c.args.rest) (same_conditions c.args.sinks.now earlier c.args.sink c.args.rest.at), c.in_ok-same.ensures, number)
-      (of_other c.args.sinks.now c.args.firsts.now earlier are c.args.sink c.args.rest.at c.in-Some.demand _ (ltb-true _ _ (sym c.in-Some-get.ensures.lookup.0)) c.if-sinks-demand.true)
+    (of_other c.args.sinks.now c.args.firsts.now earlier are c.args.sink c.args.rest.at c.in-Some.demand _ (ltb-true _ _ (sym c.in-Some-get.ensures.lookup.0)) c.if-sinks-demand.true)
 
 pub returns-in-Some-false-clause-reads : goal.returns-in-Some-false-clause-reads
 returns-in-Some-false-clause-reads c earlier are other =
@@ -65,7 +65,7 @@ returns-in-Some-false-clause-reads c earlier are other =
     let here = ltb-true _ _ (sym c.in-Some-get.ensures.lookup.0) in
     let mark : get_or c.args.firsts.now c.in-Some.demand false ≡ false = get_or_default _ _ _ _ here ∙ sym c.in-Some-get.ensures.lookup.1 ∙ c.in-Some-false.field-0-test in
     rw (long_checked (left_of c.args.rest) (same_conditions c.args.sinks.now earlier c.args.sink c.args.rest.at), c.in_ok-same.ensures, number)
-      (is_later c.args.sinks.now c.args.firsts.now earlier are c.args.sink c.args.rest.at c.in-Some.demand _ here c.if-sinks-demand.false mark)
+    (is_later c.args.sinks.now c.args.firsts.now earlier are c.args.sink c.args.rest.at c.in-Some.demand _ here c.if-sinks-demand.false mark)
 
 pub returns-clause-reads : goal.returns-clause-reads
 returns-clause-reads c earlier are =

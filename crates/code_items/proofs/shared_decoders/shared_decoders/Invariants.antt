@@ -10,5 +10,5 @@ invariant-loop-sink l = record {
   so_far : each_after_at (shared_decoder_at (front_seen l.fn.front) l.fn.sinks) l.decoders.items (drop l.sink-index l.sinks) (left_of l.rest) ≡ each_after_at (shared_decoder_at (front_seen l.fn.front) l.fn.sinks) [] l.fn.sinks (left_of l.fn.start);
   firsts : AreFirsts l.firsts.items l.decoders.items;
   texts : AreTexts l.fn.front.field l.fn.front.rate l.texts l.decoders.items;
-  placed : length l.decoders.items ≡ l.sink-index
+  placed : length l.decoders.items ≡ l.sink-index;
 }

@@ -1,7 +1,11 @@
-use Rattle.std.proofs.Common.{◌≡◌, ap, ◌∙◌}
+use Rattle.std.proofs.Common.{◌≡◌, ◌≤◌, ap, subst, sym, ◌∙◌}
+use Rattle.code_file.proofs.SizeLaws.{bytes_of-within}
 use Rattle.code_file.specs.Items.{bytes_of}
+use Rattle.code_file.specs.Limits.{fitting_members}
 use Rattle.cut_witness.proofs.CertificateLaws.{IsRate-least_value}
 use Rattle.failure_patterns.proofs.RateLaws.{IsRate-unique}
+use Rattle.lif_compiler.proofs.InOrderLaws.{HasEachOnce-order_of}
+use Rattle.net_model.proofs.MemberLaws.{member_count-renumbered}
 use Rattle.node_program.specs.Code.{choice_of}
 use Rattle.report_text.specs.Report.{report_of}
 use Rattle.top_base.specs.Lines.{compiled_line}
@@ -26,6 +30,7 @@ returns g c = λ given.
       code = code;
       certs = certs;
       compiled = compiled;
+      within = bytes_of-within code (subst (λ n. n ≤ fitting_members) (sym (member_count-renumbered net code.net (order_of net.links) (choice_of code.field) (HasEachOnce-order_of net.links compiled.acyclic) compiled.network)) c.requires.members);
       files_are = ap (λ bytes. files_of given bytes report) c.in_ok-write_code.ensures ∙ ap (files_of given (bytes_of code)) (c.in_ok-report_of.ensures ∙ ap (λ rate. report_of net rate certs) least);
       line_is = c.compiled.ensures ∙ ap (compiled_line code.rate code.field) (same_count (order_of net.links) (choice_of code.field) net code.net compiled.network);
     }
