@@ -11,6 +11,7 @@ use Rattle.coeff_choice.specs.Choice.{choice_steps}
 use Rattle.counted_steps.specs.Steps.{RoseByAtMost}
 use Rattle.field_vectors.specs.Grid.{Grid}
 use Rattle.gf_tables.specs.declared.field.Field.{Ghosts as FieldWords}
+use Rattle.net_model.proofs.RisingLaws.{are_distinct-from_rising}
 use Rattle.net_model.proofs.ListLaws.{length-le_from_is_among}
 use Rattle.net_model.specs.Demands.{demand_count}
 use Rattle.net_model.specs.Lists.{are_distinct, is_rising}
@@ -37,18 +38,9 @@ turns_more turns each most old between new same before after = record {
   not_above = omega (arith, before.not_above, after.not_above);
 }
 
--- rising numbers are distinct
-are_distinct-rising : (xs : List ℕ) → is_rising xs ≡ true → are_distinct nat_eq xs ≡ true
-are_distinct-rising [] rising = refl
-are_distinct-rising (x ∷ xs) rising =
-    let parts = and_parts _ _ rising in
-    and_from _ _
-    (not_from_false _ (list_any_none (nat_eq x) xs (λ k d within. ne_eqb x _ (λ same. absurd (omega (arith, same, ltb-true x _ (AllPass-from_list_all (nat_lt x) xs parts.0 k d within)))))))
-    (are_distinct-rising xs parts.1)
-
 -- there are at most as many sources as hops
 pub sources-few : (numbers sources : List ℕ) → AreSources numbers sources → length sources ≤ length numbers
-sources-few numbers sources are = length-le_from_is_among sources numbers (are_distinct-rising sources are.rising) (λ number among. sym (are.same number) ∙ among)
+sources-few numbers sources are = length-le_from_is_among sources numbers (are_distinct-from_rising sources are.rising) (λ number among. sym (are.same number) ∙ among)
 
 -- and at most as many operands as sources
 pub operands-few : (sources times : List ℕ) → length (operands_of sources times) ≤ length sources
