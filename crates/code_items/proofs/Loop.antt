@@ -2,7 +2,7 @@
 use Rattle.std.proofs.Common.{◌≡◌, ℕ, suc, ◌-◌, ◌+◌, ◌≤◌, ◌<◌, List, [], ◌∷◌, ◌++◌, length, get_or, drop, replicate, Ok, Err, refl, sym, ap, ◌∙◌, arith}
 use Rattle.std.proofs.lemmas.List.{drop_more, drop_all}
 use Rattle.code_items.specs.declared.refusal.CodeRefusal.{CodeRefusal}
-use Rattle.code_items.specs.Reading.{Rest, Reading, ◌>>=◌, each_after_at, repeated_at}
+use Rattle.code_items.specs.Reading.{Rest, Reading, each_after_at, repeated_at}
 use Rattle.code_items.specs.Gives.{Fails}
 
 module _ {X Y : Type 0} (part : List Y → X → Rest → Reading Y) (xs : List X) (earlier : List Y) (rest : Rest) (total : Reading (List Y)) where
@@ -28,32 +28,40 @@ module _ {X Y : Type 0} (part : List Y → X → Rest → Reading Y) (xs : List 
       let this : each_after_at part earlier xs rest ≡ Ok (earlier, rest) = rw none refl in
       sym so_far ∙ this
 
--- the same of a loop over a list
+-- ---- a loop over a list
+
 module _ {X Y : Type 0} (part : List Y → X → Rest → Reading Y) (xs : List X) (i : ℕ) (earlier : List Y) (rest : Rest) (total : Reading (List Y)) where
+  -- after one more part
   pub each_goes_on : (d : X) (one : Y) (after : Rest) → i < length xs → part earlier (get_or xs i d) rest ≡ Ok (one, after)
       → each_after_at part earlier (drop i xs) rest ≡ total → each_after_at part (earlier ++ one ∷ []) (drop (i + 1) xs) after ≡ total
   each_goes_on d one after more = step part (drop i xs) earlier rest total (get_or xs i d) (drop (i + 1) xs) one after (drop_more xs i d more)
 
+  -- where a part is refused
   pub each_ends : (d : X) (refusal : CodeRefusal) → i < length xs → Fails refusal (part earlier (get_or xs i d) rest)
       → each_after_at part earlier (drop i xs) rest ≡ total → Fails refusal total
   each_ends d refusal more = stop part (drop i xs) earlier rest total (get_or xs i d) (drop (i + 1) xs) refusal (drop_more xs i d more)
 
+  -- after the last part
   pub each_is_done : length xs ≤ i → each_after_at part earlier (drop i xs) rest ≡ total → total ≡ Ok (earlier, rest)
   each_is_done none = finish part (drop i xs) earlier rest total (drop_all i xs none)
 
--- the same of a loop that counts
+-- ---- a loop that counts
+
 module _ {X : Type 0} (part : List X → Rest → Reading X) (count i : ℕ) (earlier : List X) (rest : Rest) (total : Reading (List X)) where
+  -- after one more part
   pub goes_on : (one : X) (after : Rest) → i < count → part earlier rest ≡ Ok (one, after)
       → repeated_at part (count - i) earlier rest ≡ total → repeated_at part (count - (i + 1)) (earlier ++ one ∷ []) after ≡ total
   goes_on one after more =
       let left : count - i ≡ suc (count - (i + 1)) = omega arith in
       step (λ earlier _. part earlier) (replicate (count - i) (tt {0})) earlier rest total (tt {0}) (replicate (count - (i + 1)) (tt {0})) one after (ap (λ n. replicate n (tt {0})) left)
 
+  -- where a part is refused
   pub ends : (refusal : CodeRefusal) → i < count → Fails refusal (part earlier rest) → repeated_at part (count - i) earlier rest ≡ total → Fails refusal total
   ends refusal more =
       let left : count - i ≡ suc (count - (i + 1)) = omega arith in
       stop (λ earlier _. part earlier) (replicate (count - i) (tt {0})) earlier rest total (tt {0}) (replicate (count - (i + 1)) (tt {0})) refusal (ap (λ n. replicate n (tt {0})) left)
 
+  -- after the last part
   pub is_done : count ≤ i → repeated_at part (count - i) earlier rest ≡ total → total ≡ Ok (earlier, rest)
   is_done none =
       let left : count - i ≡ 0 = omega arith in

@@ -1,30 +1,23 @@
 -- What a reader of shared decoders keeps of the earlier ones, as it reads one more.
-use Rattle.std.proofs.Common.{◌≡◌, ℕ, ◌-◌, ◌+◌, ◌<◌, ◌≤◌, Bool, true, false, not, ◌||◌, List, [], ◌∷◌, ◌++◌, length, take, get_or, Ok, refl, sym, subst, ap, ◌∙◌, length-append, inl, inr, arith}
+use Rattle.std.proofs.Common.{◌≡◌, ℕ, ◌-◌, ◌+◌, ◌<◌, ◌≤◌, Bool, true, false, not, List, [], ◌∷◌, ◌++◌, length, take, Ok, refl, sym, ap, ◌∙◌, length-append, inl, inr, arith}
 use Rattle.std.specs.Prelude.{suc, zero, ◌==◌}
-use Rattle.std.specs.List.{list_any}
-use Rattle.std.specs.Str.{bytes_eq}
 use Rattle.std.proofs.lemmas.Bool.{cases_lt}
-use Rattle.std.proofs.lemmas.Bool.Decides.{same_from_decides}
 use Rattle.std.proofs.lemmas.List.{get_or_push, length_push, take-append-le}
-use Rattle.std.proofs.lemmas.List.Folds.{list_any-append, list_any_at}
-use Rattle.std.proofs.lemmas.Slice.Eq.{bytes_eq-Decides}
+use Rattle.std.proofs.lemmas.List.Folds.{list_any_at}
 use Rattle.std.proofs.Math.Dec.{eqb-suc-zero}
 use Rattle.std.proofs.Math.ListN.{get_or-append}
 use Rattle.std.proofs.Math.Seq.{take-append_seam}
 use Rattle.gf_tables.specs.Product.{bytes_of_element}
-use Rattle.gf_tables.specs.declared.kind.FieldKind.{FieldKind}
-use Rattle.name_index.specs.Seen.{has}
 use Rattle.node_program.specs.declared.Decoder.{Decoder}
 use Rattle.code_items.specs.Reading.{Rest, Front, Conditions, refused_first, decoder_at, new_decoder_at, named_decoder_at}
 use Rattle.code_items.specs.declared.refusal.CodeRefusal.TheVariants.{Written}
-use Rattle.code_items.specs.Shared.{AreFirsts, AreTexts, decoder_text}
+use Rattle.code_items.specs.Shared.{AreFirsts, decoder_text}
 use Rattle.code_items.specs.Sharing.{is_same_decoder, is_shared, decoder_of, no_decoder, shares}
 use Rattle.code_items.specs.Written.{has_elements, has_size}
 use Rattle.code_items.proofs.PartLaws.{has_elements-from_read, has_size-from_read}
 use Rattle.code_items.proofs.PartReaders.{decoder_reader}
 use Rattle.code_items.proofs.Readers.{IsBytes, bind_ok, else_ok, ok_is}
 use Rattle.code_items.proofs.SharingLaws.{is_same_decoder-Decides}
-use Rattle.code_items.proofs.TextLaws.{decoder_text-same}
 
 -- a decoder that was read: how it is, and the bytes that were taken
 pub record IsTaken (front : Front) (rest left : Rest) (decoder : Decoder) : Type 0 where

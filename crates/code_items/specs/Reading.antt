@@ -1,7 +1,7 @@
 -- Reading the parts of a code file from left to right. Which item comes next is determined by the
 -- items before it. An item whose bytes aren't all there is truncated; else it is refused by the first
 -- of its conditions that holds. The refusal of a part is that of the first item that isn't good.
-use Rattle.std.specs.Prelude.{ℕ, zero, suc, ◌+◌, ◌-◌, ◌*◌, Bool, true, not, ◌||◌, ◌&&◌, ◌==◌, nat_lt, List, [], ◌∷◌, ◌++◌, false, length, map, take, drop, replicate, slice_index, codes, is_none, unwrap_or, Result, Ok, Err, if◌then◌else◌}
+use Rattle.std.specs.Prelude.{ℕ, zero, suc, ◌+◌, ◌-◌, ◌*◌, Bool, true, not, ◌||◌, ◌==◌, nat_lt, List, [], ◌∷◌, ◌++◌, false, length, map, take, drop, replicate, slice_index, codes, unwrap_or, Result, Ok, Err, if◌then◌else◌}
 use Rattle.std.specs.Int.{w16, w32, from_be_bytes}
 use Rattle.std.specs.List.{list_any, flat_map}
 use Rattle.std.specs.Option.{option_map_or}

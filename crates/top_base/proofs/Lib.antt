@@ -9,6 +9,7 @@ pub mod MakingLaws
 pub mod NetworkLaws
 pub mod PathLaws
 pub mod PerformingLaws
+pub mod MigrationLaws
 pub mod SameCode
 pub mod SameNet
 pub mod FileReadingLaws
