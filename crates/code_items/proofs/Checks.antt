@@ -9,11 +9,13 @@ use Rattle.net_model.specs.Name.{is_name}
 use Rattle.code_items.specs.declared.refusal.CodeRefusal.TheVariants.{BadName, Truncated}
 use Rattle.code_items.specs.Reading.{Rest, Reading, ◌>>=◌, refused_first, item, byte_at, number_at, long_at, width_at, element_at, name_at, Conditions}
 
+-- by whether the bytes are all there
 item_by : (b : Bool) (at : ℕ) (x : List ℕ × Rest) (conditions : List ℕ → Conditions)
     → cond b (Err (Truncated at)) (refused_first (conditions x.0) x) ≡ (cond b (Err (Truncated at)) (Ok x) >>= λ it. refused_first (conditions it.0) it)
 item_by true at x conditions = refl
 item_by false at x conditions = refl
 
+-- an item
 pub item_checked : (size : ℕ) (rest : Rest) (conditions : List ℕ → Conditions) → item size rest conditions ≡ (item size rest (λ _. []) >>= λ it. refused_first (conditions it.0) it)
 unfolding item
 item_checked size rest conditions =
@@ -29,30 +31,36 @@ made [] f x = refl
 made {Y = Y} (condition ∷ conditions) f x =
     elim condition.0 as (λ (b : Bool). (cond b (Err condition.1) (refused_first conditions x) >>= seen f) ≡ cond b (Err condition.1) (refused_first conditions (f x, x.1))) [ true ↦ refl | false ↦ made conditions f x ]
 
+-- so it may be made before or after the conditions
 made_of : {X Y : Type 0} (it : Reading X) (f : X × Rest → Y) (conditions : Y → Conditions)
     → ((it >>= λ x. refused_first (conditions (f x)) x) >>= seen f) ≡ ((it >>= seen f) >>= λ y. refused_first (conditions y.0) y)
 made_of (Ok x) f conditions = made (conditions (f x)) f x
 made_of (Err refusal) f conditions = refl
 
+-- a number of one byte
 pub byte_checked : (rest : Rest) (conditions : ℕ → Conditions) → byte_at rest conditions ≡ (byte_at rest (λ _. []) >>= λ n. refused_first (conditions n.0) n)
 unfolding byte_at
 byte_checked rest conditions =
     rw (item_checked 1 rest (λ bytes. conditions (slice_index bytes 0))) (made_of (item 1 rest (λ _. [])) (λ it. slice_index it.0 0) conditions)
 
+-- of two
 pub number_checked : (rest : Rest) (conditions : ℕ → Conditions) → number_at rest conditions ≡ (number_at rest (λ _. []) >>= λ n. refused_first (conditions n.0) n)
 unfolding number_at
 number_checked rest conditions =
     rw (item_checked 2 rest (λ bytes. conditions (from_be_bytes w16 bytes))) (made_of (item 2 rest (λ _. [])) (λ it. from_be_bytes w16 it.0) conditions)
 
+-- of four
 pub long_checked : (rest : Rest) (conditions : ℕ → Conditions) → long_at rest conditions ≡ (long_at rest (λ _. []) >>= λ n. refused_first (conditions n.0) n)
 unfolding long_at
 long_checked rest conditions =
     rw (item_checked 4 rest (λ bytes. conditions (from_be_bytes w32 bytes))) (made_of (item 4 rest (λ _. [])) (λ it. from_be_bytes w32 it.0) conditions)
 
+-- of a width
 width_checked : (width : Width) (rest : Rest) (conditions : ℕ → Conditions) → width_at width rest conditions ≡ (width_at width rest (λ _. []) >>= λ n. refused_first (conditions n.0) n)
 width_checked One rest conditions = byte_checked rest conditions
 width_checked Two rest conditions = number_checked rest conditions
 
+-- the number of an element
 pub element_checked : (field : FieldKind) (rest : Rest) (conditions : ℕ → Conditions) → element_at field rest conditions ≡ (element_at field rest (λ _. []) >>= λ n. refused_first (conditions n.0) n)
 element_checked field = width_checked (width_of field)
 
@@ -60,6 +68,7 @@ element_checked field = width_checked (width_of field)
 abbrev name_in : List ℕ × Rest → List ℕ
 name_in it = drop 1 it.0
 
+-- by whether the item is refused
 name_plain_by : (it : Reading (List ℕ)) (at : ℕ)
     → ((it >>= λ x. refused_first ((not (is_name (name_in x)) || false, BadName at) ∷ []) x) >>= seen name_in)
     ≡ (it >>= λ x. refused_first ((not (is_name (name_in x)), BadName at) ∷ []) (name_in x, x.1))
@@ -82,6 +91,7 @@ name_by (Ok x) at is_bad =
     elim (is_name (name_in x)) as (λ b. (refused_first ((not b || is_bad (name_in x), BadName at) ∷ []) x >>= seen name_in)
     ≡ ((refused_first ((not b || false, BadName at) ∷ []) x >>= seen name_in) >>= λ name. refused_first ((is_bad name.0, BadName at) ∷ []) name)) [ true ↦ made ((is_bad (name_in x), BadName at) ∷ []) name_in x | false ↦ refl ]
 
+-- and with a further condition
 pub name_checked : (rest : Rest) (is_bad : List ℕ → Bool) → name_at rest is_bad ≡ (name_at rest (λ _. false) >>= λ name. refused_first ((is_bad name.0, BadName rest.at) ∷ []) name)
 unfolding name_at
 name_checked rest is_bad =

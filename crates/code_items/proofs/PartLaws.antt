@@ -308,18 +308,18 @@ module _ (front : Front) where
             subst (λ (sink : ℕ). IsDecoderRead front sink decoder) (said.0.same_sink demand is) (named_decoder passed (sink ∷ later) earlier demand decoder whole own is)
 
     -- and the other way round
-    FitsAfter-from_each : (passed later : List ℕ) (earlier decoders : List Decoder) → all ≡ passed ++ later → 1 ≤ front.rate → length earlier + length decoders ≤ 65536
+    FitsAfter-from_decoders : (passed later : List ℕ) (earlier decoders : List Decoder) → all ≡ passed ++ later → 1 ≤ front.rate → length earlier + length decoders ≤ 65536
         → EachFits (IsDecoderRead front) passed earlier → EachFits (IsDecoderRead front) later decoders → FitsAfter (IsSharedRead front all) earlier later decoders
-    FitsAfter-from_each passed [] earlier [] whole some_rate few own each = tt
-    FitsAfter-from_each passed [] earlier (decoder ∷ decoders) whole some_rate few own each = absurd each
-    FitsAfter-from_each passed (sink ∷ later) earlier [] whole some_rate few own each = absurd each
-    FitsAfter-from_each passed (sink ∷ later) earlier (decoder ∷ decoders) whole some_rate few own each = (
+    FitsAfter-from_decoders passed [] earlier [] whole some_rate few own each = tt
+    FitsAfter-from_decoders passed [] earlier (decoder ∷ decoders) whole some_rate few own each = absurd each
+    FitsAfter-from_decoders passed (sink ∷ later) earlier [] whole some_rate few own each = absurd each
+    FitsAfter-from_decoders passed (sink ∷ later) earlier (decoder ∷ decoders) whole some_rate few own each = (
       record {
         fits = omega (arith, same_of-within earlier decoder);
         own = λ none. each.0;
         same_sink = λ demand is. one_sink (slice_index all demand) sink decoder some_rate (named_decoder passed (sink ∷ later) earlier demand decoder whole own is) each.0;
       },
-      FitsAfter-from_each (passed ++ sink ∷ []) later (earlier ++ decoder ∷ []) decoders (whole ∙ sym (append_assoc passed (sink ∷ []) later)) some_rate
+      FitsAfter-from_decoders (passed ++ sink ∷ []) later (earlier ++ decoder ∷ []) decoders (whole ∙ sym (append_assoc passed (sink ∷ []) later)) some_rate
           (omega (arith, length-append earlier (decoder ∷ [])))
           (EachFits-more (IsDecoderRead front) passed earlier sink decoder own each.0) each.1,
     )
@@ -360,7 +360,7 @@ AreDecodersRead-from_each version front decoders some_rate few each =
     let sinks = demand_sinks front in
     elim (version == 1) as (λ first. MatchBool first (EachFits (IsDecoderRead front) sinks decoders) (FitsAfter (IsSharedRead front sinks) [] sinks decoders)) [
       | true ↦ each
-      | false ↦ FitsAfter-from_each front sinks [] sinks [] decoders refl some_rate (omega arith) tt each
+      | false ↦ FitsAfter-from_decoders front sinks [] sinks [] decoders refl some_rate (omega arith) tt each
     ]
 
 -- ---- the operands and the decoders of a code
