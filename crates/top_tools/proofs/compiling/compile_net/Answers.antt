@@ -11,3 +11,6 @@ returns-in-Err g c =
     let refused = c.in-Err.refused in
     calls_of (Compiles given c.args.net.now refused.status refused.line) [] (g.met.S.Store.no_calls c.args.store.now)
     (lost_runs given c.args.net.now refused c.in-Err.ensures.refused)
+
+pub returns-in-Ok : goal.returns-in-Ok
+returns-in-Ok g c = c.write.ensures c.args.net.now c.in-Ok.ensures.ready
