@@ -1,0 +1,8 @@
+-- The products compute.
+use Rattle.std.proofs.Common.{refl}
+use Rattle.gf_tables.specs.Product.{shift, repeated_shift, sum_of_shifts, octet_product, product}
+use Rattle.worked_rows.proofs.tests.products.products_of_other_octets.Goals as goal
+
+pub returns : goal.returns
+unfolding product octet_product sum_of_shifts repeated_shift shift
+returns c = record { reduced = refl; inverse = refl }
