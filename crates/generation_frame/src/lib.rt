@@ -12,11 +12,13 @@ ghost use Rattle.generation_frame.specs.Blocks.{block_of, capacity, counted_byte
 
 mod frame;
 mod joiner;
+mod stream_why;
 
 use byteorder::{BigEndian, ByteOrder};
 use frame::number_in;
 pub use frame::{Accepted, FRAME, FrameRefusal, PIECE, PIECES, Packet, frame_of, read_frame};
 pub use joiner::{Joined, Joiner};
+pub use stream_why::StreamWhy;
 
 /// The bytes of a row.
 pub const ROW: usize = 1024;

@@ -22,7 +22,8 @@ use Rattle.node_program.specs.declared.code.Code.{Code}
 use Rattle.node_stations.specs.Decoded.{decoded_of}
 use Rattle.node_stations.specs.Opening.{demand_of}
 use Rattle.relay_runner.proofs.JoinLaws.{range-append}
-use Rattle.source_delivery.specs.Turns.{has_bytes, part_at, parts_from, turn_at, turns_before, turns_from}
+use Rattle.command_steps.specs.Filling.{has_bytes}
+use Rattle.source_delivery.specs.Turns.{part_at, parts_from, turn_at, turns_before, turns_from}
 
 -- the append of a part, and those of the parts of one turn
 abbrev part_call : Written → Event

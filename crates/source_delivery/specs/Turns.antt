@@ -1,6 +1,7 @@
 -- What the sinks' files get of what came to the sinks, generation by generation.
-use Rattle.std.specs.Prelude.{ℕ, Bool, List, [], filter, length, map, nat_lt, slice_index_or}
+use Rattle.std.specs.Prelude.{ℕ, List, [], filter, length, map, slice_index_or}
 use Rattle.std.specs.List.{range_with_len}
+use Rattle.command_steps.specs.Filling.{has_bytes}
 use Rattle.generation_frame.specs.Blocks.{counted_bytes}
 use Rattle.generation_frame.specs.declared.frame.Packet.{Packet}
 use Rattle.lif_outside.specs.FileCalls.{Written}
@@ -15,9 +16,6 @@ received_at code pattern came generation place = counted_bytes (decoded_of code 
 -- and its file
 abbrev pub part_at : List (List ℕ) → Code → ℕ → List Packet → ℕ → ℕ → Written
 part_at paths code pattern came generation place = (slice_index_or paths place [], received_at code pattern came generation place)
-
-abbrev pub has_bytes : Written → Bool
-has_bytes part = nat_lt 0 (length part.1)
 
 -- what the files of so many sinks get, from one on, of those that get some bytes
 abbrev pub parts_from : List (List ℕ) → Code → ℕ → List Packet → ℕ → ℕ → ℕ → List Written

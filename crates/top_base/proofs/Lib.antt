@@ -6,6 +6,7 @@ pub mod InputLaws
 pub mod InspectingLaws
 pub mod LeavingLaws
 pub mod MakingLaws
+pub mod NamedLaws
 pub mod NetworkLaws
 pub mod PathLaws
 pub mod PerformingLaws

@@ -1,7 +1,7 @@
 -- The numbers of the statuses.
 use Rattle.std.specs.Prelude.{ℕ}
 use Rattle.top_base.specs.declared.status.Status.{Status}
-use Rattle.top_base.specs.declared.status.Status.TheVariants.{Done, Usage, NetRefused, ZeroRate, TooManyDemands, RateOver, CodeRefused, CheckFailed, UnknownPattern, ReadFault, WriteFault, TooLong, OutOfMemory, SamePath, LinkFault, RateUnmet}
+use Rattle.top_base.specs.declared.status.Status.TheVariants.{Done, Usage, NetRefused, ZeroRate, TooManyDemands, RateOver, CodeRefused, CheckFailed, UnknownPattern, ReadFault, WriteFault, TooLong, OutOfMemory, SamePath, LinkFault, RateUnmet, StreamRefused, UnknownNode, BadBlocks}
 
 abbrev pub code_of : Status → ℕ
 code_of Done = 0
@@ -20,3 +20,6 @@ code_of OutOfMemory = 13
 code_of SamePath = 14
 code_of LinkFault = 15
 code_of (RateUnmet demand side least) = 16
+code_of (StreamRefused link why) = 17
+code_of UnknownNode = 18
+code_of (BadBlocks generation count) = 19

@@ -1,8 +1,9 @@
 -- The commands that words were read as.
-use Rattle.top_base.specs.Words.{Compile, Demo, Migrate, Send, Command as Form, check, compile, cuts, demo, migrate, order, send}
+use Rattle.top_base.specs.Words.{AtNode, Compile, Demo, Migrate, Send, Command as Form, check, compile, cuts, demo, migrate, order, send}
 use Rattle.top_base.specs.declared.words.CompileWords.{CompileWords}
 use Rattle.top_base.specs.declared.demo_words.DemoWords.{DemoWords}
 use Rattle.top_base.specs.declared.words.MigrateWords.{MigrateWords}
+use Rattle.top_base.specs.declared.words.NodeWords.{NodeWords}
 use Rattle.top_base.specs.declared.words.SendWords.{SendWords}
 use Rattle.top_base.specs.declared.words.Command.{Command}
 use Rattle.top_base.specs.declared.words.Command.TheVariants as read
@@ -18,6 +19,10 @@ migrate_given_in words = record { old = words.old.now; new = words.new.now }
 -- what a command `send` is given, by its words
 abbrev pub given_in : SendWords → Send
 given_in words = record { code = words.code.now; pattern = words.pattern.now; seed = words.seed; source = words.source.now; prefix = words.prefix.now }
+
+-- what a command `relay` or `sink` is given, by its words
+abbrev pub node_given_in : NodeWords → AtNode
+node_given_in words = record { code = words.code.now; pattern = words.pattern.now; node = words.node.now; input = words.input.now; output = words.output.now }
 
 -- what a command `demo` is given, by its words
 abbrev pub demo_given_in : DemoWords → Demo

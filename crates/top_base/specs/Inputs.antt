@@ -6,13 +6,14 @@ use Rattle.lif_outside.specs.FileCalls.{ReadsWhole, ReadsToFault, ReadsPastLimit
 use Rattle.top_base.specs.Lines.{out_of_memory_line, read_fault_line, too_long_line}
 use Rattle.top_base.specs.declared.outcome.Outcome.{Outcome}
 use Rattle.top_base.specs.declared.status.Status.{Status}
-use Rattle.top_base.specs.declared.status.Status.TheVariants.{NetRefused, CodeRefused, CheckFailed, ReadFault, TooLong, OutOfMemory}
+use Rattle.top_base.specs.declared.status.Status.TheVariants.{NetRefused, CodeRefused, CheckFailed, StreamRefused, ReadFault, TooLong, OutOfMemory}
 
 -- whether a status refuses the bytes of an input
 abbrev pub is_refusal : Status → Bool
 is_refusal (NetRefused why) = true
 is_refusal (CodeRefused why) = true
 is_refusal (CheckFailed demand row column found) = true
+is_refusal (StreamRefused link why) = true
 is_refusal status = false
 
 -- whether a status says that an input couldn't be had

@@ -10,6 +10,7 @@ pub mod Inspecting
 pub mod LineText
 pub mod Lines
 pub mod Making
+pub mod Named
 pub mod Networks
 pub mod Outcome
 pub mod Paths

@@ -6,6 +6,8 @@ use Rattle.code_file.specs.RefusalNames as code
 use Rattle.gf_tables.specs.Product.{mark_of}
 use Rattle.gf_tables.specs.declared.kind.FieldKind.{FieldKind}
 use Rattle.failure_patterns.specs.Demands.{demand_of}
+use Rattle.generation_frame.specs.declared.stream_why.StreamWhy.{StreamWhy}
+use Rattle.generation_frame.specs.declared.stream_why.StreamWhy.TheVariants as stream
 use Rattle.name_texts.specs.Names.{demand_text, link_name, links_text, on_lines, side_text}
 use Rattle.net_model.specs.Demands.{demand_count}
 use Rattle.net_model.specs.declared.net.Net.{Net}
@@ -99,6 +101,26 @@ too_many_demands_line count = codes "too many demands: " ++ decimal count ++ cod
 abbrev pub unknown_pattern_line : List ℕ → List ℕ
 unknown_pattern_line word = codes "unknown pattern: " ++ word ++ codes "\n"
 
+-- no node has the name that is a word, or no sink
+abbrev pub unknown_node_line : List ℕ → List ℕ
+unknown_node_line word = codes "unknown node: " ++ word ++ codes "\n"
+
+-- why a file isn't a stream of a link: a name, and its numbers
+abbrev pub stream_why_text : StreamWhy → List ℕ
+stream_why_text (stream.BadLength bytes) = codes "BadLength " ++ decimal bytes
+stream_why_text (stream.BadFrame at) = codes "BadFrame " ++ decimal at
+stream_why_text (stream.OtherLink at) = codes "OtherLink " ++ decimal at
+stream_why_text (stream.Conflict at) = codes "Conflict " ++ decimal at
+stream_why_text (stream.Missing generation piece) = codes "Missing " ++ decimal generation ++ codes " " ++ decimal piece
+stream_why_text stream.OutOfMemory = codes "OutOfMemory"
+
+abbrev pub stream_refused_line : Net → ℕ → StreamWhy → List ℕ
+stream_refused_line net link why = codes "stream refused: " ++ link_name net link ++ codes " " ++ stream_why_text why ++ codes "\n"
+
+-- a decoded block whose count is wrong
+abbrev pub bad_blocks_line : ℕ → ℕ → List ℕ
+bad_blocks_line generation count = codes "bad blocks: generation " ++ decimal generation ++ codes " count " ++ decimal count ++ codes "\n"
+
 abbrev pub same_path_line : List ℕ → List ℕ
 same_path_line path = codes "same path: " ++ path ++ codes "\n"
 
@@ -125,6 +147,14 @@ migrated_line code = codes "migrated " ++ code_text code
 abbrev pub sent_line : ℕ → ℕ → ℕ → List ℕ
 sent_line bytes generations sinks =
     codes "sent " ++ decimal bytes ++ codes " bytes in " ++ decimal generations ++ codes " generations to " ++ decimal sinks ++ codes " sinks\n"
+
+-- the lines of a node that wrote so many frames, and of a sink that got so many bytes
+abbrev pub relayed_line : ℕ → ℕ → ℕ → List ℕ
+relayed_line frames links generations =
+    codes "relayed " ++ decimal frames ++ codes " frames on " ++ decimal links ++ codes " links in " ++ decimal generations ++ codes " generations\n"
+
+abbrev pub received_line : ℕ → ℕ → List ℕ
+received_line bytes generations = codes "received " ++ decimal bytes ++ codes " bytes in " ++ decimal generations ++ codes " generations\n"
 
 -- the lines of a combination network through whose code a source went: in so many generations, by so many frames, and this is the
 -- sum of the bytes that came to the sinks

@@ -1,7 +1,11 @@
 -- The paths of outputs among those of a command.
-use Rattle.std.specs.Prelude.{ℕ, Bool, ◌||◌, nat_lt, List, Option, find, count_by}
+use Rattle.std.specs.Prelude.{ℕ, Bool, ◌||◌, nat_lt, List, ◌∷◌, ◌++◌, Option, find, count_by}
 use Rattle.std.specs.List.{list_any}
 use Rattle.std.specs.Str.{bytes_eq}
+
+-- the path of a file that is named: what the paths begin with, a dot and the name
+abbrev pub dotted_path : List ℕ → List ℕ → List ℕ
+dotted_path prefix name = prefix ++ 46 ∷ name
 
 -- an output's path is that of an input or of another output
 abbrev pub is_shared : List (List ℕ) → List (List ℕ) → List ℕ → Bool

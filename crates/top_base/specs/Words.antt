@@ -16,6 +16,14 @@ pub record Migrate : Type 0 where
   pub old : List ℕ
   pub new : List ℕ
 
+-- what a command `relay` or `sink` is given: a code, a pattern, a node, and what is read and written
+pub record AtNode : Type 0 where
+  pub code : List ℕ
+  pub pattern : List ℕ
+  pub node : List ℕ
+  pub input : List ℕ
+  pub output : List ℕ
+
 -- what a command `send` is given
 pub record Send : Type 0 where
   pub code : List ℕ

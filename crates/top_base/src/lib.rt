@@ -11,6 +11,7 @@ mod code_files;
 mod demo_words;
 mod lines;
 mod long_texts;
+mod named;
 mod networks;
 mod outcome;
 mod reading;
@@ -23,8 +24,11 @@ pub use code_files::read_file_of_code;
 pub use demo_words::DemoWords;
 pub use lines::Line;
 pub use long_texts::{order_text, rate_unmet_line, zero_rate_line};
+pub use named::{dotted_path, node_named, pattern_named, sink_named};
 pub use networks::{Ordered, read_ordered};
 pub use outcome::{Outcome, conclude};
 pub use reading::{FileRefusal, read_next, read_whole};
 pub use status::{NetWhy, Status};
-pub use words::{Command, CompileWords, MigrateWords, SOURCE_LIMIT, SendWords, command_of};
+pub use words::{
+    Command, CompileWords, MigrateWords, NodeWords, SOURCE_LIMIT, SendWords, command_of,
+};

@@ -6,15 +6,16 @@ ghost use Rattle.name_texts.specs.Names.{demand_text};
 ghost use Rattle.net_model.specs.Demands.{demand_count};
 ghost use Rattle.net_model.specs.Limits.{longest_name};
 ghost use Rattle.top_base.specs.Given.{demo_given_in};
-ghost use Rattle.top_base.specs.Lines.{accepted_line, check_failed_line, code_refused_line, code_text, compiled_line, demo_lines, detail_text, link_fault_line, migrated_line, net_refused_line, out_of_memory_line, rate_over_line, read_fault_line, same_path_line, sent_line, too_long_line, too_many_demands_line, unknown_pattern_line, usage_line, write_fault_line};
+ghost use Rattle.top_base.specs.Lines.{accepted_line, check_failed_line, code_refused_line, code_text, compiled_line, demo_lines, detail_text, link_fault_line, migrated_line, net_refused_line, out_of_memory_line, rate_over_line, received_line, relayed_line, stream_refused_line, stream_why_text, bad_blocks_line, unknown_node_line, read_fault_line, same_path_line, sent_line, too_long_line, too_many_demands_line, unknown_pattern_line, usage_line, write_fault_line};
 
 use crate::demo_words::DemoWords;
 use crate::text::{ROOM, ShortText, Text};
 use arrayvec::ArrayVec;
 use code_file::CodeRefusal;
 use failure_patterns::{demand_at, demands};
+use generation_frame::StreamWhy;
 use itoa::Buffer;
-use name_texts::{pattern_name, sink_name};
+use name_texts::{link_name, pattern_name, sink_name};
 use net_model::{Demand, Net};
 use net_reader::ReadRefusal;
 use node_program::Code;
@@ -108,6 +109,26 @@ fn push_detail(text: &mut ShortText, why: ReadRefusal, name: &[u8])
             push_number(text, count);
         }
         _ => {}
+    }
+}
+
+// Adds why a file isn't a stream of a link.
+fn push_stream_why(text: &mut ShortText, why: StreamWhy)
+    requires { length text.old.items + 64 ≤ ROOM }
+    ensures text { text.new.items ≡ text.old.items ++ stream_why_text why }
+    ensures grown { length text.new.items ≤ length text.old.items + 56 }
+{
+    match why {
+        StreamWhy::BadLength { bytes } => push_field(text, b"BadLength ", bytes),
+        StreamWhy::BadFrame { at } => push_field(text, b"BadFrame ", at),
+        StreamWhy::OtherLink { at } => push_field(text, b"OtherLink ", at),
+        StreamWhy::Conflict { at } => push_field(text, b"Conflict ", at),
+        StreamWhy::Missing { generation, piece } => {
+            push_field(text, b"Missing ", u64::from(generation));
+            push(text, b" ");
+            push_number(text, u64::from(piece));
+        }
+        StreamWhy::OutOfMemory => push(text, b"OutOfMemory"),
     }
 }
 
@@ -290,6 +311,64 @@ impl<'a> Line<'a> {
         ensures { result ≡ unknown_pattern_line word.now }
     {
         Line::quoting(b"unknown pattern: ", word)
+    }
+
+    /// No node has this name, or no sink.
+    pub fn unknown_node(word: &'a str) -> Line<'a>
+        ensures { result ≡ unknown_node_line word.now }
+    {
+        Line::quoting(b"unknown node: ", word)
+    }
+
+    /// The file of a link is refused as a stream of it.
+    pub fn stream_refused(net: &Net, link: u32, why: StreamWhy) -> Line<'a>
+        requires { link < length net.now.links }
+        ensures { result ≡ stream_refused_line net.now link why }
+    {
+        let mut text = begin(b"stream refused: ");
+        push(&mut text, link_name(net, link));
+        push(&mut text, b" ");
+        push_stream_why(&mut text, why);
+        push(&mut text, b"\n");
+        Line::of(text)
+    }
+
+    /// The count of a block that a sink decodes is wrong.
+    pub fn bad_blocks(generation: u32, count: u64) -> Line<'a>
+        ensures { result ≡ bad_blocks_line generation count }
+    {
+        let mut text = begin(b"bad blocks: generation ");
+        push_number(&mut text, u64::from(generation));
+        push(&mut text, b" count ");
+        push_number(&mut text, count);
+        push(&mut text, b"\n");
+        Line::of(text)
+    }
+
+    /// A node wrote frames on its links.
+    pub fn relayed(frames: u64, links: u64, generations: u64) -> Line<'a>
+        ensures { result ≡ relayed_line frames links generations }
+    {
+        let mut text = begin(b"relayed ");
+        push_number(&mut text, frames);
+        push(&mut text, b" frames on ");
+        push_number(&mut text, links);
+        push(&mut text, b" links in ");
+        push_number(&mut text, generations);
+        push(&mut text, b" generations\n");
+        Line::of(text)
+    }
+
+    /// A sink got bytes.
+    pub fn received(bytes: u64, generations: u64) -> Line<'a>
+        ensures { result ≡ received_line bytes generations }
+    {
+        let mut text = begin(b"received ");
+        push_number(&mut text, bytes);
+        push(&mut text, b" bytes in ");
+        push_number(&mut text, generations);
+        push(&mut text, b" generations\n");
+        Line::of(text)
     }
 
     /// The path of an output is that of an input or of another output.

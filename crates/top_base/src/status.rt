@@ -1,5 +1,6 @@
 //! How the program ends.
 use code_file::CodeRefusal;
+use generation_frame::StreamWhy;
 use net_model::{LinkList, Side};
 use net_reader::ReadRefusal;
 
@@ -76,6 +77,22 @@ pub enum Status {
         /// The size of that cut.
         least: u32,
     },
+    /// The file of a link isn't a stream of it, or not a whole one.
+    StreamRefused {
+        /// The first such link.
+        link: u32,
+        /// Why its file is refused.
+        why: StreamWhy,
+    },
+    /// No node of the code has the name, or no sink.
+    UnknownNode,
+    /// A block that a sink decodes counts more bytes than it has room for, or isn't full before the last, or is full and the last.
+    BadBlocks {
+        /// The first such block's generation.
+        generation: u32,
+        /// How many bytes it counts.
+        count: u64,
+    },
 }
 
 impl Status {
@@ -103,6 +120,9 @@ impl Status {
             Status::SamePath => 14,
             Status::LinkFault => 15,
             Status::RateUnmet { .. } => 16,
+            Status::StreamRefused { .. } => 17,
+            Status::UnknownNode => 18,
+            Status::BadBlocks { .. } => 19,
         }
     }
 }

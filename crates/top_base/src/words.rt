@@ -31,6 +31,21 @@ pub struct MigrateWords<'a> {
     pub new: &'a str,
 }
 
+/// What a command `relay` or `sink` is given.
+#[derive(Clone, Copy)]
+pub struct NodeWords<'a> {
+    /// The path of the code.
+    pub code: &'a str,
+    /// The name of the pattern that holds.
+    pub pattern: &'a str,
+    /// The name of the node, or of the sink.
+    pub node: &'a str,
+    /// What the paths of the streams that are read begin with; at the source the path of the source's file.
+    pub input: &'a str,
+    /// What the paths of the streams that are written begin with; of a sink the path of its file.
+    pub output: &'a str,
+}
+
 /// What a command `send` is given.
 #[derive(Clone, Copy)]
 pub struct SendWords<'a> {

@@ -7,6 +7,7 @@ use Rattle.std.specs.Prelude.{◌<◌, position, unwrap_or}
 use Rattle.std.specs.Str.{bytes_eq}
 use Rattle.node_program.specs.declared.code.Code.{Code}
 use Rattle.top_base.specs.Given.{given_in}
+use Rattle.top_base.specs.Named.{pattern_named}
 use Rattle.top_base.specs.Words.{Send}
 use Rattle.top_runs.specs.Paths.{output_paths}
 use Rattle.top_runs.specs.Send.Given.{outputs_of, pattern_in, pattern_of}
@@ -14,11 +15,11 @@ use Rattle.top_base.specs.declared.words.SendWords.{SendWords}
 
 module _ (words : SendWords) (code at_hand : Code) where
   -- the pattern of a name, by that of the code at hand
-  pub named_in : (name : List ℕ) (found : Option ℕ) → at_hand ≡ code → name ≡ words.pattern.now → found ≡ position (λ pattern. bytes_eq pattern.name name) at_hand.net.patterns
+  pub named_in : (name : List ℕ) (found : Option ℕ) → at_hand ≡ code → name ≡ words.pattern.now → found ≡ pattern_named at_hand.net name
       → pattern_of (given_in words) code ≡ found
   named_in name found is same finds =
-      sym (finds ∙ ap (λ name. position (λ pattern. bytes_eq pattern.name name) at_hand.net.patterns) same
-      ∙ ap (λ code. position (λ pattern. bytes_eq pattern.name words.pattern.now) code.net.patterns) is)
+      sym (finds ∙ ap (pattern_named at_hand.net) same
+      ∙ ap (λ code. pattern_named code.net words.pattern.now) is)
 
   -- the paths of the sinks' files, by the code at hand
   pub outputs_in : (paths : List (List ℕ)) → at_hand ≡ code → paths ≡ output_paths words.prefix.now at_hand.net → paths ≡ outputs_of (given_in words) code

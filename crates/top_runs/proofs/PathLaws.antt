@@ -16,8 +16,8 @@ use Rattle.net_model.proofs.ListLaws.{IsDistinct-from_are_distinct}
 use Rattle.lif_outside.specs.Files.{AreDistinct}
 use Rattle.net_model.specs.declared.net.Net.{Net}
 use Rattle.name_texts.specs.Names.{node_name}
-use Rattle.top_base.specs.Paths.{is_shared, shared_path}
-use Rattle.top_runs.specs.Paths.{output_path, output_paths}
+use Rattle.top_base.specs.Paths.{dotted_path, is_shared, shared_path}
+use Rattle.top_runs.specs.Paths.{output_paths}
 use Rattle.name_texts.proofs.NameLaws.{sink_in_range}
 
 -- paths of which no two are equal
@@ -34,7 +34,7 @@ one_place xs i j d apart first second same =
     elim (cases_order i j) [ inl is ↦ is | inr (inl before) ↦ absurd (apart i j d before second same) | inr (inr after) ↦ absurd (apart j i d after first (sym same)) ]
 
 -- paths of nodes that are equal are those of one node
-one_node : (prefix : List ℕ) (net : Net) (a b : ℕ) → a < length net.nodes → b < length net.nodes → output_path prefix (node_name net a) ≡ output_path prefix (node_name net b) → a ≡ b
+one_node : (prefix : List ℕ) (net : Net) (a b : ℕ) → a < length net.nodes → b < length net.nodes → dotted_path prefix (node_name net a) ≡ dotted_path prefix (node_name net b) → a ≡ b
 one_node prefix net a b first second same =
     let tails : 46 ∷ node_name net a ≡ 46 ∷ node_name net b = append_cancel_left prefix (46 ∷ node_name net a) (46 ∷ node_name net b) same in
     let names : node_name net a ≡ node_name net b = cc in
@@ -43,7 +43,7 @@ one_node prefix net a b first second same =
 
 pub distinct_outputs : (prefix : List ℕ) (net : Net) → AreDistinct (output_paths prefix net)
 distinct_outputs prefix net =
-    let path = λ (sink : ℕ). output_path prefix (node_name net sink) in
+    let path = λ (sink : ℕ). dotted_path prefix (node_name net sink) in
     let apart : AllPairs (λ a b. a ≢ b) net.sinks = AllPairs-from_IsDistinct Decides-eqb net.sinks (IsDistinct-from_are_distinct nat_eq net.sinks net.network.distinct_sinks) in
     distinct_in_pairs (output_paths prefix net) (λ i j d before within same.
     let short : j < length net.sinks = omega (arith, length-map net.sinks path) in

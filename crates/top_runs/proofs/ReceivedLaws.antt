@@ -17,7 +17,8 @@ use Rattle.lif_outside.specs.Files.{AreDistinct}
 use Rattle.item_list.proofs.Maps.{same_made}
 use Rattle.node_program.specs.declared.code.Code.{Code}
 use Rattle.top_runs.specs.Send.Changes.{received_by}
-use Rattle.source_delivery.specs.Turns.{has_bytes, parts_from, received_at, turn_at, turns_before}
+use Rattle.command_steps.specs.Filling.{has_bytes}
+use Rattle.source_delivery.specs.Turns.{parts_from, received_at, turn_at, turns_before}
 
 -- of distinct paths, each stands at one place
 

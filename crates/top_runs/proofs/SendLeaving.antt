@@ -45,7 +45,7 @@ use Rattle.source_delivery.proofs.CarriedLaws.{carried-decoded, carried-some, le
 use Rattle.top_runs.proofs.ReceivedLaws.{bytes-received, pieces-received}
 use Rattle.source_delivery.proofs.TurnLaws.{turns-are}
 use Rattle.source_delivery.proofs.StreamingLaws.{all-brought}
-use Rattle.top_runs.specs.Paths.{output_path}
+use Rattle.top_base.specs.Paths.{dotted_path}
 use Rattle.source_delivery.specs.Carried.{IsCarried, blocks_from, packets_given}
 use Rattle.top_runs.specs.Send.Changes.{ChangesTo, HasCode, HoldsReceived, LeavesPart, LeavesSource, LeavesUnwritten, received_by}
 use Rattle.top_runs.specs.Send.Given.{IsClear, outputs_of, pattern_in}
@@ -189,7 +189,7 @@ module _ (send : Send) (code : Code) where
           ∙ ap counted_bytes
           (carried-decoded faithful code pattern (bytes_read reads_of) (blocks_brought reads_of code.rate)
           (R (bytes_read reads_of) (blocks_brought reads_of code.rate)) is.carried on_links_of is.on_links.holds_later (known is.clear) by_faithful generation place
-          (omega (arith, below)) (omega (arith, within, length-map code.net.sinks (λ sink. output_path send.prefix (node_name code.net sink)))))
+          (omega (arith, below)) (omega (arith, within, length-map code.net.sinks (λ sink. dotted_path send.prefix (node_name code.net sink)))))
           ∙ counted-block code.rate (piece_of (bytes_read reads_of) code.rate generation) short)
 
       bytes_delivered : faithful ≡ true → (path : List ℕ) → Contains (outputs_of send code) path → bytes_appended path due_of ≡ concat (pieces_before (bytes_read reads_of) code.rate count_of)

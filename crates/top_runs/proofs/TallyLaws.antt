@@ -16,7 +16,8 @@ use Rattle.lif_outside.specs.FileCalls.{AreAppendsTo, StopsWithin, Written, appe
 use Rattle.node_program.specs.declared.code.Code.{Code}
 use Rattle.top_runs.specs.Demo.Runs.{received_before}
 use Rattle.top_runs.specs.Demo.Tally.{Tallies, sum_of}
-use Rattle.source_delivery.specs.Turns.{has_bytes, part_at, received_at, turn_at, turns_before}
+use Rattle.command_steps.specs.Filling.{has_bytes}
+use Rattle.source_delivery.specs.Turns.{part_at, received_at, turn_at, turns_before}
 use Rattle.top_runs.specs.declared.tally.Tally.{Tally}
 
 -- no append fails

@@ -1,27 +1,14 @@
 //! The paths of the sinks' files.
-ghost use Rattle.std.specs.Prelude.{◌≡◌, ◌++◌, ◌∷◌, [], IfOk, map, string_bytes};
+ghost use Rattle.std.specs.Prelude.{◌≡◌, ◌∷◌, [], IfOk, map, string_bytes};
 ghost use Rattle.std.specs.Option.{option_map};
 ghost use Rattle.lif_outside.specs.Files.{AreDistinct};
-ghost use Rattle.net_model.specs.Name.{IsName};
 ghost use Rattle.top_base.specs.Paths.{shared_path};
-ghost use Rattle.top_runs.specs.Paths.{output_path, output_paths};
+ghost use Rattle.top_runs.specs.Paths.{output_paths};
 
 use name_texts::sink_name;
 use net_model::Net;
 use std::alloc::{AllocError, Global};
-
-/// The path of a sink's file: the prefix, a dot and the sink's name.
-fn output_path(alloc: Global, prefix: &str, sink: &[u8]) -> Result<String, AllocError>
-    requires { IsName sink.now }
-    ensures { IfOk result (λ path. string_bytes path ≡ output_path prefix.now sink.now) }
-{
-    let mut path = String::from_str(alloc, prefix)?;
-    path.push('.')?;
-    for byte in sink {
-        path.push(char::from(*byte))?;
-    }
-    Ok(path)
-}
+use top_base::dotted_path;
 
 /// The paths of the files of all sinks, in their order.
 pub fn output_paths(alloc: Global, prefix: &str, net: &Net) -> Result<Vec<String>, AllocError>
@@ -31,7 +18,7 @@ pub fn output_paths(alloc: Global, prefix: &str, net: &Net) -> Result<Vec<String
 {
     let mut paths = Vec::with_capacity(alloc, net.sinks.len())?;
     for place in 0..net.sinks.len() {
-        paths.push(output_path(alloc, prefix, sink_name(net, place))?)?;
+        paths.push(dotted_path(alloc, prefix, sink_name(net, place))?)?;
     }
     Ok(paths)
 }

@@ -1,9 +1,8 @@
 //! What `send` has before it makes anything.
-ghost use Rattle.std.specs.Prelude.{◌≡◌, ◌∷◌, [], IfOk, IfErr, OnOk, position};
+ghost use Rattle.std.specs.Prelude.{◌≡◌, ◌∷◌, [], IfOk, IfErr, OnOk};
 ghost use Rattle.gf_tables.specs.Kind.{IsOfKind};
 ghost use Rattle.lif_outside.specs.Calls.{MakesMoves};
 ghost use Rattle.lif_outside.specs.Moves.{opened};
-ghost use Rattle.std.specs.Str.{bytes_eq};
 ghost use Rattle.coded_traffic.specs.Traffic.{room_for};
 ghost use Rattle.top_base.specs.Given.{given_in};
 ghost use Rattle.top_runs.specs.Send.Ready.{IsReady};
@@ -13,22 +12,9 @@ use crate::paths::{output_paths, shared_path};
 use code_checker::Checked;
 use gf_tables::Field;
 use lif_outside::Links;
-use net_model::Net;
 use source_delivery::SourceDelivery;
 use std::alloc::Global;
-use top_base::{Line, Outcome, SendWords, Status};
-
-// The number of the pattern of a name.
-fn pattern_named(net: &Net, name: &[u8]) -> Option<u32>
-    ensures { result ≡ position (λ pattern. bytes_eq pattern.name name.now) net.now.patterns }
-{
-    for pattern in 0..net.patterns.len() {
-        if net.patterns.at(pattern).name.bytes() == name {
-            return Some(pattern as u32);
-        }
-    }
-    None
-}
+use top_base::{Line, Outcome, SendWords, Status, pattern_named};
 
 /// Finds the pattern, sees that no path is shared, takes all memory and opens the links. `F` is the code's field.
 pub fn prepare<'a, 'c, F: Field, K: Links>(

@@ -1,16 +1,16 @@
 -- What `send` is given, beside an accepted code: a pattern, a source, and paths to write to.
-use Rattle.std.specs.Prelude.{◌≡◌, ℕ, List, [], ◌∷◌, length, Option, None, position, IsSome, unwrap_or}
-use Rattle.std.specs.Str.{bytes_eq}
+use Rattle.std.specs.Prelude.{◌≡◌, ℕ, List, [], ◌∷◌, length, Option, None, IsSome, unwrap_or}
 use Rattle.generation_frame.specs.Blocks.{block_count}
 use Rattle.node_program.specs.declared.code.Code.{Code}
 use Rattle.top_base.specs.Lines.{sent_line}
+use Rattle.top_base.specs.Named.{pattern_named}
 use Rattle.top_base.specs.Paths.{shared_path}
 use Rattle.top_runs.specs.Paths.{output_paths}
 use Rattle.top_base.specs.Words.{Send}
 
 -- the number of the pattern that is named
 abbrev pub pattern_of : Send → Code → Option ℕ
-pattern_of send code = position (λ pattern. bytes_eq pattern.name send.pattern) code.net.patterns
+pattern_of send code = pattern_named code.net send.pattern
 
 -- that number, where the pattern is known
 abbrev pub pattern_in : Send → Code → ℕ

@@ -2,7 +2,8 @@ use Rattle.std.proofs.Common.{◌≡◌, ◌≤◌, length, map, string_bytes, s
 use Rattle.std.proofs.lemmas.List.{take_all}
 use Rattle.lif_outside.specs.Files.{AreDistinct}
 use Rattle.name_texts.specs.Names.{node_name}
-use Rattle.top_runs.specs.Paths.{output_path, output_paths}
+use Rattle.top_runs.specs.Paths.{output_paths}
+use Rattle.top_base.specs.Paths.{dotted_path}
 use Rattle.top_runs.proofs.PathLaws.{distinct_outputs}
 use Rattle.top_runs.proofs.paths.output_paths.Goals as goal
 
@@ -12,5 +13,5 @@ returns-clause-distinct c =
     let net = c.args.net.now in
     let ended : length net.sinks ≤ c.loop-place.place = omega arith in
     let all : map string_bytes c.loop-place.paths.items ≡ output_paths prefix net =
-    c.loop-place.invariant ∙ ap (map (λ sink. output_path prefix (node_name net sink))) (take_all c.loop-place.place net.sinks ended) in
+    c.loop-place.invariant ∙ ap (map (λ sink. dotted_path prefix (node_name net sink))) (take_all c.loop-place.place net.sinks ended) in
     subst AreDistinct (sym all) (distinct_outputs prefix net)

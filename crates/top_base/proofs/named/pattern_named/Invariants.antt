@@ -1,7 +1,7 @@
 use Rattle.std.proofs.Common.{◌≡◌, ◌<◌, ℕ, false, get_or}
 use Rattle.std.specs.Str.{bytes_eq}
 use Rattle.net_model.specs.declared.Pattern.{Pattern}
-use Rattle.top_runs.proofs.preparing.pattern_named.Given as goal
+use Rattle.top_base.proofs.named.pattern_named.Given as goal
 
 -- no pattern before has the name
 abbrev pub invariant-loop-pattern : goal.invariant-loop-pattern

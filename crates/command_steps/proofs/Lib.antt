@@ -1,0 +1,5 @@
+pub mod StepLaws
+pub mod ListedLaws
+pub mod HeldLaws
+pub mod FillingLaws
+pub mod FeedingLaws

@@ -1,0 +1,4 @@
+pub mod Steps
+pub mod Listed
+pub mod Filling
+pub mod Feeding

@@ -1,0 +1,10 @@
+pub mod StreamLaws
+pub mod HeldLaws
+pub mod ReadingLaws
+pub mod FrameLaws
+pub mod CameLaws
+pub mod GatherLaws
+pub mod PassLaws
+pub mod GiveLaws
+pub mod TakenLaws
+pub mod TrafficLaws

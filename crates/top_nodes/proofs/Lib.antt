@@ -1,0 +1,12 @@
+pub mod StreamsLaws
+pub mod BlocksLaws
+pub mod ChainedLaws
+pub mod SinkChained
+pub mod RelayChained
+pub mod DeclinedLaws
+pub mod WantedLaws
+pub mod AppendLaws
+pub mod SinkLaws
+pub mod RelayLaws
+pub mod NamingLaws
+pub mod ReadingLaws

@@ -1,0 +1,5 @@
+pub mod Declined
+pub mod Files
+pub mod Sink
+pub mod Relay
+pub mod Chained
