@@ -10,3 +10,4 @@ pub mod SinkLaws
 pub mod RelayLaws
 pub mod NamingLaws
 pub mod ReadingLaws
+pub mod SinkingLaws

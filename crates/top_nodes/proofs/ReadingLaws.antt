@@ -32,17 +32,17 @@ generations_of_more (one ∷ streams) stream = omega (arith, generations_of_more
 -- ---- which place is lacking
 
 -- packets that are whole lack none, and else the first that is missing
-first_lack_none : (count : ℕ) (packets : List Packet) → IsWhole count packets → first_lack count packets ≡ None
+pub first_lack_none : (count : ℕ) (packets : List Packet) → IsWhole count packets → first_lack count packets ≡ None
 first_lack_none count packets whole =
     find_nothing (λ place. not (has_place packets place)) 0 (count * pieces) (λ place from below. ap not (whole place (omega (arith, below))))
 
-first_lack_some : (count : ℕ) (packets : List Packet) (place : Place) → IsFirstMissing count packets place → first_lack count packets ≡ Some (place.generation * pieces + place.piece)
+pub first_lack_some : (count : ℕ) (packets : List Packet) (place : Place) → IsFirstMissing count packets place → first_lack count packets ≡ Some (place.generation * pieces + place.piece)
 first_lack_some count packets place missing =
     find_first (λ one. not (has_place packets one)) 0 (count * pieces) (place.generation * pieces + place.piece) (omega arith) (omega (arith, missing.below, missing.piece))
     (ap not missing.lacks) (λ one from before. ap not (missing.earlier one before))
 
 -- where one and those behind lack none, neither does
-lack_parts : (net : Net) (link : ℕ) (lack : Option ℕ) (later : Option Outcome) → lack_refused net link lack later ≡ None → (lack ≡ None) × (later ≡ None)
+pub lack_parts : (net : Net) (link : ℕ) (lack : Option ℕ) (later : Option Outcome) → lack_refused net link lack later ≡ None → (lack ≡ None) × (later ≡ None)
 lack_parts net link (Some place) later none = cc
 lack_parts net link None later none = (refl, none)
 

@@ -1,9 +1,12 @@
-//! The words of the commands `relay` and `sink`, which run one node of a code over files: a stream of frames for each link; with
-//! the reading of streams.
+//! The commands `relay` and `sink`, which run one node of a code over files, a stream of frames for each link: their words with all
+//! laws, and the code of `sink`.
 //!
-//! Read `specs/Relay.antt` and `specs/Sink.antt`, each the steps of its command, and `specs/Chained.antt`: what they make of
+//! Read `specs/Sink.antt` and `specs/Relay.antt`, each the steps of its command, and `specs/Chained.antt`: what they make of
 //! streams for numbered blocks, and for the blocks of a file.
 #![tactic(auto)]
 
 mod naming;
 mod reading;
+mod sinking;
+
+pub use sinking::sink;

@@ -4,6 +4,7 @@ ghost use Rattle.command_steps.specs.Listed.{IsTaken, LosesOne, ReadsAll, Refuse
 ghost use Rattle.lif_outside.specs.Calls.{MakesCalls};
 ghost use Rattle.lif_outside.specs.FileCalls.{ReadsWhole};
 ghost use Rattle.link_streams.specs.Reading.{packets_read};
+ghost use Rattle.link_streams.specs.Streams.{IsStream};
 ghost use Rattle.top_base.specs.Inputs.{IsNoMemory, Reads};
 ghost use Rattle.top_nodes.specs.Files.{first_lacking, generations_of, stream_limit, stream_path, stream_refused, stream_wanted, streams_of, streams_wanted};
 
@@ -35,6 +36,7 @@ fn stream_in<'a>(alloc: Global, net: &Net, link: u32, bytes: &[u8]) -> Result<St
     requires { link < length net.now.links }
     ensures link { IfOk result (λ stream. stream.link ≡ link) }
     ensures packets { IfOk result (λ stream. packets_read link bytes.now ≡ Ok stream.packets) }
+    ensures stream { IfOk result IsStream }
     ensures refused { IfErr result (λ outcome. IsNoMemory outcome ⊎ ((why : StreamWhy)
         × (packets_read link bytes.now ≡ Err why) × (outcome ≡ stream_refused net.now link why))) }
 {
@@ -60,6 +62,7 @@ fn read_stream<'a, S: Store>(
         × ReadsWhole (stream_path prefix.now net.now link) limit bytes events
         × (packets_read link bytes ≡ Ok both.0.packets) × (length bytes ≡ both.1))) }
     ensures link { IfOk result (λ both. both.0.link ≡ link) }
+    ensures stream { IfOk result (λ both. IsStream both.0) }
     ensures size { IfOk result (λ both. both.1 ≤ limit) }
     ensures lost { IfErr result (λ outcome. MakesCalls S.Store store.old store.new (λ events.
         Reads limit (IsTaken (stream_wanted prefix.now net.now link)) (RefusesBytes (stream_wanted prefix.now net.now link))
@@ -84,6 +87,7 @@ pub fn read_streams<'a, S: Store>(
     ensures had { IfOk result (λ streams. MakesCalls S.Store store.old store.new (λ events. (files : List (List ℕ))
         × ReadsAll stream_limit (streams_wanted prefix.now net.now links.now) files events
         × (streams ≡ streams_of links.now files))) }
+    ensures streams { IfOk result (All IsStream) }
     ensures lost { IfErr result (λ outcome. MakesCalls S.Store store.old store.new (λ events.
         LosesOne stream_limit (streams_wanted prefix.now net.now links.now) outcome events
         ⊎ (IsNoMemory outcome × (events ≡ [])))) }

@@ -1,4 +1,4 @@
-use Rattle.std.proofs.Common.{◌≡◌, ◌≤◌, ◌∷◌, ℕ, true, false, List, find, map, string_bytes, length, refl, sym, ap, ◌∙◌, arith, inr, rules, tests}
+use Rattle.std.proofs.Common.{◌≡◌, ◌≤◌, ◌||◌, ◌∷◌, ℕ, Bool, true, false, List, Some, find, map, string_bytes, length, refl, sym, ap, ◌∙◌, arith, inl, inr, rules, tests}
 use Rattle.std.specs.List.{list_any}
 use Rattle.std.specs.Str.{bytes_eq}
 use Rattle.std.proofs.Math.Bool.{or-true}

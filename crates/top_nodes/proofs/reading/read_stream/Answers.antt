@@ -1,14 +1,13 @@
 use Rattle.std.proofs.Common.{◌≡◌, [], length, inl, inr, refl, sym, subst, subst₂, ap, ◌∙◌, arith}
 use Rattle.command_steps.specs.Listed.{IsTaken, RefusesBytes}
 use Rattle.lif_outside.proofs.CallLaws.{calls_of, calls_weaker}
-use Rattle.lif_outside.specs.Calls.{MakesCalls}
 use Rattle.lif_outside.specs.FileCalls.{ReadsWhole}
 use Rattle.top_base.specs.FileReading.{StopsReading, outcome_of}
 use Rattle.top_base.specs.declared.reading.FileRefusal.TheVariants as refused
 use Rattle.top_base.proofs.Exits.{if_err}
 use Rattle.top_base.proofs.InputLaws.{unread}
 use Rattle.top_nodes.specs.Files.{stream_path, stream_wanted}
-use Rattle.top_nodes.proofs.ReadingLaws.{HasLostOne, HasReadOne, lost_stream}
+use Rattle.top_nodes.proofs.ReadingLaws.{lost_stream}
 use Rattle.top_nodes.proofs.reading.read_stream.Goals as goal
 
 pub returns-in_err-path-clause-lost : goal.returns-in_err-path-clause-lost
@@ -18,38 +17,29 @@ returns-in_err-path-clause-lost g c =
 
 pub returns-in_err-bytes-clause-lost : goal.returns-in_err-bytes-clause-lost
 returns-in_err-bytes-clause-lost g c =
-    let prefix = c.args.prefix.now in
-    let net = c.args.net.now in
-    let link = c.args.link in
-    let path = stream_path prefix net link in
-    let wanted = stream_wanted prefix net link in
+    let path = stream_path c.args.prefix.now c.args.net.now c.args.link in
+    let wanted = stream_wanted c.args.prefix.now c.args.net.now c.args.link in
     let limit = c.args.limit in
     let refusal = c.in_err-bytes.field-0.0 in
     let is : c.as_str.result.now ≡ path = c.as_str.ensures.value ∙ c.in_ok-path.ensures in
-    if_err (λ outcome. MakesCalls g.S.Store c.args.store.now c.read_whole.new.store (HasLostOne prefix net link limit outcome)) c.from_residual-in_err-bytes.result (outcome_of refusal) c.from_residual-in_err-bytes.ensures.1
-    (calls_weaker (StopsReading c.as_str.result.now limit refusal) (HasLostOne prefix net link limit (outcome_of refusal)) c.in_err-bytes.ensures.refused
+    if_err _ c.from_residual-in_err-bytes.result (outcome_of refusal) c.from_residual-in_err-bytes.ensures.1
+    (calls_weaker _ _ c.in_err-bytes.ensures.refused
     (λ made stop. inl (unread limit (IsTaken wanted) (RefusesBytes wanted) path made refusal (subst (λ path. StopsReading path limit refusal made) is stop))))
 
 pub returns-in_err-stream-clause-lost : goal.returns-in_err-stream-clause-lost
 returns-in_err-stream-clause-lost g c =
-    let prefix = c.args.prefix.now in
-    let net = c.args.net.now in
-    let link = c.args.link in
     let limit = c.args.limit in
     let outcome = c.in_err-stream.field-0.0 in
-    let path : c.as_str.result.now ≡ stream_path prefix net link = c.as_str.ensures.value ∙ c.in_ok-path.ensures in
-    if_err (λ outcome. MakesCalls g.S.Store c.args.store.now c.read_whole.new.store (HasLostOne prefix net link limit outcome)) c.from_residual-in_err-stream.result outcome c.from_residual-in_err-stream.ensures.1
-    (calls_weaker (ReadsWhole c.as_str.result.now limit c.in_ok-bytes.bytes.items) (HasLostOne prefix net link limit outcome) c.in_ok-bytes.ensures.whole (λ made whole.
-    inl (lost_stream prefix net link limit c.deref.result.now made (subst₂ (λ path bytes. ReadsWhole path limit bytes made) path (sym c.deref.ensures.value) whole) outcome c.in_err-stream.ensures.refused)))
+    let path : c.as_str.result.now ≡ stream_path c.args.prefix.now c.args.net.now c.args.link = c.as_str.ensures.value ∙ c.in_ok-path.ensures in
+    if_err _ c.from_residual-in_err-stream.result outcome c.from_residual-in_err-stream.ensures.1
+    (calls_weaker _ _ c.in_ok-bytes.ensures.whole (λ made whole.
+    inl (lost_stream c.args.prefix.now c.args.net.now c.args.link limit c.deref.result.now made (subst₂ (λ path bytes. ReadsWhole path limit bytes made) path (sym c.deref.ensures.value) whole) outcome c.in_err-stream.ensures.refused)))
 
 pub returns-clause-had : goal.returns-clause-had
 returns-clause-had g c =
-    let prefix = c.args.prefix.now in
-    let net = c.args.net.now in
-    let link = c.args.link in
     let limit = c.args.limit in
     let bytes = c.deref.result.now in
-    let path : c.as_str.result.now ≡ stream_path prefix net link = c.as_str.ensures.value ∙ c.in_ok-path.ensures in
+    let path : c.as_str.result.now ≡ stream_path c.args.prefix.now c.args.net.now c.args.link = c.as_str.ensures.value ∙ c.in_ok-path.ensures in
     let size : length bytes ≡ c.len.result = omega (arith, c.len.ensures, c.in_ok-bytes.bytes.ok.0, ap length c.deref.ensures.value) in
-    calls_weaker (ReadsWhole c.as_str.result.now limit c.in_ok-bytes.bytes.items) (HasReadOne prefix net link limit c.in_ok-stream.stream.packets c.len.result) c.in_ok-bytes.ensures.whole
+    calls_weaker _ _ c.in_ok-bytes.ensures.whole
     (λ made whole. (bytes, subst₂ (λ path bytes. ReadsWhole path limit bytes made) path (sym c.deref.ensures.value) whole, c.in_ok-stream.ensures.packets, size))

@@ -1,0 +1,380 @@
+-- What has to be known of a sink at work: streams that are whole, counts, and the calls.
+use Rattle.std.specs.Prelude.{◌≡◌, ◌⊎◌, ◌<◌, ◌≤◌, ◌+◌, ◌-◌, ◌*◌, ◌^◌, ◌∷◌, ◌++◌, ◌==◌, [], ℕ, Bool, true, false, not, nat_lt, if◌then◌else◌, find, map, filter, position, slice_get, sum_by, take, unwrap_or, All, Err, List, None, Ok, OnErr, OnOk, Option, Result, Some, length}
+use Rattle.std.specs.List.{range_with_len}
+use Rattle.std.specs.Str.{bytes_eq}
+use Rattle.std.specs.Option.{option_and_then, option_map, option_map_or, option_or}
+use Rattle.std.proofs.Common.{refl, sym, ap, subst, ◌∙◌, arith, get_or, inl, inr}
+use Rattle.std.proofs.lemmas.Bool.{eqb-false, eqb-true, lt-ltb}
+use Rattle.std.proofs.lemmas.List.{append-nil, map-id}
+use Rattle.std.proofs.lemmas.List.Elements.{All-cons, All-filter, All-head, All-nil, All-same, All-tail, filter_more}
+use Rattle.std.proofs.lemmas.List.FromFn.{map-range_with_len_more, sum_by-map-range_with_len_more}
+use Rattle.std.proofs.lemmas.List.Quantifiers.{position-Some}
+use Rattle.std.proofs.lemmas.Nat.{mod-mul-add}
+use Rattle.command_steps.proofs.ListedLaws.{reads_each_had, reads_each_lost}
+use Rattle.command_steps.specs.Filling.{Fills, RunsFilling, StopsFilling, fills}
+use Rattle.command_steps.specs.Listed.{ReadsAll, reads_each}
+use Rattle.command_steps.specs.Steps.{RunsOrForgets}
+use Rattle.failure_patterns.proofs.DemandLaws.{number_within}
+use Rattle.failure_patterns.specs.Demands.{number_of}
+use Rattle.generation_frame.specs.Blocks.{capacity, counted_bytes, pieces}
+use Rattle.generation_frame.specs.Frames.{Fits}
+use Rattle.generation_frame.specs.declared.frame.Packet.{Packet}
+use Rattle.item_list.proofs.Ranges.{find_fails, find_first, find_nothing}
+use Rattle.lif_outside.proofs.CallLaws.{calls_of}
+use Rattle.lif_outside.proofs.SequenceLaws.{stops_behind, stops_first, stops_here}
+use Rattle.lif_outside.proofs.TurnLaws.{appends_of-append}
+use Rattle.lif_outside.specs.Calls.{ByCalls}
+use Rattle.lif_outside.specs.Events.{Event, append_event, append_failed, appended}
+use Rattle.lif_outside.specs.FileCalls.{StopsWithin, Written, appends_of}
+use Rattle.lif_outside.specs.Sequences.{Are}
+use Rattle.lif_outside.specs.declared.Failed.{Failed}
+use Rattle.link_streams.proofs.GatherLaws.{wanted-live}
+use Rattle.link_streams.specs.Gathering.{wanted_links}
+use Rattle.link_streams.specs.Streams.{HasGeneration, IsStream, Stream, generation_count, has_place}
+use Rattle.net_model.specs.Demands.{pattern_of_demand}
+use Rattle.net_model.specs.declared.Demand.{Demand}
+use Rattle.net_model.specs.declared.net.Net.{Net}
+use Rattle.node_program.proofs.DecodingLaws.{decoder_of_demand}
+use Rattle.node_program.specs.CodeValue.{is_live_in}
+use Rattle.node_program.specs.declared.Decoder.{Decoder}
+use Rattle.node_program.specs.declared.code.Code.{Code}
+use Rattle.node_stations.specs.Opening.{demand_of}
+use Rattle.sink_decoder.proofs.OpeningLaws.{links_within}
+use Rattle.sink_decoder.specs.Receiving.{links_of, sink_plan_of}
+use Rattle.top_base.specs.Inputs.{IsNoMemory}
+use Rattle.top_base.specs.Making.{shares}
+use Rattle.top_base.specs.Named.{node_named, pattern_named, sink_named}
+use Rattle.top_base.specs.Paths.{shared_path}
+use Rattle.top_base.specs.Lines.{received_line, write_fault_line}
+use Rattle.top_base.specs.Performs.{Behaviour}
+use Rattle.top_base.specs.Words.{AtNode}
+use Rattle.top_base.specs.declared.outcome.Outcome.{Outcome}
+use Rattle.top_base.specs.declared.status.Status.TheVariants.{Done, WriteFault}
+use Rattle.top_nodes.proofs.AppendLaws.{turns_front}
+use Rattle.top_nodes.proofs.DeclinedLaws.{or_refuses_none, or_refuses_some}
+use Rattle.top_nodes.proofs.ReadingLaws.{HasLost, lack_parts}
+use Rattle.top_nodes.specs.Declined.{declined}
+use Rattle.top_nodes.specs.Files.{first_lack, first_lacking, generations_of, stream_limit, stream_paths, streams_of, streams_wanted}
+use Rattle.top_nodes.specs.Sink.{bad_block, block_in, bytes_in, demand_in, first_bad, is_bad, links_in, received_in, sink_gathers, sink_in, sink_through, sink_turn, sink_turns}
+use Rattle.top_nodes.specs.declared.sinking.Sinking.{Sinking}
+
+-- ---- links
+
+-- the live ones of a demand's decoder are those that its sink wants
+pub wanted_all : (at_hand code : Code) (demand : Demand) (number : ℕ) (decoder : Decoder) → at_hand ≡ code → number ≡ number_of at_hand.net demand → demand.pattern < length code.net.patterns
+    → slice_get at_hand.decoders number ≡ Some decoder → filter (is_live_in code demand.pattern) decoder.links ≡ wanted_links (sink_plan_of code (number_of code.net demand))
+wanted_all at_hand code demand number decoder same is below found =
+    let numbered = number_of code.net demand in
+    let named : number ≡ numbered = is ∙ ap (λ (code : Code). number_of code.net demand) same in
+    let at : slice_get code.decoders numbered ≡ Some decoder = ap (slice_get code.decoders) (sym named) ∙ ap (λ (code : Code). slice_get code.decoders number) (sym same) ∙ found in
+    let links : links_of code numbered ≡ decoder.links = ap (λ (found : Option Decoder). option_map_or (λ (one : Decoder). one.links) found []) at in
+    let pattern : pattern_of_demand code.net numbered ≡ demand.pattern = mod-mul-add demand.sink (length code.net.patterns) demand.pattern below in
+    sym (wanted-live code numbered ∙ ap (λ pattern. filter (is_live_in code pattern) (links_of code numbered)) pattern ∙ ap (filter (is_live_in code demand.pattern)) links)
+
+-- and they are links of the network
+pub wanted_within : (code : Code) (demand : Demand) (links : List ℕ) → demand.sink < length code.net.sinks → demand.pattern < length code.net.patterns → links ≡ wanted_links (sink_plan_of code (number_of code.net demand))
+    → All (λ link. link < length code.net.links) links
+wanted_within code demand links sink pattern are =
+    let number = number_of code.net demand in
+    let found = decoder_of_demand code.code number (number_within code.net demand sink pattern) in
+    let all = links_within code number found.0 (number_within code.net demand sink pattern) found.1 in
+    let live = is_live_in code demand.pattern in
+    All-same (λ link. link < length code.net.links) links (filter live found.0.links) (are ∙ sym (wanted_all code code demand number found.0 refl refl pattern found.1))
+    (All-filter live (λ link. link < length code.net.links) found.0.links all)
+
+-- those among one link more, where it is live and where it isn't
+module _ (live : ℕ → Bool) (links : List ℕ) (i : ℕ) (front : List ℕ) (within : i < length links) (was : front ≡ filter live (take i links)) where
+  more_by : (test : Bool) → live (get_or links i 0) ≡ test → filter live (take (i + 1) links) ≡ front ++ (if test then get_or links i 0 ∷ [] else [])
+  more_by test is =
+      let link = get_or links i 0 in
+      filter_more live links i 0 within ∙ ap (λ test. filter live (take i links) ++ (if test then link ∷ [] else [])) is ∙ ap (λ front. front ++ (if test then link ∷ [] else [])) (sym was)
+
+  pub wanted_here : live (get_or links i 0) ≡ true → front ++ get_or links i 0 ∷ [] ≡ filter live (take (i + 1) links)
+  wanted_here is = sym (more_by true is)
+
+  pub wanted_elsewhere : live (get_or links i 0) ≡ false → front ≡ filter live (take (i + 1) links)
+  wanted_elsewhere is = sym (append-nil front) ∙ sym (more_by false is)
+
+-- ---- what words name
+
+-- a pattern that is named is one of the network's, and so is a sink
+pub pattern_within : (net : Net) (name : List ℕ) (pattern : ℕ) → pattern_named net name ≡ Some pattern → pattern < length net.patterns
+pattern_within net name pattern named = (position-Some (λ pattern. bytes_eq pattern.name name) net.patterns pattern (record { name = []; links = [] }) named).0
+
+pub sink_within : (net : Net) (name : List ℕ) (sink : ℕ) → sink_named net name ≡ Some sink → sink < length net.sinks
+sink_within net name sink named = by_node (node_named net name) named
+  where
+    by_node : (node : Option ℕ) → option_and_then (λ node. position (λ one. one == node) net.sinks) node ≡ Some sink → sink < length net.sinks
+    by_node (Some node) named = (position-Some (λ one. one == node) net.sinks sink 0 named).0
+    by_node None named = absurd (cc)
+
+-- where both are named, this is their demand
+pub demand_named : (given : AtNode) (code : Code) (pattern sink : ℕ) → pattern_named code.net given.pattern ≡ Some pattern → sink_named code.net given.node ≡ Some sink
+    → demand_in given code ≡ number_of code.net (record { sink = sink; pattern = pattern })
+demand_named given code pattern sink named found =
+    ap (λ (one : Option ℕ). demand_of code (unwrap_or one 0) (sink_in given code)) named ∙ ap (λ (one : Option ℕ). demand_of code pattern (unwrap_or one 0)) found
+
+-- and a path that is shared declines
+pub declined_named : (given : AtNode) (named found : Option ℕ) (pattern sink : ℕ) (inputs outputs : List (List ℕ)) → named ≡ Some pattern → found ≡ Some sink
+    → declined given named found inputs outputs ≡ option_map shares (shared_path (given.code ∷ inputs) outputs)
+declined_named given named found pattern sink inputs outputs is is_found =
+    ap (λ named. declined given named found inputs outputs) is ∙ ap (λ found. declined given (Some pattern) found inputs outputs) is_found
+
+-- ---- streams
+
+-- packets that fit have few generations, and so have streams
+few_counted : (packets : List Packet) → All Fits packets → generation_count packets ≤ 2 ^ 32
+few_counted [] fit = omega arith
+few_counted (packet ∷ packets) fit =
+    let first : packet.generation < 2 ^ 32 = (All-head Fits packet packets fit).generation in
+    omega (arith, first, few_counted packets (All-tail Fits packet packets fit))
+
+pub few_generations : (streams : List Stream) → All IsStream streams → generations_of streams ≤ 2 ^ 32
+few_generations [] are = omega arith
+few_generations (stream ∷ streams) are =
+    omega (arith, few_counted stream.packets (All-head IsStream stream streams are).fit, few_generations streams (All-tail IsStream stream streams are))
+
+-- a place below doesn't lack
+shown : (has : Bool) → not has ≡ false → has ≡ true
+shown true is = refl
+shown false is = cc
+
+-- streams that lack no place have each generation below
+pub generation_whole : (net : Net) (count : ℕ) (streams : List Stream) (generation : ℕ) → first_lacking net count streams ≡ None → generation < count → All (HasGeneration generation) streams
+generation_whole net count [] generation none below = All-nil (HasGeneration generation)
+generation_whole net count (stream ∷ streams) generation none below =
+    let parts = lack_parts net stream.link (first_lack count stream.packets) (first_lacking net count streams) none in
+    All-cons (HasGeneration generation) stream streams
+    (λ piece low.
+    let place = generation * pieces + piece in
+    let within : place < count * pieces = omega (arith, below, low) in
+    shown (has_place stream.packets place)
+    (find_fails (λ one. not (has_place stream.packets one)) 0 (count * pieces) parts.0 place (omega arith) (omega (arith, within))))
+    (generation_whole net count streams generation parts.1 below)
+
+-- ---- counts
+
+-- so many blocks, by what each counts and by how many bytes it has room for
+module _ (room generations : ℕ) (count : ℕ → ℕ) where
+  abbrev bad : ℕ → Bool
+  bad generation = is_bad room generations generation (count generation)
+
+  abbrev refused : Option Outcome
+  refused = option_map (bad_block count) (find bad (range_with_len 0 generations))
+
+  -- the first count is wrong, behind others that aren't
+  pub count_bad : (generation counted : ℕ) → generation < generations → ((one : ℕ) → one < generation → bad one ≡ false) → counted ≡ count generation → is_bad room generations generation counted ≡ true
+      → refused ≡ Some (bad_block (λ one. counted) generation)
+  count_bad generation counted below good is wrong =
+      ap (option_map (bad_block count)) (find_first bad 0 generations generation (omega arith) (omega arith) (ap (is_bad room generations generation) (sym is) ∙ wrong) (λ one from before. good one before))
+      ∙ ap (λ number. Some (bad_block (λ one. number) generation)) (sym is)
+
+  -- no count is
+  pub counts_good : ((one : ℕ) → one < generations → bad one ≡ false) → refused ≡ None
+  counts_good good = ap (option_map (bad_block count)) (find_nothing bad 0 generations (λ one from below. good one (omega (arith, below))))
+
+-- one block more
+pub counted_more : (count : ℕ → ℕ) (generations : ℕ) → sum_by count (range_with_len 0 (generations + 1)) ≡ sum_by count (range_with_len 0 generations) + count generations
+counted_more count generations =
+    ap (sum_by count) (sym (map-id (range_with_len 0 (generations + 1)))) ∙ sum_by-map-range_with_len_more count (λ (one : ℕ). one) 0 generations generations (omega arith)
+    ∙ ap (λ numbers. sum_by count numbers + count generations) (map-id (range_with_len 0 generations))
+
+-- ---- a sink at work
+
+-- it has the code, the demand, the streams and the generations as before
+pub record IsStill {F : Type 0} (old new : Sinking F) : Type 0 where
+  pub code : new.code ≡ old.code
+  pub demand : new.demand ≡ old.demand
+  pub streams : new.streams ≡ old.streams
+  pub generations : new.generations ≡ old.generations
+
+pub still_here : {F : Type 0} (sinking : Sinking F) → IsStill sinking sinking
+still_here sinking = record { code = refl; demand = refl; streams = refl; generations = refl }
+
+pub still_then : {F : Type 0} (old mid new : Sinking F) → IsStill old mid → IsStill mid new → IsStill old new
+still_then old mid new one other = record {
+  code = other.code ∙ one.code;
+  demand = other.demand ∙ one.demand;
+  streams = other.streams ∙ one.streams;
+  generations = other.generations ∙ one.generations;
+}
+
+module _ {F : Type 0} (old new : Sinking F) (still : IsStill old new) where
+  -- so its blocks are as before, which counts are wrong, and what the output gets of a block
+  pub block_still : (generation : ℕ) → block_in new.code.now new.demand new.streams generation ≡ block_in old.code.now old.demand old.streams generation
+  block_still generation = cc
+
+  pub turns_still : (given : AtNode) → sink_turns given new.code.now new.streams new.generations ≡ sink_turns given old.code.now old.streams old.generations
+  turns_still given = cc
+
+  pub bad_still : (generation count : ℕ)
+      → is_bad (capacity new.code.now.rate) new.generations generation count ≡ is_bad (capacity old.code.now.rate) old.generations generation count
+  bad_still generation count = cc
+
+  pub turn_still : (given : AtNode) (generation : ℕ) → sink_turn given new.code.now new.streams generation ≡ sink_turn given old.code.now old.streams generation
+  turn_still given generation = cc
+
+-- ---- the calls
+
+-- the appends of the turn of a generation, by what its block counts
+module _ (given : AtNode) (code : Code) (streams : List Stream) (generation demand : ℕ) (block bytes : List ℕ)
+    (numbered : demand ≡ demand_in given code) (decoded : block ≡ block_in code demand streams generation) (counted : bytes ≡ counted_bytes block) where
+  received : bytes ≡ received_in code (demand_in given code) streams generation
+  received = counted ∙ ap counted_bytes (decoded ∙ ap (λ number. block_in code number streams generation) numbered)
+
+  abbrev turn_by : Bool → List ℕ → List Event
+  turn_by some bytes = appends_of ((if some then (given.output, bytes) ∷ [] else []) ∷ [])
+
+  turn_is : (some : Bool) → nat_lt 0 (length bytes) ≡ some → appends_of (sink_turn given code streams generation ∷ []) ≡ turn_by some bytes
+  turn_is some is = ap (λ bytes. turn_by (nat_lt 0 (length bytes)) bytes) (sym received) ∙ ap (λ some. turn_by some bytes) is
+
+  pub turn_none : (length bytes == 0) ≡ true → appends_of (sink_turn given code streams generation ∷ []) ≡ []
+  turn_none none = turn_is false (ap (nat_lt 0) (eqb-true (length bytes) 0 none))
+
+  pub turn_some : (length bytes == 0) ≡ false → appends_of (sink_turn given code streams generation ∷ []) ≡ appended given.output bytes ∷ []
+  turn_some some =
+      let apart = eqb-false (length bytes) 0 some in
+      turn_is true (lt-ltb 0 (length bytes) (omega (arith, apart)))
+
+-- an append, by its answer: all that is due, or where it stops
+module _ {S : Type 0} (calls : List Event → S → S → Type 0) (a b : S) (path bytes : List ℕ) (due : List Event) (is : due ≡ appended path bytes ∷ []) where
+  pub append_done : (result : Result Unit Failed) → calls (append_event path bytes result ∷ []) a b → OnOk result (ByCalls calls a b (Are due))
+  append_done (Ok done) lead = calls_of (Are due) (appended path bytes ∷ []) lead (sym is)
+  append_done (Err why) lead = tt
+
+  pub append_stopped : (result : Result Unit Failed) → calls (append_event path bytes result ∷ []) a b → OnErr result (ByCalls calls a b (StopsWithin due))
+  append_stopped (Ok done) lead = tt
+  append_stopped (Err why) lead =
+      calls_of (StopsWithin due) (append_failed path bytes ∷ []) lead
+      (subst (λ due. StopsWithin due (append_failed path bytes ∷ [])) (sym is) (stops_here (appended path bytes) []))
+
+module _ (turn : ℕ → List Written) where
+  abbrev turns : ℕ → List (List Written)
+  turns count = map turn (range_with_len 0 count)
+
+  -- some turns, and then the next one
+  pub turns_more : (count : ℕ) → appends_of (turns count) ++ appends_of (turn count ∷ []) ≡ appends_of (turns (count + 1))
+  turns_more count = sym (ap appends_of (map-range_with_len_more turn 0 count count (omega arith)) ∙ appends_of-append (turns count) (turn count ∷ []))
+
+  -- and where the appends of that one stop
+  pub turns_stopped : (all count : ℕ) (events : List Event) → count < all → StopsWithin (appends_of (turn count ∷ [])) events
+      → StopsWithin (appends_of (turns all)) (appends_of (turns count) ++ events)
+  turns_stopped all count events within stop =
+      let front = appends_of (turns count) in
+      let next = turns_front turn turn (count + 1) all (omega (arith, within)) (λ j below. refl) in
+      let whole : appends_of (turns all) ≡ (front ++ appends_of (turn count ∷ [])) ++ next.0 = next.1 ∙ ap (λ these. these ++ next.0) (sym (turns_more count)) in
+      subst (λ these. StopsWithin these (front ++ events)) (sym whole)
+      (stops_first (front ++ appends_of (turn count ∷ [])) next.0 (front ++ events) (stops_behind front (appends_of (turn count ∷ [])) events stop))
+
+-- ---- with streams that were read
+
+-- the calls of a sink whose streams are whole
+module _ (given : AtNode) (code : Code) (demand : ℕ) (streams : List Stream) (generations : ℕ)
+    (numbered : demand ≡ demand_in given code) (all : generations ≡ generations_of streams) (whole : first_lacking code.net generations streams ≡ None) where
+  abbrev number : ℕ
+  number = demand_in given code
+
+  abbrev count : ℕ
+  count = generations_of streams
+
+  abbrev turns_all : List (List Written)
+  turns_all = sink_turns given code streams count
+
+  abbrev line_all : List ℕ
+  line_all = received_line (bytes_in code number streams count) count
+
+  -- what refuses them is the first count that is wrong
+  refusal_is : option_or (first_lacking code.net count streams) (first_bad code number streams count) ≡ first_bad code demand streams generations
+  refusal_is =
+      ap (λ lack. option_or lack (first_bad code number streams count)) (ap (λ n. first_lacking code.net n streams) (sym all) ∙ whole)
+      ∙ ap (λ n. first_bad code number streams n) (sym all) ∙ ap (λ d. first_bad code d streams generations) (sym numbered)
+
+  pub runs_refused : (outcome : Outcome) → first_bad code demand streams generations ≡ Some outcome → RunsOrForgets (sink_gathers given code streams) outcome []
+  runs_refused outcome bad =
+      or_refuses_some (option_or (first_lacking code.net count streams) (first_bad code number streams count)) (fills (given.output ∷ []) turns_all line_all) outcome outcome []
+      (refusal_is ∙ bad) (inl refl) refl
+
+  -- where none is, the file is filled
+  runs_filled : (outcome : Outcome) (events : List Event) → first_bad code demand streams generations ≡ None → RunsFilling (given.output ∷ []) turns_all line_all outcome.status outcome.line events
+      → RunsOrForgets (sink_gathers given code streams) outcome events
+  runs_filled outcome events good runs =
+      or_refuses_none (option_or (first_lacking code.net count streams) (first_bad code number streams count)) (fills (given.output ∷ []) turns_all line_all) outcome events
+      (refusal_is ∙ good) (inl (runs, refl))
+
+  pub runs_done : (said : List ℕ) (events : List Event) → first_bad code demand streams generations ≡ None → said ≡ received_line (bytes_in code demand streams generations) generations
+      → Fills (given.output ∷ []) (Are (appends_of (sink_turns given code streams generations))) events → RunsOrForgets (sink_gathers given code streams) (record { status = Done; line = said }) events
+  runs_done said events good is filled =
+      let line : said ≡ line_all =
+      is ∙ ap (λ d. received_line (bytes_in code d streams generations) generations) numbered ∙ ap (λ n. received_line (bytes_in code number streams n) n) all in
+      runs_filled (record { status = Done; line = said }) events good
+      (line, subst (λ n. Fills (given.output ∷ []) (Are (appends_of (sink_turns given code streams n))) events) all filled)
+
+  pub runs_stopped : (outcome : Outcome) (events : List Event) → first_bad code demand streams generations ≡ None → outcome.status ≡ WriteFault → outcome.line ≡ write_fault_line
+      → StopsFilling (given.output ∷ []) (StopsWithin (appends_of (sink_turns given code streams generations))) events → RunsOrForgets (sink_gathers given code streams) outcome events
+  runs_stopped outcome events good status line stopped =
+      runs_filled outcome events good
+      (subst (λ status. RunsFilling (given.output ∷ []) turns_all line_all status outcome.line events) (sym status)
+      (line, subst (λ n. StopsFilling (given.output ∷ []) (StopsWithin (appends_of (sink_turns given code streams n))) events) all stopped))
+
+-- ---- with an accepted code
+
+-- links were read by these calls, and the streams are theirs
+abbrev pub HasReadAll : List ℕ → Net → List ℕ → List Stream → List Event → Type 0
+HasReadAll prefix net links streams events =
+    (files : List (List ℕ)) × ReadsAll stream_limit (streams_wanted prefix net links) files events × (streams ≡ streams_of links files)
+
+-- each stream is that of its link
+links_by : (prefix : List ℕ) (net : Net) (limit : ℕ) (links : List ℕ) (files : List (List ℕ)) (events : List Event) → ReadsAll limit (streams_wanted prefix net links) files events
+    → map (λ (stream : Stream). stream.link) (streams_of links files) ≡ links
+links_by prefix net limit [] files events reads = refl
+links_by prefix net limit (link ∷ links) [] events reads = absurd reads
+links_by prefix net limit (link ∷ links) (bytes ∷ files) events reads =
+    ap (λ links. link ∷ links) (links_by prefix net (limit - length bytes) links files reads.1.later reads.1.holds_later)
+
+pub links_read : (prefix : List ℕ) (net : Net) (links : List ℕ) (streams : List Stream) (events : List Event) → HasReadAll prefix net links streams events → map (λ (stream : Stream). stream.link) streams ≡ links
+links_read prefix net links streams events read = ap (map (λ (stream : Stream). stream.link)) read.2 ∙ links_by prefix net stream_limit links read.0 events read.1
+
+module _ (given : AtNode) (code : Code) where
+  abbrev links : List ℕ
+  links = links_in given code
+
+  abbrev refusal : Option Outcome
+  refusal = declined given (pattern_named code.net given.pattern) (sink_named code.net given.node) (stream_paths given.input code.net links) (given.output ∷ [])
+
+  abbrev rest : List (List ℕ) → Behaviour
+  rest files = sink_gathers given code (streams_of links files)
+
+  abbrev reads : Behaviour
+  reads = reads_each stream_limit (streams_wanted given.input code.net links) rest
+
+  -- words are declined, or there is no memory for them
+  pub through_declined : (outcome : Outcome) → IsNoMemory outcome ⊎ (refusal ≡ Some outcome) → RunsOrForgets (sink_through given code) outcome []
+  through_declined outcome (inl lost) = inr (lost, refl)
+  through_declined outcome (inr refused) = or_refuses_some refusal reads outcome outcome [] refused (inl refl) refl
+
+  -- streams lack a place, or there is no memory for their sink
+  pub gathers_refused : (streams : List Stream) (outcome : Outcome) → IsNoMemory outcome ⊎ (first_lacking code.net (generations_of streams) streams ≡ Some outcome)
+      → RunsOrForgets (sink_gathers given code streams) outcome []
+  gathers_refused streams outcome (inl lost) = inr (lost, refl)
+  gathers_refused streams outcome (inr lacking) =
+      let count = generations_of streams in
+      let number = demand_in given code in
+      let bad = first_bad code number streams count in
+      or_refuses_some (option_or (first_lacking code.net count streams) bad)
+      (fills (given.output ∷ []) (sink_turns given code streams count) (received_line (bytes_in code number streams count) count)) outcome outcome []
+      (ap (λ lack. option_or lack bad) lacking) (inl refl) refl
+
+  module _ (clear : refusal ≡ None) where
+    -- a stream couldn't be had
+    pub through_lost : (outcome : Outcome) (events : List Event) → HasLost given.input code.net links outcome events → RunsOrForgets (sink_through given code) outcome events
+    through_lost outcome events (inl loses) =
+        or_refuses_none refusal reads outcome events clear (inl (reads_each_lost stream_limit (streams_wanted given.input code.net links) rest outcome events loses))
+    through_lost outcome events (inr forgets) = inr forgets
+
+    -- all were, and this came of them
+    pub through_read : (streams : List Stream) (outcome : Outcome) (first later : List Event) → HasReadAll given.input code.net links streams first
+        → RunsOrForgets (sink_gathers given code streams) outcome later → RunsOrForgets (sink_through given code) outcome (first ++ later)
+    through_read streams outcome first later read runs =
+        or_refuses_none refusal reads outcome (first ++ later) clear
+        (reads_each_had stream_limit (streams_wanted given.input code.net links) rest read.0 outcome first later read.1
+        (subst (λ streams. RunsOrForgets (sink_gathers given code streams) outcome later) read.2 runs))
