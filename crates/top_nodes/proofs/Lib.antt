@@ -11,3 +11,5 @@ pub mod RelayLaws
 pub mod NamingLaws
 pub mod ReadingLaws
 pub mod SinkingLaws
+pub mod RelayingLaws
+pub mod SourcingLaws

@@ -42,7 +42,7 @@ use Rattle.top_nodes.specs.Sink.{pattern_in}
 -- ---- the blocks of a source that grows
 
 -- a whole block of the bytes that came doesn't change by those that follow
-piece_front : (front more : List ℕ) (rate generation : ℕ) → (generation + 1) * capacity rate ≤ length front → piece_of (front ++ more) rate generation ≡ piece_of front rate generation
+pub piece_front : (front more : List ℕ) (rate generation : ℕ) → (generation + 1) * capacity rate ≤ length front → piece_of (front ++ more) rate generation ≡ piece_of front rate generation
 piece_front front more rate generation whole =
     let size = capacity rate in
     let next : (generation + 1) * size ≡ generation * size + 1 * size = add-mul generation 1 size in

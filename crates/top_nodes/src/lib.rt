@@ -7,6 +7,9 @@
 
 mod naming;
 mod reading;
+mod relaying;
 mod sinking;
+mod sourcing;
+mod working;
 
 pub use sinking::sink;
