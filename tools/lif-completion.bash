@@ -33,19 +33,26 @@ _lif_patterns() {
     _lif_words "$1" "$("$_lif_estimate" "$(_lif_path "$2")" --patterns 2>/dev/null)"
 }
 
+# Offers the nodes, or the sinks, of a code file; nothing where it is none.
+_lif_nodes() {
+    _lif_words "$1" "$("$_lif_estimate" "$(_lif_path "$2")" "$3" 2>/dev/null)"
+}
+
 _lif() {
     local word=${COMP_WORDS[COMP_CWORD]}
     COMPREPLY=()
     if ((COMP_CWORD == 1)); then
-        _lif_words "$word" "order cuts compile check send demo migrate"
+        _lif_words "$word" "order cuts compile check send demo migrate relay sink"
         return
     fi
     case ${COMP_WORDS[1]},$COMP_CWORD in
     order,2 | cuts,2 | compile,2) _lif_files "$word" .net ;;
-    compile,3 | check,2 | send,2 | migrate,2 | migrate,3) _lif_files "$word" .lif ;;
+    compile,3 | check,2 | send,2 | migrate,2 | migrate,3 | relay,2 | sink,2) _lif_files "$word" .lif ;;
     compile,4) _lif_files "$word" .txt ;;
-    send,3) _lif_patterns "$word" "${COMP_WORDS[2]}" ;;
-    send,5 | send,6) _lif_files "$word" "" ;;
+    send,3 | relay,3 | sink,3) _lif_patterns "$word" "${COMP_WORDS[2]}" ;;
+    relay,4) _lif_nodes "$word" "${COMP_WORDS[2]}" --nodes ;;
+    sink,4) _lif_nodes "$word" "${COMP_WORDS[2]}" --sinks ;;
+    send,5 | send,6 | relay,5 | relay,6 | sink,5 | sink,6) _lif_files "$word" "" ;;
     esac
 }
 

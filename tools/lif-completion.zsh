@@ -9,17 +9,26 @@ _lif_patterns() {
     compadd -a patterns
 }
 
+# Offers the nodes, or the sinks, of a code file; nothing where it is none.
+_lif_nodes() {
+    local -a names
+    names=(${(f)"$(lif-estimate ${~${(Q)1}} $2 2>/dev/null)"})
+    compadd -a names
+}
+
 _lif_program() {
     if ((CURRENT == 2)); then
-        compadd order cuts compile check send demo migrate
+        compadd order cuts compile check send demo migrate relay sink
         return
     fi
     case $words[2],$CURRENT in
     order,3 | cuts,3 | compile,3) _files -g '*.net' ;;
-    compile,4 | check,3 | send,3 | migrate,3 | migrate,4) _files -g '*.lif' ;;
+    compile,4 | check,3 | send,3 | migrate,3 | migrate,4 | relay,3 | sink,3) _files -g '*.lif' ;;
     compile,5) _files -g '*.txt' ;;
-    send,4) _lif_patterns $words[3] ;;
-    send,6 | send,7) _files ;;
+    send,4 | relay,4 | sink,4) _lif_patterns $words[3] ;;
+    relay,5) _lif_nodes $words[3] --nodes ;;
+    sink,5) _lif_nodes $words[3] --sinks ;;
+    send,6 | send,7 | relay,6 | relay,7 | sink,6 | sink,7) _files ;;
     esac
 }
 

@@ -29,6 +29,8 @@ FORMS = {
     "send": ("CODE", "PATTERN", "SEED", "SRC", "PREFIX"),
     "demo": ("N", "K", "BYTES"),
     "migrate": ("OLD", "NEW"),
+    "relay": ("CODE", "PATTERN", "NODE", "IN", "OUT"),
+    "sink": ("CODE", "PATTERN", "SINK", "IN", "DST"),
 }
 INPUTS = ("NET", "CODE", "SRC", "OLD")
 NUMBERS = ("SEED", "N", "K", "BYTES")
@@ -36,6 +38,7 @@ NUMBERS = ("SEED", "N", "K", "BYTES")
 # The statuses, as docs/FORMATS.md has them.
 USAGE, NET_REFUSED, ZERO_RATE, TOO_MANY_DEMANDS, RATE_OVER, CODE_REFUSED, CHECK_FAILED, UNKNOWN_PATTERN = range(2, 10)
 READ_FAULT, WRITE_FAULT, TOO_LONG, OUT_OF_MEMORY, SAME_PATH, LINK_FAULT, RATE_UNMET = range(10, 17)
+STREAM_REFUSED, UNKNOWN_NODE, BAD_BLOCKS = range(17, 20)
 
 # Signals that are passed on to the program.
 PASSED = (signal.SIGHUP, signal.SIGINT, signal.SIGQUIT, signal.SIGTERM, signal.SIGUSR1, signal.SIGUSR2)
@@ -210,6 +213,12 @@ def cause(call: Call, status: int) -> str | None:
         return "the file at that path would be read, or written for something else, and written over"
     if status == LINK_FAULT:
         return "a link took no frame or gave none"
+    if status == STREAM_REFUSED:
+        return "the file of that link isn't the frames of the link, each of them: see what wrote it"
+    if status == UNKNOWN_NODE:
+        return node_cause(code, given)
+    if status == BAD_BLOCKS:
+        return "the streams end too early, or aren't those of one file, code and pattern"
     return None
 
 
@@ -268,6 +277,20 @@ def pattern_cause(code: str, pattern: str) -> str:
     except Refused:
         names = []
     return f"{code}: no pattern is named {pattern}" + (f"; its patterns: {', '.join(names[:MOST_LISTED])}" if names else "")
+
+
+def node_cause(code: str, given: dict[str, str]) -> str:
+    from lif_tools.formats import Refused, read_code
+
+    kind, name = ("sink", given["SINK"]) if "SINK" in given else ("node", given.get("NODE", ""))
+    content = content_of(code, MOST_READ_AGAIN + 1)
+    try:
+        network = read_code(content).network if len(content) <= MOST_READ_AGAIN else None
+    except Refused:
+        network = None
+    names = [] if network is None else [network.nodes[it] for it in network.sinks] if kind == "sink" else list(network.nodes)
+    more = f"; its {kind}s: {', '.join(names[:MOST_LISTED])}" if names else ""
+    return f"{code}: no {kind} is named {name}{more}"
 
 
 def output_cause(call: Call) -> str:

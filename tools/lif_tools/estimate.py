@@ -9,6 +9,8 @@
              holds: for the source, the code, nodes, sinks and frames that fly, and what the check of the code leaves; or
              for the code and its file, where that is more; a decoder is held for each demand, though a file of version 2
              has it once
+  nodes      for a source of --bytes, by each node by itself, as `lif relay` and `lif sink` run it: the bytes of the
+             streams that it reads and writes, and about what it holds of them
 
 The file is read and refused as by `lif check`, but whether its demands decode isn't looked at.
 """
@@ -24,6 +26,10 @@ from typing import Sequence
 from lif_tools.common import load_code, pattern_number, print_json, words_parser
 from lif_tools.formats import FRAME_BYTES, MOST_SOURCE_BYTES, PIECES, Code, capacity, generations, live_links
 from lif_tools.memory import Memory, memory_of
+
+
+# What `lif relay` of the source reads at a time.
+READ_BYTES = 65_536
 
 
 @dataclass(frozen=True)
@@ -58,6 +64,22 @@ class Estimate:
         """How many frames there are for a generation."""
         return PIECES * self.live_count()
 
+    def streams(self, node: int, length: int) -> tuple[int, int]:
+        """The bytes that a node reads and writes as streams, for a source of so many bytes; at the source the file is read."""
+        network = self.code.network
+        each = generations(self.code.rate, length) * PIECES * FRAME_BYTES
+        lives = [link for link, live in zip(network.links, self.live) if live]
+        read = length if node == network.source else each * sum(link.head == node for link in lives)
+        return read, each * sum(link.tail == node for link in lives)
+
+    def held(self, node: int, length: int) -> int:
+        """About what `lif relay` of a node holds of its streams: all, and the file that is read; at the source what it reads at
+        a time."""
+        if node == self.code.network.source:
+            return READ_BYTES
+        read = self.streams(node, length)[0]
+        return read + min(read, generations(self.code.rate, length) * PIECES * FRAME_BYTES)
+
     def memory(self, length: int, file_bytes: int) -> Memory:
         """What `lif send` takes for a source of so many bytes, where the code's file has so many."""
         return memory_of(self.code, self.live, length, file_bytes)
@@ -70,6 +92,15 @@ def estimate(code: Code, pattern: int) -> Estimate:
 def number_text(number: Fraction) -> str:
     """A number with at most two decimals."""
     return f"{float(number):.2f}".rstrip("0").rstrip(".")
+
+
+def node_lines(found: Estimate, length: int) -> list[str]:
+    """What each node by itself reads, writes and holds."""
+    return [
+        f"node {name} reads {read} bytes, writes {written}, holds about {found.held(node, length)}"
+        for node, name in enumerate(found.code.network.nodes)
+        for read, written in [found.streams(node, length)]
+    ]
 
 
 def code_lines(found: Estimate) -> list[str]:
@@ -106,7 +137,9 @@ def source_lines(found: Estimate, length: int, file_bytes: int) -> list[str]:
         f"source {length} bytes: generations {blocks}, frames {blocks * found.frames()}, "
         f"bytes on all links {each * found.live_count()}",
         memory_line(found.memory(length, file_bytes)),
-    ] + [f"link {link.name} {each if live else 0}" for link, live in zip(found.code.network.links, found.live)]
+        *(f"link {link.name} {each if live else 0}" for link, live in zip(found.code.network.links, found.live)),
+        *node_lines(found, length),
+    ]
 
 
 def memory_facts(memory: Memory) -> dict[str, object]:
@@ -141,6 +174,11 @@ def facts_of(found: Estimate, path: str, length: int | None, file_bytes: int) ->
             "links": [
                 {"name": link.name, "bytes": each if live else 0} for link, live in zip(network.links, found.live)
             ],
+            "nodes": [
+                {"name": name, "reads": read, "writes": written, "holds": found.held(node, length)}
+                for node, name in enumerate(network.nodes)
+                for read, written in [found.streams(node, length)]
+            ],
         }
     return facts
 
@@ -157,16 +195,23 @@ def words_of(arguments: Sequence[str]) -> argparse.Namespace:
     add("code", metavar="CODE", help="a code file")
     add("--pattern", metavar="P", default="none", help="the pattern of failed links, else none")
     add("--bytes", type=length_of, metavar="N", help="the length of the source")
-    add("--patterns", action="store_true", help="say the names of the code's patterns and nothing else")
+    for kind in ("patterns", "nodes", "sinks"):
+        add(f"--{kind}", action="store_true", help=f"say the names of the code's {kind} and nothing else")
     return parser.parse_args(arguments)
 
 
 def main(arguments: Sequence[str]) -> None:
     words = words_of(arguments)
     code = load_code(words.code)
-    if words.patterns:
-        names = [pattern.name for pattern in code.network.patterns]
-        say(words, {"code": words.code, "patterns": names}, names)
+    network = code.network
+    kinds = {
+        "patterns": [pattern.name for pattern in network.patterns],
+        "nodes": list(network.nodes),
+        "sinks": [network.nodes[sink] for sink in network.sinks],
+    }
+    asked = {kind: names for kind, names in kinds.items() if getattr(words, kind)}
+    if asked:
+        say(words, {"code": words.code, **asked}, [name for names in asked.values() for name in names])
         return
     found, size = estimate(code, pattern_number(words.code, code.network, words.pattern)), Path(words.code).stat().st_size
     lines = code_lines(found) + (source_lines(found, words.bytes, size) if words.bytes is not None else [])

@@ -48,7 +48,22 @@ def test_the_butterfly() -> None:
     ]
     lines = said(CODE, "--bytes", 67_108_864)
     assert lines[4] == ("source 67108864 bytes: generations 32833, frames 2363976, bytes on all links 330956640")
-    assert lines[6:] == [f"link {name} 36772960" for name in "s-a s-b a-t1 b-t2 a-c b-c c-d d-t1 d-t2".split()]
+    assert lines[6:15] == [f"link {name} 36772960" for name in "s-a s-b a-t1 b-t2 a-c b-c c-d d-t1 d-t2".split()]
+    assert lines[15:] == [
+        "node s reads 67108864 bytes, writes 73545920, holds about 65536",
+        "node t1 reads 73545920 bytes, writes 0, holds about 110318880",
+        "node t2 reads 73545920 bytes, writes 0, holds about 110318880",
+        "node a reads 36772960 bytes, writes 73545920, holds about 73545920",
+        "node b reads 36772960 bytes, writes 73545920, holds about 73545920",
+        "node c reads 73545920 bytes, writes 36772960, holds about 110318880",
+        "node d reads 36772960 bytes, writes 73545920, holds about 73545920",
+    ]
+
+
+def test_names_alone() -> None:
+    assert said(CODE, "--nodes") == "s t1 t2 a b c d".split()
+    assert said(CODE, "--sinks") == ["t1", "t2"]
+    assert said(CODE, "--patterns") == ["none"]
 
 
 def test_the_longest_source() -> None:
@@ -96,7 +111,13 @@ def test_a_pattern_leaves_links_and_operands_out(tmp_path: Path) -> None:
     assert said(path)[1:3] == ["pattern none live 4 of 4 links", "products a byte 6: links 5, sinks 1"]
     lines = said(path, "--pattern", "f", "--bytes", 0)
     assert lines[1:3] == ["pattern f live 2 of 4 links", "products a byte 3: links 2, sinks 1"]
-    assert lines[-4:] == ["link u 0", "link w 1120", "link v 0", "link z 1120"]
+    assert lines[-8:-4] == ["link u 0", "link w 1120", "link v 0", "link z 1120"]
+    assert lines[-4:] == [
+        "node s reads 0 bytes, writes 1120, holds about 65536",
+        "node t reads 1120 bytes, writes 0, holds about 2240",
+        "node a reads 0 bytes, writes 0, holds about 0",
+        "node c reads 1120 bytes, writes 1120, holds about 2240",
+    ]
     assert said(path, "--patterns") == ["none", "f"]
 
 

@@ -52,7 +52,7 @@ def folder(tmp_path: Path) -> Path:
 
 
 def test_words_are_completed(folder: Path) -> None:
-    assert completed(folder, "lif", "") == ["check", "compile", "cuts", "demo", "migrate", "order", "send"]
+    assert completed(folder, "lif", "") == ["check", "compile", "cuts", "demo", "migrate", "order", "relay", "send", "sink"]
     assert completed(folder, "./lif", "c") == ["check", "compile", "cuts"]
 
 
@@ -71,6 +71,13 @@ def test_patterns_are_completed(folder: Path) -> None:
     assert completed(folder, "lif", "send", "one.net", "") == []
     assert completed(folder, "lif", "send", "a.lif", "none", "") == []
     assert completed(folder, "lif", "demo", "") == []
+
+
+def test_nodes_and_sinks_are_completed(folder: Path) -> None:
+    assert completed(folder, "lif", "relay", "my\\ code.lif", "") == ["duct", "dust", "none"]
+    assert completed(folder, "lif", "relay", "my\\ code.lif", "none", "") == ["s", "t"]
+    assert completed(folder, "lif", "sink", "my\\ code.lif", "none", "") == ["t"]
+    assert completed(folder, "lif", "sink", "my\\ code.lif", "none", "t", "n") == ["notes.txt"]
 
 
 def completed_by_zsh(folder: Path, *words: str) -> list[str]:

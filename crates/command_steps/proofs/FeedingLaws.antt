@@ -45,7 +45,7 @@ front_stops : (these mid events : List Event) → IsFrontOf these mid → StopsW
 front_stops these mid events front stop = subst (λ all. StopsWithin all events) (sym front.1) (stops_first mid front.0 events stop)
 
 -- reads that gave something haven't ended
-unended : (at : ℕ) (path : List ℕ) (events : List Event) → AreReadsFrom at path events → have_ended events ≡ false
+pub unended : (at : ℕ) (path : List ℕ) (events : List Event) → AreReadsFrom at path events → have_ended events ≡ false
 unended at path [] reads = refl
 unended at path (read other place room bytes ∷ events) reads =
     let some : (length bytes == 0) ≡ false = ne_eqb (length bytes) 0 (λ none. omega arith) in

@@ -13,7 +13,6 @@ use Rattle.command_steps.specs.Filling.{Fills, RaisesNone, RaisesOne, StopsFilli
 use Rattle.top_base.specs.Inputs.{HoldsLong, HoldsShort, ReadsAny}
 use Rattle.top_base.specs.Lines.{out_of_memory_line, read_fault_line, too_long_line, write_fault_line}
 use Rattle.top_base.specs.Performs.{Behaviour, LeavesAll, by_files}
-use Rattle.top_base.specs.declared.outcome.Outcome.{Outcome}
 use Rattle.top_base.specs.declared.status.Status.{Status}
 use Rattle.top_base.specs.declared.status.Status.TheVariants.{Done, OutOfMemory, ReadFault, TooLong, WriteFault}
 

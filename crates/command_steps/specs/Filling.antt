@@ -9,7 +9,6 @@ use Rattle.lif_outside.specs.Told.{Becomes}
 use Rattle.lif_outside.specs.Writes.{WritesFiles, WritesPart}
 use Rattle.top_base.specs.Lines.{out_of_memory_line, write_fault_line}
 use Rattle.top_base.specs.Performs.{Behaviour, LeavesAll, by_words}
-use Rattle.top_base.specs.declared.outcome.Outcome.{Outcome}
 use Rattle.top_base.specs.declared.status.Status.{Status}
 use Rattle.top_base.specs.declared.status.Status.TheVariants.{Done, OutOfMemory, WriteFault}
 

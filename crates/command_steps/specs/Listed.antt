@@ -4,7 +4,7 @@ use Rattle.lif_outside.specs.Events.{Event}
 use Rattle.lif_outside.specs.FileCalls.{ReadsWhole}
 use Rattle.lif_outside.specs.Sequences.{Then}
 use Rattle.command_steps.specs.Steps.{reads_then}
-use Rattle.top_base.specs.Inputs.{IsNoMemory, Reads}
+use Rattle.top_base.specs.Inputs.{Reads}
 use Rattle.top_base.specs.Performs.{Behaviour}
 use Rattle.top_base.specs.declared.outcome.Outcome.{Outcome}
 use Rattle.top_base.specs.declared.status.Status.{Status}

@@ -1,7 +1,7 @@
 -- All that the program promises, by the command that its words are, and by its deeds.
 use Rattle.std.specs.Prelude.{◌≡◌, ◌≢◌, ◌↔◌, ℕ, Bool, List, Option, Some, None}
 use Rattle.lif_outside.specs.declared.links.Links.{Ghosts as LinksGhosts}
-use Rattle.std.proofs.Common.{refl, sym, ap, ◌∙◌, ⊎_elim}
+use Rattle.std.proofs.Common.{refl, sym, ap, subst, ◌∙◌, ⊎_elim}
 use Rattle.std.proofs.lemmas.Bool.{false≢true}
 use Rattle.lif_outside.specs.declared.sink.Sink.{Ghosts as SinkGhosts}
 use Rattle.lif_outside.specs.declared.store.Store.{Ghosts as StoreGhosts}
@@ -12,14 +12,18 @@ use Rattle.lif_outside.specs.LinksAccounts.{LinksAccounts, holding}
 use Rattle.lif_outside.specs.Moves.{Move}
 use Rattle.lif_outside.specs.Puts.{Put}
 use Rattle.top_base.specs.Outcome.{SaysOutcome, status_unsaid}
-use Rattle.top_base.specs.Performs.{RunsOn}
+use Rattle.top_base.specs.Performs.{Performs, RunsOn}
 use Rattle.top_base.proofs.PerformingLaws.{IsKnown, at_once_known, performs_said}
-use Rattle.top_base.specs.Words.{Command, check, command_of, compile, cuts, demo, migrate, order, send}
+use Rattle.top_base.specs.Words.{Command, check, command_of, compile, cuts, demo, migrate, order, relay, send, sink}
 use Rattle.top_base.specs.declared.outcome.Outcome.{Outcome}
 use Rattle.top_base.specs.declared.status.Status.{Status}
 use Rattle.top_base.specs.declared.status.Status.TheVariants.{Done, Usage}
 use Rattle.top_tools.proofs.ToolLaws.{check_known, check_used, compile_known, compile_used, cuts_known, cuts_used, migrate_known, migrate_used, order_known, order_used}
 use Rattle.lif_top.specs.Promises.{Promises, does_form, misuse}
+use Rattle.top_nodes.proofs.RelayChained.{node-relays}
+use Rattle.top_nodes.proofs.RelayLaws.{relay_known, relay_used}
+use Rattle.top_nodes.proofs.SinkChained.{sink-receives}
+use Rattle.top_nodes.proofs.SinkLaws.{sink_known, sink_used}
 use Rattle.top_runs.proofs.DemoPerforms.{demo_known, demo_used}
 use Rattle.top_runs.proofs.SendPerforms.{send_known, send_used}
 
@@ -50,6 +54,8 @@ form_known faithful (Some (check code)) = check_known code
 form_known faithful (Some (send given)) = send_known faithful given
 form_known faithful (Some (demo given)) = demo_known faithful given
 form_known faithful (Some (migrate given)) = migrate_known given
+form_known faithful (Some (relay given)) = relay_known given
+form_known faithful (Some (sink given)) = sink_known given
 
 command_used : (faithful : Bool) (command : Command) (outcome : Outcome) (calls : Calls) → (does_form faithful (Some command)).runs outcome calls → outcome.status ≢ Usage
 command_used faithful (order net) = order_used net
@@ -59,6 +65,8 @@ command_used faithful (check code) = check_used code
 command_used faithful (send given) = send_used faithful given
 command_used faithful (demo given) = demo_used faithful given
 command_used faithful (migrate given) = migrate_used given
+command_used faithful (relay given) = relay_used given
+command_used faithful (sink given) = sink_used given
 
 -- the usage comes of words that are no form
 usage_of : (faithful : Bool) (form : Option Command) (outcome : Outcome) (status : Status) (calls : Calls) (puts : List Put) → (does_form faithful form).runs outcome calls → SaysOutcome outcome status puts → (status ≡ Usage) ↔ (form ≡ None)
@@ -76,7 +84,10 @@ pub promises : {S C L : Type 0} {g : StoreGhosts S} {h : SinkGhosts C} {k : Link
     → MakesPuts h o.say_old o.say_new (SaysOutcome outcome status) → Promises words o status
 promises {k = k} words o status store_accounts say_accounts links_accounts outcome runs puts =
     let faithful = k.faithful o.links_old in
+    let performed = performs_said o status store_accounts say_accounts links_accounts (does_form faithful (command_of words)) (form_known faithful (command_of words)) outcome runs puts in
     record {
       usage = usage_of faithful (command_of words) outcome status runs.calls puts.made runs.holds puts.holds;
-      performed = performs_said o status store_accounts say_accounts links_accounts (does_form faithful (command_of words)) (form_known faithful (command_of words)) outcome runs puts;
+      performed = performed;
+      relays = λ given is. node-relays o given status (subst (λ form. Performs (does_form faithful form) o status) is performed);
+      receives = λ given is. sink-receives o given status (subst (λ form. Performs (does_form faithful form) o status) is performed);
     }

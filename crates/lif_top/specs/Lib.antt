@@ -1,6 +1,11 @@
 pub mod Launch
 pub mod Promises
 pub mod Run
+pub use Rattle.top_nodes.specs.Chained
+pub use Rattle.top_nodes.specs.Declined
+pub use Rattle.top_nodes.specs.Files as LinkFiles
+pub use Rattle.top_nodes.specs.Relay
+pub use Rattle.top_nodes.specs.Sink
 pub use Rattle.top_runs.specs.Demo
 pub use Rattle.top_runs.specs.Paths
 pub use Rattle.top_runs.specs.Send
@@ -22,6 +27,10 @@ pub use Rattle.top_tools.specs.Compile
 pub use Rattle.top_tools.specs.Cuts
 pub use Rattle.top_tools.specs.Migrate
 pub use Rattle.top_tools.specs.Order
+pub use Rattle.command_steps.specs.Feeding
+pub use Rattle.command_steps.specs.Filling
+pub use Rattle.command_steps.specs.Listed
+pub use Rattle.command_steps.specs.Steps
 pub use Rattle.code_checker.specs.Checking
 pub use Rattle.code_file.specs.Items
 pub use Rattle.code_file.specs.Reading
@@ -43,6 +52,11 @@ pub use Rattle.lif_outside.specs.Told
 pub use Rattle.lif_outside.specs.Writes
 pub use Rattle.lif_compiler.specs.Compiled
 pub use Rattle.lif_compiler.specs.Refused
+pub use Rattle.link_streams.specs.Chained as StreamChains
+pub use Rattle.link_streams.specs.Gathering
+pub use Rattle.link_streams.specs.Reading as StreamReading
+pub use Rattle.link_streams.specs.Relaying
+pub use Rattle.link_streams.specs.Streams as LinkStreams
 pub use Rattle.net_model.specs.Demands
 pub use Rattle.net_model.specs.Flows
 pub use Rattle.net_model.specs.Lists

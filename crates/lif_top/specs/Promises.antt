@@ -3,7 +3,7 @@ use Rattle.std.specs.Prelude.{◌≡◌, ◌↔◌, Bool, List, ℕ, Option, Non
 use Rattle.lif_outside.specs.declared.links.Links.{Ghosts as LinksGhosts}
 use Rattle.lif_outside.specs.declared.sink.Sink.{Ghosts as SinkGhosts}
 use Rattle.lif_outside.specs.declared.store.Store.{Ghosts as StoreGhosts}
-use Rattle.lif_outside.specs.Calls.{Objects}
+use Rattle.lif_outside.specs.Calls.{Objects, outside_after, outside_before}
 use Rattle.top_tools.specs.Check.{check_command}
 use Rattle.top_tools.specs.Compile.Command.{compile_command}
 use Rattle.top_tools.specs.Cuts.{cuts_command}
@@ -11,10 +11,13 @@ use Rattle.top_tools.specs.Migrate.{migrate_command}
 use Rattle.top_tools.specs.Order.{order_command}
 use Rattle.top_base.specs.Lines.{usage_line}
 use Rattle.top_base.specs.Performs.{Behaviour, Performs, at_once}
-use Rattle.top_base.specs.Words.{Command, check, command_of, compile, cuts, demo, migrate, order, send}
+use Rattle.top_base.specs.Words.{AtNode, Command, check, command_of, compile, cuts, demo, migrate, order, relay, send, sink}
 use Rattle.top_base.specs.declared.outcome.Outcome.{Outcome}
 use Rattle.top_base.specs.declared.status.Status.{Status}
 use Rattle.top_base.specs.declared.status.Status.TheVariants.{Usage}
+use Rattle.top_nodes.specs.Chained.{NodeRelays, SinkReceives}
+use Rattle.top_nodes.specs.Relay.{relay_command}
+use Rattle.top_nodes.specs.Sink.{sink_command}
 use Rattle.top_runs.specs.Demo.Command.{demo_command}
 use Rattle.top_runs.specs.Send.Command.{send_command}
 
@@ -32,6 +35,8 @@ does_form faithful (Some (check code)) = check_command code
 does_form faithful (Some (send given)) = send_command faithful given
 does_form faithful (Some (demo given)) = demo_command faithful given
 does_form faithful (Some (migrate given)) = migrate_command given
+does_form faithful (Some (relay given)) = relay_command given
+does_form faithful (Some (sink given)) = sink_command given
 
 pub record Promises {S C L : Type 0} {g : StoreGhosts S} {h : SinkGhosts C} {k : LinksGhosts L} (words : List (List ℕ)) (o : Objects g h k)
     (status : Status) : Type 0 where
@@ -39,3 +44,7 @@ pub record Promises {S C L : Type 0} {g : StoreGhosts S} {h : SinkGhosts C} {k :
   pub usage : (status ≡ Usage) ↔ (command_of words ≡ None)
   -- what the words do is performed: its calls, what it leaves, and which status comes
   pub performed : Performs (does_form (k.faithful o.links_old) (command_of words)) o status
+  -- where the files of a node's links are streams for blocks, those that it writes are the streams of its links for them
+  pub relays : (given : AtNode) → command_of words ≡ Some (relay given) → NodeRelays given status (outside_before o) (outside_after o)
+  -- and where those of a sink's links are, its file is the one that the blocks are of
+  pub receives : (given : AtNode) → command_of words ≡ Some (sink given) → SinkReceives given status (outside_before o) (outside_after o)

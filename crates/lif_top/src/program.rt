@@ -9,6 +9,7 @@ use lif_outside::{Gate, Links, Sink, Store};
 use std::alloc::Global;
 use std::thread::Threads;
 use top_base::{Command, Outcome, Status, command_of, conclude};
+use top_nodes::{relay, sink};
 use top_runs::{demo, send};
 use top_tools::{check, compile, cuts, migrate, order};
 
@@ -37,6 +38,8 @@ fn carry_out<'a, S: Store, L: Links, G: Gate + Sync, R: Threads + Sync>(
         Command::Send(given) => send(rt, alloc, &given, store, links, gate),
         Command::Demo(given) => demo(rt, alloc, &given, links, gate),
         Command::Migrate(given) => migrate(alloc, &given, store),
+        Command::Relay(given) => relay(rt, alloc, &given, store, gate),
+        Command::Sink(given) => sink(rt, alloc, &given, store, gate),
     }
 }
 
@@ -56,6 +59,11 @@ fn carry_out<'a, S: Store, L: Links, G: Gate + Sync, R: Threads + Sync>(
 ///   with 1, to its sinks, and says how many frames that took and the sum of the bytes that came.
 /// - `migrate OLD NEW` reads a code file, in either version, and writes its code anew, in version 2, whether it is accepted
 ///   or not.
+/// - `relay CODE PATTERN NODE IN OUT` reads `IN.<link>` for each link into a node of an accepted code that is live where the
+///   links of the pattern fail, frames of that link in any order, and writes `OUT.<link>` for each live link out of it: the
+///   frames that the node makes of them. At the source IN is the path of the file that is sent.
+/// - `sink CODE PATTERN SINK IN DST` reads `IN.<link>` for each link that the sink's decoder wants, and writes to DST what it
+///   decodes of them.
 ///
 /// The jobs of certificates, of a compilation, of a check and of the sinks that decode enter the gate.
 pub fn lif<S: Store, C: Sink, L: Links, G: Gate + Sync, R: Threads + Sync>(

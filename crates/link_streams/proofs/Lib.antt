@@ -4,6 +4,7 @@ pub mod ReadingLaws
 pub mod FrameLaws
 pub mod CameLaws
 pub mod GatherLaws
+pub mod WantedLaws
 pub mod PassLaws
 pub mod GiveLaws
 pub mod TakenLaws

@@ -1,5 +1,5 @@
 -- Streams for numbered blocks: what the links of a code carry of them, in files.
-use Rattle.std.specs.Prelude.{◌≡◌, ◌<◌, ◌≤◌, ◌^◌, ℕ, true, All, List, flat_map, length}
+use Rattle.std.specs.Prelude.{◌≡◌, ◌≤◌, ◌^◌, ℕ, true, All, List, flat_map, length}
 use Rattle.std.specs.List.{range_with_len}
 use Rattle.coded_traffic.specs.CodeBlocks.{IsBlockOf}
 use Rattle.coded_traffic.specs.Traffic.{IsKey, Key, Window, block_at, key_of, packet_of, payload_in}

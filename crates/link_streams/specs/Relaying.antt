@@ -1,6 +1,6 @@
 -- What a relay writes of a generation, by what its streams hold or by a block.
-use Rattle.std.specs.Prelude.{◌≡◌, ℕ, List}
-use Rattle.coded_traffic.specs.Traffic.{Key, payload_in}
+use Rattle.std.specs.Prelude.{ℕ, List}
+use Rattle.coded_traffic.specs.Traffic.{payload_in}
 use Rattle.generation_frame.specs.declared.frame.Packet.{Packet}
 use Rattle.link_streams.specs.Filled.{FrameRows, filled}
 use Rattle.node_plans.specs.Plans.{outs_of}

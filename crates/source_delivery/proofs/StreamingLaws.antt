@@ -1,11 +1,11 @@
 -- A source that is streamed: what was read and delivered so far, and what follows when more is read, delivered or fails.
-use Rattle.std.specs.Prelude.{◌≡◌, ◌<◌, ◌≤◌, ◌+◌, ◌-◌, ◌*◌, ◌/◌, ◌&&◌, ◌||◌, ◌==◌, nat_lt, min, not, cond, map, if◌then◌else◌, ℕ, Bool, true, false, List, [], ◌∷◌, ◌++◌, length}
+use Rattle.std.specs.Prelude.{◌≡◌, ◌<◌, ◌≤◌, ◌+◌, ◌-◌, ◌*◌, ◌/◌, ◌||◌, min, not, cond, map, if◌then◌else◌, ℕ, Bool, true, false, List, [], ◌∷◌, ◌++◌, length}
 use Rattle.std.proofs.Common.{refl, sym, ap, ◌∙◌, subst, arith, inl, inr, ⊎_elim}
-use Rattle.std.proofs.lemmas.Bool.{ne_eqb}
 use Rattle.std.proofs.Math.Nat.{add-mul-div_right}
 use Rattle.std.proofs.lemmas.List.{append-nil, append_assoc, length-append, length-drop}
 use Rattle.std.proofs.lemmas.List.Folds.{list_any-append}
 use Rattle.std.proofs.lemmas.Nat.{le-div}
+use Rattle.command_steps.proofs.FeedingLaws.{unended}
 use Rattle.generation_frame.specs.Blocks.{block_count, capacity}
 use Rattle.generation_frame.specs.declared.frame.Packet.{Packet}
 use Rattle.item_list.proofs.Tests.{AllByRecursion-append}
@@ -37,18 +37,6 @@ use Rattle.source_delivery.specs.declared.delivery.DeliveryFault.{DeliveryFault}
 use Rattle.source_delivery.specs.declared.delivery.DeliveryFault.TheVariants as fault
 use Rattle.source_delivery.specs.declared.streaming.StreamFault.TheVariants as stream
 use Rattle.source_delivery.specs.Turns.{turns_before, turns_from}
-
--- reads that gave something haven't ended
-unended : (at : ℕ) (path : List ℕ) (events : List Event) → AreReadsFrom at path events → have_ended events ≡ false
-unended at path [] reads = refl
-unended at path (read other place room bytes ∷ events) reads =
-    let some : (length bytes == 0) ≡ false = ne_eqb (length bytes) 0 (λ none. omega arith) in
-    ap (λ b. (nat_lt 0 room && b) || have_ended events) some ∙ by_test (nat_lt 0 room) ∙ unended (at + length bytes) path events reads.3
-  where
-    by_test : (b : Bool) → ((b && false) || have_ended events) ≡ have_ended events
-    by_test true = refl
-    by_test false = refl
-unended at path (event ∷ events) reads = absurd reads
 
 -- they bring the blocks that are whole
 pub brought-whole : (path : List ℕ) (events : List Event) (rate : ℕ) → AreReadsFrom 0 path events → blocks_brought events rate ≡ length (bytes_read events) / capacity rate

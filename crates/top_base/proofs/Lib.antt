@@ -9,6 +9,7 @@ pub mod MakingLaws
 pub mod NamedLaws
 pub mod NetworkLaws
 pub mod PathLaws
+pub mod OutputLaws
 pub mod PerformingLaws
 pub mod MigrationLaws
 pub mod SameCode

@@ -27,7 +27,8 @@ counted paths path there =
     let same : bytes_eq path (get_or paths there.0 path) ≡ true = (bytes_eq-Decides path _).1 (sym there.2) in
     subst (λ b. cond b 1 0 ≤ count_by (bytes_eq path) paths) same one
 
-count_more : (path first : List ℕ) (paths : List (List ℕ)) → count_by (bytes_eq path) (first ∷ paths) ≡ cond (bytes_eq path first) 1 0 + count_by (bytes_eq path) paths
+-- one path more
+pub count_more : (path first : List ℕ) (paths : List (List ℕ)) → count_by (bytes_eq path) (first ∷ paths) ≡ cond (bytes_eq path first) 1 0 + count_by (bytes_eq path) paths
 count_more path first paths = sum_by-cons (λ other. cond (bytes_eq path other) 1 0) first paths
 
 -- paths of which each is counted once are distinct

@@ -1,5 +1,5 @@
 -- The commands that words were read as.
-use Rattle.top_base.specs.Words.{AtNode, Compile, Demo, Migrate, Send, Command as Form, check, compile, cuts, demo, migrate, order, send}
+use Rattle.top_base.specs.Words.{AtNode, Compile, Demo, Migrate, Send, Command as Form, check, compile, cuts, demo, migrate, order, relay, send, sink}
 use Rattle.top_base.specs.declared.words.CompileWords.{CompileWords}
 use Rattle.top_base.specs.declared.demo_words.DemoWords.{DemoWords}
 use Rattle.top_base.specs.declared.words.MigrateWords.{MigrateWords}
@@ -36,3 +36,5 @@ command_in (read.Check path) = check path.now
 command_in (read.Send words) = send (given_in words)
 command_in (read.Demo words) = demo (demo_given_in words)
 command_in (read.Migrate words) = migrate (migrate_given_in words)
+command_in (read.Relay words) = relay (node_given_in words)
+command_in (read.Sink words) = sink (node_given_in words)

@@ -20,7 +20,7 @@ use Rattle.node_program.specs.declared.code.Code.{Code}
 use Rattle.top_base.specs.Words.{Demo}
 
 abbrev pub usage_line : List ℕ
-usage_line = codes "usage: lif order NET | cuts NET | compile NET CODE REPORT | check CODE | send CODE PATTERN SEED SRC PREFIX | demo N K BYTES | migrate OLD NEW\n"
+usage_line = codes "usage: lif order NET | cuts NET | compile NET CODE REPORT | check CODE | send CODE PATTERN SEED SRC PREFIX | demo N K BYTES | migrate OLD NEW | relay CODE PATTERN NODE IN OUT | sink CODE PATTERN SINK IN DST\n"
 
 abbrev pub read_fault_line : List ℕ
 read_fault_line = codes "read fault\n"

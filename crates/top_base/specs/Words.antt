@@ -55,6 +55,8 @@ pub data Command : Type 0 where
   send : (given : Send) → Command
   demo : (given : Demo) → Command
   migrate : (given : Migrate) → Command
+  relay : (given : AtNode) → Command
+  sink : (given : AtNode) → Command
 
 -- `order NET`
 abbrev pub order_of : List (List ℕ) → Option Command
@@ -97,6 +99,18 @@ abbrev pub migrate_of : List (List ℕ) → Option Command
 migrate_of (old ∷ new ∷ []) = Some (migrate (record { old = old; new = new }))
 migrate_of _ = None
 
+-- `relay CODE PATTERN NODE IN OUT`
+abbrev pub relay_of : List (List ℕ) → Option Command
+relay_of (code ∷ pattern ∷ node ∷ input ∷ output ∷ []) =
+    Some (relay (record { code = code; pattern = pattern; node = node; input = input; output = output }))
+relay_of _ = None
+
+-- `sink CODE PATTERN SINK IN DST`
+abbrev pub sink_of : List (List ℕ) → Option Command
+sink_of (code ∷ pattern ∷ node ∷ input ∷ output ∷ []) =
+    Some (sink (record { code = code; pattern = pattern; node = node; input = input; output = output }))
+sink_of _ = None
+
 -- the command that words are
 abbrev pub command_of : List (List ℕ) → Option Command
 command_of [] = None
@@ -108,4 +122,6 @@ command_of (name ∷ given) =
     else if bytes_eq name (codes "send") then send_of given
     else if bytes_eq name (codes "demo") then demo_of given
     else if bytes_eq name (codes "migrate") then migrate_of given
+    else if bytes_eq name (codes "relay") then relay_of given
+    else if bytes_eq name (codes "sink") then sink_of given
     else None

@@ -196,7 +196,7 @@ impl<'a> Line<'a> {
         ensures { result ≡ usage_line }
     {
         Line::of(begin(
-            b"usage: lif order NET | cuts NET | compile NET CODE REPORT | check CODE | send CODE PATTERN SEED SRC PREFIX | demo N K BYTES | migrate OLD NEW\n",
+            b"usage: lif order NET | cuts NET | compile NET CODE REPORT | check CODE | send CODE PATTERN SEED SRC PREFIX | demo N K BYTES | migrate OLD NEW | relay CODE PATTERN NODE IN OUT | sink CODE PATTERN SINK IN DST\n",
         ))
     }
 

@@ -1,7 +1,7 @@
 //! The words that the program is called with.
 ghost use Rattle.std.specs.Prelude.{◌≡◌, Some, map, string_bytes};
 ghost use Rattle.std.specs.Option.{option_map};
-ghost use Rattle.top_base.specs.Words.{check_of, command_of, compile_of, cuts_of, demo_of, demo_with, migrate_of, order_of, send_of};
+ghost use Rattle.top_base.specs.Words.{check_of, command_of, compile_of, cuts_of, demo_of, demo_with, migrate_of, order_of, relay_of, send_of, sink_of};
 ghost use Rattle.top_base.specs.Given.{command_in};
 
 use crate::demo_words::{DEMO_LIMIT, DemoWords};
@@ -78,6 +78,10 @@ pub enum Command<'a> {
     Demo(DemoWords),
     /// `migrate OLD NEW`.
     Migrate(MigrateWords<'a>),
+    /// `relay CODE PATTERN NODE IN OUT`.
+    Relay(NodeWords<'a>),
+    /// `sink CODE PATTERN SINK IN DST`.
+    Sink(NodeWords<'a>),
 }
 
 /// The command that the words are, if they are one.
@@ -95,6 +99,8 @@ pub fn command_of(words: &[String]) -> Option<Command<'_>>
         "send" => send_of(given),
         "demo" => demo_of(given),
         "migrate" => migrate_of(given),
+        "relay" => relay_of(given),
+        "sink" => sink_of(given),
         _ => None,
     }
 }
@@ -197,5 +203,37 @@ fn migrate_of(given: &[String]) -> Option<Command<'_>>
     Some(Command::Migrate(MigrateWords {
         old: old.as_str(),
         new: new.as_str(),
+    }))
+}
+
+// `relay CODE PATTERN NODE IN OUT`.
+fn relay_of(given: &[String]) -> Option<Command<'_>>
+    ensures { option_map command_in result ≡ relay_of (map string_bytes given.now) }
+{
+    let [code, pattern, node, input, output] = given else {
+        return None;
+    };
+    Some(Command::Relay(NodeWords {
+        code: code.as_str(),
+        pattern: pattern.as_str(),
+        node: node.as_str(),
+        input: input.as_str(),
+        output: output.as_str(),
+    }))
+}
+
+// `sink CODE PATTERN SINK IN DST`.
+fn sink_of(given: &[String]) -> Option<Command<'_>>
+    ensures { option_map command_in result ≡ sink_of (map string_bytes given.now) }
+{
+    let [code, pattern, node, input, output] = given else {
+        return None;
+    };
+    Some(Command::Sink(NodeWords {
+        code: code.as_str(),
+        pattern: pattern.as_str(),
+        node: node.as_str(),
+        input: input.as_str(),
+        output: output.as_str(),
     }))
 }

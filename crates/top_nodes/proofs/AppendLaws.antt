@@ -1,18 +1,19 @@
 -- Turns that append to some paths alone, and turns of which the first are others.
-use Rattle.std.specs.Prelude.{◌≡◌, ◌<◌, ◌≤◌, ℕ, false, if◌then◌else◌, List, [], ◌∷◌, ◌++◌, Contains, drop, map, take}
+use Rattle.std.specs.Prelude.{◌≡◌, ◌<◌, ◌≤◌, ◌+◌, ℕ, false, if◌then◌else◌, List, [], ◌∷◌, ◌++◌, Contains, drop, map, take}
 use Rattle.std.specs.List.{concat, range_with_len}
 use Rattle.std.specs.Str.{bytes_eq}
 use Rattle.std.proofs.Common.{refl, sym, ap, subst, ◌∙◌, arith, ⊎_elim}
 use Rattle.std.proofs.lemmas.Bool.{false_from_ne_true}
 use Rattle.std.proofs.lemmas.List.{append-nil, get_or-map, length-map, take-append-drop}
-use Rattle.std.proofs.lemmas.List.FromFn.{take-map-range_with_len}
+use Rattle.std.proofs.lemmas.List.FromFn.{map-range_with_len_more, take-map-range_with_len}
 use Rattle.std.proofs.lemmas.Slice.Eq.{bytes_eq-Decides}
 use Rattle.item_list.proofs.Maps.{same_made}
 use Rattle.lif_outside.proofs.FileCallLaws.{appends-append, bytes_appended-append}
+use Rattle.lif_outside.proofs.SequenceLaws.{stops_behind, stops_first}
 use Rattle.lif_outside.proofs.TurnLaws.{appends_of-append, behind_there, first_there, there_cases}
 use Rattle.lif_outside.specs.AccountLaws.{contains_none}
 use Rattle.lif_outside.specs.Events.{Event, appended}
-use Rattle.lif_outside.specs.FileCalls.{AreAppendsTo, Written, appends_of, bytes_appended}
+use Rattle.lif_outside.specs.FileCalls.{AreAppendsTo, StopsWithin, Written, appends_of, bytes_appended}
 use Rattle.lif_outside.specs.Files.{AreDistinct}
 use Rattle.lif_outside.specs.Sequences.{IsFrontOf}
 
@@ -90,3 +91,23 @@ turns-add place turn bytes each [] = refl
 turns-add place turn bytes each (x ∷ xs) =
     let rest = appends_of (map turn xs) in
     bytes_appended-append place (map part_call (turn x)) rest ∙ ap (λ first. first ++ bytes_appended place rest) (each x) ∙ ap (λ later. bytes x ++ later) (turns-add place turn bytes each xs)
+
+-- ---- turns one by one
+
+module _ (turn : ℕ → List Written) where
+  abbrev turns : ℕ → List (List Written)
+  turns count = map turn (range_with_len 0 count)
+
+  -- some turns, and then the next one
+  pub turns_more : (count : ℕ) → appends_of (turns count) ++ appends_of (turn count ∷ []) ≡ appends_of (turns (count + 1))
+  turns_more count = sym (ap appends_of (map-range_with_len_more turn 0 count count (omega arith)) ∙ appends_of-append (turns count) (turn count ∷ []))
+
+  -- and where the appends of that one stop
+  pub turns_stopped : (all count : ℕ) (events : List Event) → count < all → StopsWithin (appends_of (turn count ∷ [])) events
+      → StopsWithin (appends_of (turns all)) (appends_of (turns count) ++ events)
+  turns_stopped all count events within stop =
+      let front = appends_of (turns count) in
+      let next = turns_front turn turn (count + 1) all (omega (arith, within)) (λ j below. refl) in
+      let whole : appends_of (turns all) ≡ (front ++ appends_of (turn count ∷ [])) ++ next.0 = next.1 ∙ ap (λ these. these ++ next.0) (sym (turns_more count)) in
+      subst (λ these. StopsWithin these (front ++ events)) (sym whole)
+      (stops_first (front ++ appends_of (turn count ∷ [])) next.0 (front ++ events) (stops_behind front (appends_of (turn count ∷ [])) events stop))

@@ -13,3 +13,5 @@ pub mod ReadingLaws
 pub mod SinkingLaws
 pub mod RelayingLaws
 pub mod SourcingLaws
+pub mod LinkPathLaws
+pub mod RelayNodeLaws

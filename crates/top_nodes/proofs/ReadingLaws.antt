@@ -1,20 +1,22 @@
 -- What has to be known of streams that are read: how many generations there are, which place is lacking, and the calls.
-use Rattle.std.specs.Prelude.{◌≡◌, ◌<◌, ◌≤◌, ◌+◌, ◌-◌, ◌*◌, ◌/◌, ◌%◌, ◌++◌, ◌∷◌, ◌⊎◌, [], ℕ, suc, Err, IsTrue, List, Ok, Option, None, Result, Some, drop, get_or, length, map, max, not, take}
+use Rattle.std.specs.Prelude.{◌≡◌, ◌<◌, ◌≤◌, ◌+◌, ◌-◌, ◌*◌, ◌/◌, ◌%◌, ◌^◌, ◌++◌, ◌∷◌, ◌⊎◌, [], ℕ, suc, Bool, true, false, All, Err, IsTrue, List, Ok, Option, None, Result, Some, drop, get_or, length, map, max, not, take}
 use Rattle.std.proofs.Common.{refl, sym, ap, subst, ◌∙◌, arith, drop-cons, inl, inr}
 use Rattle.std.proofs.lemmas.Bool.{cases_lt}
 use Rattle.std.proofs.lemmas.List.{append-nil, length-map, length-take-le, map-append, take_more, take-append-drop}
+use Rattle.std.proofs.lemmas.List.Elements.{All-cons, All-head, All-nil, All-tail}
 use Rattle.std.proofs.lemmas.List.Sums.{sum_by-append, sum_by-cons}
 use Rattle.command_steps.specs.Listed.{IsTaken, LosesOne, ReadsAll, RefusesBytes, Wanted}
 use Rattle.command_steps.proofs.ListedLaws.{forgets_behind, left_of, loses_one_behind, reads_all_more, taken_input}
 use Rattle.generation_frame.specs.Blocks.{pieces}
+use Rattle.generation_frame.specs.Frames.{Fits}
 use Rattle.generation_frame.specs.declared.frame.Packet.{Packet}
 use Rattle.generation_frame.specs.declared.stream_why.StreamWhy.{StreamWhy}
 use Rattle.generation_frame.specs.declared.stream_why.StreamWhy.TheVariants.{Missing}
-use Rattle.item_list.proofs.Ranges.{find_first, find_nothing}
+use Rattle.item_list.proofs.Ranges.{find_fails, find_first, find_nothing}
 use Rattle.lif_outside.specs.Events.{Event}
 use Rattle.lif_outside.specs.FileCalls.{ReadsWhole}
 use Rattle.link_streams.specs.Reading.{packets_read}
-use Rattle.link_streams.specs.Streams.{IsFirstMissing, IsWhole, Stream, generation_count, has_place}
+use Rattle.link_streams.specs.Streams.{HasGeneration, IsFirstMissing, IsStream, IsWhole, Stream, generation_count, has_place}
 use Rattle.link_streams.specs.declared.stream.Place.{Place}
 use Rattle.net_model.specs.declared.net.Net.{Net}
 use Rattle.top_base.proofs.InputLaws.{lost_bytes}
@@ -73,6 +75,38 @@ pub lacking_later : (net : Net) (count : ℕ) (streams : List Stream) (i : ℕ) 
 lacking_later net count streams i stream within none here whole =
     ap (first_lacking net count) (take_more streams i stream within) ∙ first_lacking_behind net count (take i streams) (get_or streams i stream ∷ []) none
     ∙ ap (λ one. first_lacking net count (one ∷ [])) here ∙ ap (λ lack. lack_refused net stream.link lack None) (first_lack_none count stream.packets whole)
+
+-- ---- streams that are whole
+
+-- packets that fit have few generations, and so have streams
+few_counted : (packets : List Packet) → All Fits packets → generation_count packets ≤ 2 ^ 32
+few_counted [] fit = omega arith
+few_counted (packet ∷ packets) fit =
+    let first : packet.generation < 2 ^ 32 = (All-head Fits packet packets fit).generation in
+    omega (arith, first, few_counted packets (All-tail Fits packet packets fit))
+
+pub few_generations : (streams : List Stream) → All IsStream streams → generations_of streams ≤ 2 ^ 32
+few_generations [] are = omega arith
+few_generations (stream ∷ streams) are =
+    omega (arith, few_counted stream.packets (All-head IsStream stream streams are).fit, few_generations streams (All-tail IsStream stream streams are))
+
+-- a place below doesn't lack
+shown : (has : Bool) → not has ≡ false → has ≡ true
+shown true is = refl
+shown false is = cc
+
+-- streams that lack no place have each generation below
+pub generation_whole : (net : Net) (count : ℕ) (streams : List Stream) (generation : ℕ) → first_lacking net count streams ≡ None → generation < count → All (HasGeneration generation) streams
+generation_whole net count [] generation none below = All-nil (HasGeneration generation)
+generation_whole net count (stream ∷ streams) generation none below =
+    let parts = lack_parts net stream.link (first_lack count stream.packets) (first_lacking net count streams) none in
+    All-cons (HasGeneration generation) stream streams
+    (λ piece low.
+    let place = generation * pieces + piece in
+    let within : place < count * pieces = omega (arith, below, low) in
+    shown (has_place stream.packets place)
+    (find_fails (λ one. not (has_place stream.packets one)) 0 (count * pieces) parts.0 place (omega arith) (omega (arith, within))))
+    (generation_whole net count streams generation parts.1 below)
 
 -- ---- the calls by which one is read
 
@@ -193,3 +227,21 @@ module _ (prefix : List ℕ) (net : Net) (links : List ℕ) (i : ℕ) where
   loses_next streams left outcome first later within was (inr forgets) =
       let none : first ≡ first ++ later = sym (append-nil first) ∙ ap (λ events. first ++ events) (sym forgets.1) in
       subst (HasLost prefix net links outcome) none (forgets_read streams left outcome first (omega arith) was forgets.0)
+
+-- ---- the streams that were read
+
+-- links were read by these calls, and the streams are theirs
+abbrev pub HasReadAll : List ℕ → Net → List ℕ → List Stream → List Event → Type 0
+HasReadAll prefix net links streams events =
+    (files : List (List ℕ)) × ReadsAll stream_limit (streams_wanted prefix net links) files events × (streams ≡ streams_of links files)
+
+-- each stream is that of its link
+links_by : (prefix : List ℕ) (net : Net) (limit : ℕ) (links : List ℕ) (files : List (List ℕ)) (events : List Event) → ReadsAll limit (streams_wanted prefix net links) files events
+    → map (λ (stream : Stream). stream.link) (streams_of links files) ≡ links
+links_by prefix net limit [] files events reads = refl
+links_by prefix net limit (link ∷ links) [] events reads = absurd reads
+links_by prefix net limit (link ∷ links) (bytes ∷ files) events reads =
+    ap (λ links. link ∷ links) (links_by prefix net (limit - length bytes) links files reads.1.later reads.1.holds_later)
+
+pub links_read : (prefix : List ℕ) (net : Net) (links : List ℕ) (streams : List Stream) (events : List Event) → HasReadAll prefix net links streams events → map (λ (stream : Stream). stream.link) streams ≡ links
+links_read prefix net links streams events read = ap (map (λ (stream : Stream). stream.link)) read.2 ∙ links_by prefix net stream_limit links read.0 events read.1

@@ -1,54 +1,28 @@
 -- What has to be known of a node at work on its streams.
-use Rattle.std.specs.Prelude.{◌≡◌, ◌<◌, ◌≤◌, ◌+◌, ◌*◌, ◌^◌, ◌∷◌, ◌++◌, ◌&&◌, ◌==◌, [], ℕ, zero, suc, Bool, true, false, not, map, All, Contains, List, None, Some, drop, get_or, length, slice_get, string_bytes, take}
+use Rattle.std.specs.Prelude.{◌≡◌, ◌<◌, ◌≤◌, ◌+◌, ◌∷◌, ◌++◌, ◌&&◌, ◌==◌, [], ℕ, zero, suc, map, Contains, List, Some, drop, get_or, length, slice_get, string_bytes, take}
 use Rattle.std.specs.List.{range_with_len}
 use Rattle.std.proofs.Common.{refl, sym, ap, subst, ◌∙◌, arith, drop-cons, inr}
 use Rattle.std.proofs.lemmas.List.{append-nil, append_assoc, map-append, take_all, take_more, take-append-drop}
-use Rattle.std.proofs.lemmas.List.Elements.{All-cons, All-head, All-nil, All-tail}
-use Rattle.std.proofs.lemmas.List.FromFn.{length-range_with_len, map-range_with_len_more}
+use Rattle.std.proofs.lemmas.List.FromFn.{length-range_with_len}
 use Rattle.command_steps.specs.Filling.{Fills, StopsFilling}
-use Rattle.generation_frame.specs.Blocks.{pieces}
-use Rattle.generation_frame.specs.Frames.{Fits}
 use Rattle.generation_frame.specs.declared.frame.Packet.{Packet}
-use Rattle.item_list.proofs.Ranges.{find_fails}
 use Rattle.lif_outside.proofs.SequenceLaws.{stops_behind, stops_first, stops_here}
-use Rattle.lif_outside.proofs.TurnLaws.{appends_of-append, creates_of-append, creates_of-stops}
+use Rattle.lif_outside.proofs.TurnLaws.{creates_of-append, creates_of-stops}
 use Rattle.lif_outside.specs.Events.{Event, append_failed, create_failed, created}
 use Rattle.lif_outside.specs.FileCalls.{StopsWithin, Written, appends_of, creates_of}
 use Rattle.lif_outside.specs.Sequences.{Are}
 use Rattle.link_streams.specs.Relaying.{relayed}
-use Rattle.link_streams.specs.Streams.{HasGeneration, IsStream, Stream, all_packets, generation_count, has_place}
+use Rattle.link_streams.specs.Streams.{Stream, all_packets}
 use Rattle.net_model.specs.Limits.{most_links}
 use Rattle.net_model.specs.Walks.{tail_of}
-use Rattle.net_model.specs.declared.net.Net.{Net}
 use Rattle.node_plans.proofs.ListLaws.{length-filter-le}
 use Rattle.node_plans.specs.Plans.{ins_of, outs_of, plan_of}
 use Rattle.node_plans.specs.declared.plan.Plan.{Plan}
 use Rattle.node_program.specs.CodeValue.{is_live_in}
 use Rattle.node_program.specs.declared.code.Code.{Code}
-use Rattle.top_nodes.proofs.AppendLaws.{made_there, part_call, turns_front}
-use Rattle.top_nodes.specs.Files.{first_lack, first_lacking, generations_of}
+use Rattle.top_nodes.proofs.AppendLaws.{made_there, part_call, turns_more, turns_stopped}
 use Rattle.top_nodes.specs.Working.{parts_of, paths_of}
 use Rattle.top_nodes.specs.declared.working.Relaying.{Relaying}
-
--- ---- the calls
-
-module _ (turn : ℕ → List Written) where
-  abbrev turns : ℕ → List (List Written)
-  turns count = map turn (range_with_len 0 count)
-
-  -- some turns, and then the next one
-  pub turns_more : (count : ℕ) → appends_of (turns count) ++ appends_of (turn count ∷ []) ≡ appends_of (turns (count + 1))
-  turns_more count = sym (ap appends_of (map-range_with_len_more turn 0 count count (omega arith)) ∙ appends_of-append (turns count) (turn count ∷ []))
-
-  -- and where the appends of that one stop
-  pub turns_stopped : (all count : ℕ) (events : List Event) → count < all → StopsWithin (appends_of (turn count ∷ [])) events
-      → StopsWithin (appends_of (turns all)) (appends_of (turns count) ++ events)
-  turns_stopped all count events within stop =
-      let front = appends_of (turns count) in
-      let next = turns_front turn turn (count + 1) all (omega (arith, within)) (λ j below. refl) in
-      let whole : appends_of (turns all) ≡ (front ++ appends_of (turn count ∷ [])) ++ next.0 = next.1 ∙ ap (λ these. these ++ next.0) (sym (turns_more count)) in
-      subst (λ these. StopsWithin these (front ++ events)) (sym whole)
-      (stops_first (front ++ appends_of (turn count ∷ [])) next.0 (front ++ events) (stops_behind front (appends_of (turn count ∷ [])) events stop))
 
 -- ---- files that are created in order
 

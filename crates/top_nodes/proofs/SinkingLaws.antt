@@ -1,46 +1,31 @@
 -- What has to be known of a sink at work: streams that are whole, counts, and the calls.
-use Rattle.std.specs.Prelude.{◌≡◌, ◌⊎◌, ◌<◌, ◌≤◌, ◌+◌, ◌-◌, ◌*◌, ◌^◌, ◌∷◌, ◌++◌, ◌==◌, [], ℕ, Bool, true, false, not, nat_lt, if◌then◌else◌, find, map, filter, position, slice_get, sum_by, take, unwrap_or, All, Err, List, None, Ok, OnErr, OnOk, Option, Result, Some, length}
+use Rattle.std.specs.Prelude.{◌≡◌, ◌⊎◌, ◌<◌, ◌+◌, ◌∷◌, ◌++◌, ◌==◌, [], ℕ, Bool, true, false, nat_lt, if◌then◌else◌, find, position, sum_by, unwrap_or, Err, List, None, Ok, OnErr, OnOk, Option, Result, Some, length}
 use Rattle.std.specs.List.{range_with_len}
 use Rattle.std.specs.Str.{bytes_eq}
-use Rattle.std.specs.Option.{option_and_then, option_map, option_map_or, option_or}
-use Rattle.std.proofs.Common.{refl, sym, ap, subst, ◌∙◌, arith, get_or, inl, inr}
+use Rattle.std.specs.Option.{option_and_then, option_map, option_or}
+use Rattle.std.proofs.Common.{refl, sym, ap, subst, ◌∙◌, arith, inl, inr}
 use Rattle.std.proofs.lemmas.Bool.{eqb-false, eqb-true, lt-ltb}
-use Rattle.std.proofs.lemmas.List.{append-nil, map-id}
-use Rattle.std.proofs.lemmas.List.Elements.{All-cons, All-filter, All-head, All-nil, All-same, All-tail, filter_more}
-use Rattle.std.proofs.lemmas.List.FromFn.{map-range_with_len_more, sum_by-map-range_with_len_more}
+use Rattle.std.proofs.lemmas.List.{map-id}
+use Rattle.std.proofs.lemmas.List.FromFn.{sum_by-map-range_with_len_more}
 use Rattle.std.proofs.lemmas.List.Quantifiers.{position-Some}
-use Rattle.std.proofs.lemmas.Nat.{mod-mul-add}
 use Rattle.command_steps.proofs.ListedLaws.{reads_each_had, reads_each_lost}
 use Rattle.command_steps.specs.Filling.{Fills, RunsFilling, StopsFilling, fills}
-use Rattle.command_steps.specs.Listed.{ReadsAll, reads_each}
+use Rattle.command_steps.specs.Listed.{reads_each}
 use Rattle.command_steps.specs.Steps.{RunsOrForgets}
-use Rattle.failure_patterns.proofs.DemandLaws.{number_within}
 use Rattle.failure_patterns.specs.Demands.{number_of}
-use Rattle.generation_frame.specs.Blocks.{capacity, counted_bytes, pieces}
-use Rattle.generation_frame.specs.Frames.{Fits}
-use Rattle.generation_frame.specs.declared.frame.Packet.{Packet}
-use Rattle.item_list.proofs.Ranges.{find_fails, find_first, find_nothing}
+use Rattle.generation_frame.specs.Blocks.{capacity, counted_bytes}
+use Rattle.item_list.proofs.Ranges.{find_first, find_nothing}
 use Rattle.lif_outside.proofs.CallLaws.{calls_of}
-use Rattle.lif_outside.proofs.SequenceLaws.{stops_behind, stops_first, stops_here}
-use Rattle.lif_outside.proofs.TurnLaws.{appends_of-append}
+use Rattle.lif_outside.proofs.SequenceLaws.{stops_here}
 use Rattle.lif_outside.specs.Calls.{ByCalls}
 use Rattle.lif_outside.specs.Events.{Event, append_event, append_failed, appended}
 use Rattle.lif_outside.specs.FileCalls.{StopsWithin, Written, appends_of}
 use Rattle.lif_outside.specs.Sequences.{Are}
 use Rattle.lif_outside.specs.declared.Failed.{Failed}
-use Rattle.link_streams.proofs.GatherLaws.{wanted-live}
-use Rattle.link_streams.specs.Gathering.{wanted_links}
-use Rattle.link_streams.specs.Streams.{HasGeneration, IsStream, Stream, generation_count, has_place}
-use Rattle.net_model.specs.Demands.{pattern_of_demand}
-use Rattle.net_model.specs.declared.Demand.{Demand}
+use Rattle.link_streams.specs.Streams.{Stream}
 use Rattle.net_model.specs.declared.net.Net.{Net}
-use Rattle.node_program.proofs.DecodingLaws.{decoder_of_demand}
-use Rattle.node_program.specs.CodeValue.{is_live_in}
-use Rattle.node_program.specs.declared.Decoder.{Decoder}
 use Rattle.node_program.specs.declared.code.Code.{Code}
 use Rattle.node_stations.specs.Opening.{demand_of}
-use Rattle.sink_decoder.proofs.OpeningLaws.{links_within}
-use Rattle.sink_decoder.specs.Receiving.{links_of, sink_plan_of}
 use Rattle.top_base.specs.Inputs.{IsNoMemory}
 use Rattle.top_base.specs.Making.{shares}
 use Rattle.top_base.specs.Named.{node_named, pattern_named, sink_named}
@@ -50,50 +35,12 @@ use Rattle.top_base.specs.Performs.{Behaviour}
 use Rattle.top_base.specs.Words.{AtNode}
 use Rattle.top_base.specs.declared.outcome.Outcome.{Outcome}
 use Rattle.top_base.specs.declared.status.Status.TheVariants.{Done, WriteFault}
-use Rattle.top_nodes.proofs.AppendLaws.{turns_front}
 use Rattle.top_nodes.proofs.DeclinedLaws.{or_refuses_none, or_refuses_some}
-use Rattle.top_nodes.proofs.ReadingLaws.{HasLost, lack_parts}
+use Rattle.top_nodes.proofs.ReadingLaws.{HasLost, HasReadAll}
 use Rattle.top_nodes.specs.Declined.{declined}
-use Rattle.top_nodes.specs.Files.{first_lack, first_lacking, generations_of, stream_limit, stream_paths, streams_of, streams_wanted}
+use Rattle.top_nodes.specs.Files.{first_lacking, generations_of, stream_limit, stream_paths, streams_of, streams_wanted}
 use Rattle.top_nodes.specs.Sink.{bad_block, block_in, bytes_in, demand_in, first_bad, is_bad, links_in, received_in, sink_gathers, sink_in, sink_through, sink_turn, sink_turns}
 use Rattle.top_nodes.specs.declared.sinking.Sinking.{Sinking}
-
--- ---- links
-
--- the live ones of a demand's decoder are those that its sink wants
-pub wanted_all : (at_hand code : Code) (demand : Demand) (number : ℕ) (decoder : Decoder) → at_hand ≡ code → number ≡ number_of at_hand.net demand → demand.pattern < length code.net.patterns
-    → slice_get at_hand.decoders number ≡ Some decoder → filter (is_live_in code demand.pattern) decoder.links ≡ wanted_links (sink_plan_of code (number_of code.net demand))
-wanted_all at_hand code demand number decoder same is below found =
-    let numbered = number_of code.net demand in
-    let named : number ≡ numbered = is ∙ ap (λ (code : Code). number_of code.net demand) same in
-    let at : slice_get code.decoders numbered ≡ Some decoder = ap (slice_get code.decoders) (sym named) ∙ ap (λ (code : Code). slice_get code.decoders number) (sym same) ∙ found in
-    let links : links_of code numbered ≡ decoder.links = ap (λ (found : Option Decoder). option_map_or (λ (one : Decoder). one.links) found []) at in
-    let pattern : pattern_of_demand code.net numbered ≡ demand.pattern = mod-mul-add demand.sink (length code.net.patterns) demand.pattern below in
-    sym (wanted-live code numbered ∙ ap (λ pattern. filter (is_live_in code pattern) (links_of code numbered)) pattern ∙ ap (filter (is_live_in code demand.pattern)) links)
-
--- and they are links of the network
-pub wanted_within : (code : Code) (demand : Demand) (links : List ℕ) → demand.sink < length code.net.sinks → demand.pattern < length code.net.patterns → links ≡ wanted_links (sink_plan_of code (number_of code.net demand))
-    → All (λ link. link < length code.net.links) links
-wanted_within code demand links sink pattern are =
-    let number = number_of code.net demand in
-    let found = decoder_of_demand code.code number (number_within code.net demand sink pattern) in
-    let all = links_within code number found.0 (number_within code.net demand sink pattern) found.1 in
-    let live = is_live_in code demand.pattern in
-    All-same (λ link. link < length code.net.links) links (filter live found.0.links) (are ∙ sym (wanted_all code code demand number found.0 refl refl pattern found.1))
-    (All-filter live (λ link. link < length code.net.links) found.0.links all)
-
--- those among one link more, where it is live and where it isn't
-module _ (live : ℕ → Bool) (links : List ℕ) (i : ℕ) (front : List ℕ) (within : i < length links) (was : front ≡ filter live (take i links)) where
-  more_by : (test : Bool) → live (get_or links i 0) ≡ test → filter live (take (i + 1) links) ≡ front ++ (if test then get_or links i 0 ∷ [] else [])
-  more_by test is =
-      let link = get_or links i 0 in
-      filter_more live links i 0 within ∙ ap (λ test. filter live (take i links) ++ (if test then link ∷ [] else [])) is ∙ ap (λ front. front ++ (if test then link ∷ [] else [])) (sym was)
-
-  pub wanted_here : live (get_or links i 0) ≡ true → front ++ get_or links i 0 ∷ [] ≡ filter live (take (i + 1) links)
-  wanted_here is = sym (more_by true is)
-
-  pub wanted_elsewhere : live (get_or links i 0) ≡ false → front ≡ filter live (take (i + 1) links)
-  wanted_elsewhere is = sym (append-nil front) ∙ sym (more_by false is)
 
 -- ---- what words name
 
@@ -119,38 +66,6 @@ pub declined_named : (given : AtNode) (named found : Option ℕ) (pattern sink :
     → declined given named found inputs outputs ≡ option_map shares (shared_path (given.code ∷ inputs) outputs)
 declined_named given named found pattern sink inputs outputs is is_found =
     ap (λ named. declined given named found inputs outputs) is ∙ ap (λ found. declined given (Some pattern) found inputs outputs) is_found
-
--- ---- streams
-
--- packets that fit have few generations, and so have streams
-few_counted : (packets : List Packet) → All Fits packets → generation_count packets ≤ 2 ^ 32
-few_counted [] fit = omega arith
-few_counted (packet ∷ packets) fit =
-    let first : packet.generation < 2 ^ 32 = (All-head Fits packet packets fit).generation in
-    omega (arith, first, few_counted packets (All-tail Fits packet packets fit))
-
-pub few_generations : (streams : List Stream) → All IsStream streams → generations_of streams ≤ 2 ^ 32
-few_generations [] are = omega arith
-few_generations (stream ∷ streams) are =
-    omega (arith, few_counted stream.packets (All-head IsStream stream streams are).fit, few_generations streams (All-tail IsStream stream streams are))
-
--- a place below doesn't lack
-shown : (has : Bool) → not has ≡ false → has ≡ true
-shown true is = refl
-shown false is = cc
-
--- streams that lack no place have each generation below
-pub generation_whole : (net : Net) (count : ℕ) (streams : List Stream) (generation : ℕ) → first_lacking net count streams ≡ None → generation < count → All (HasGeneration generation) streams
-generation_whole net count [] generation none below = All-nil (HasGeneration generation)
-generation_whole net count (stream ∷ streams) generation none below =
-    let parts = lack_parts net stream.link (first_lack count stream.packets) (first_lacking net count streams) none in
-    All-cons (HasGeneration generation) stream streams
-    (λ piece low.
-    let place = generation * pieces + piece in
-    let within : place < count * pieces = omega (arith, below, low) in
-    shown (has_place stream.packets place)
-    (find_fails (λ one. not (has_place stream.packets one)) 0 (count * pieces) parts.0 place (omega arith) (omega (arith, within))))
-    (generation_whole net count streams generation parts.1 below)
 
 -- ---- counts
 
@@ -248,24 +163,6 @@ module _ {S : Type 0} (calls : List Event → S → S → Type 0) (a b : S) (pat
       calls_of (StopsWithin due) (append_failed path bytes ∷ []) lead
       (subst (λ due. StopsWithin due (append_failed path bytes ∷ [])) (sym is) (stops_here (appended path bytes) []))
 
-module _ (turn : ℕ → List Written) where
-  abbrev turns : ℕ → List (List Written)
-  turns count = map turn (range_with_len 0 count)
-
-  -- some turns, and then the next one
-  pub turns_more : (count : ℕ) → appends_of (turns count) ++ appends_of (turn count ∷ []) ≡ appends_of (turns (count + 1))
-  turns_more count = sym (ap appends_of (map-range_with_len_more turn 0 count count (omega arith)) ∙ appends_of-append (turns count) (turn count ∷ []))
-
-  -- and where the appends of that one stop
-  pub turns_stopped : (all count : ℕ) (events : List Event) → count < all → StopsWithin (appends_of (turn count ∷ [])) events
-      → StopsWithin (appends_of (turns all)) (appends_of (turns count) ++ events)
-  turns_stopped all count events within stop =
-      let front = appends_of (turns count) in
-      let next = turns_front turn turn (count + 1) all (omega (arith, within)) (λ j below. refl) in
-      let whole : appends_of (turns all) ≡ (front ++ appends_of (turn count ∷ [])) ++ next.0 = next.1 ∙ ap (λ these. these ++ next.0) (sym (turns_more count)) in
-      subst (λ these. StopsWithin these (front ++ events)) (sym whole)
-      (stops_first (front ++ appends_of (turn count ∷ [])) next.0 (front ++ events) (stops_behind front (appends_of (turn count ∷ [])) events stop))
-
 -- ---- with streams that were read
 
 -- the calls of a sink whose streams are whole
@@ -317,22 +214,6 @@ module _ (given : AtNode) (code : Code) (demand : ℕ) (streams : List Stream) (
       (line, subst (λ n. StopsFilling (given.output ∷ []) (StopsWithin (appends_of (sink_turns given code streams n))) events) all stopped))
 
 -- ---- with an accepted code
-
--- links were read by these calls, and the streams are theirs
-abbrev pub HasReadAll : List ℕ → Net → List ℕ → List Stream → List Event → Type 0
-HasReadAll prefix net links streams events =
-    (files : List (List ℕ)) × ReadsAll stream_limit (streams_wanted prefix net links) files events × (streams ≡ streams_of links files)
-
--- each stream is that of its link
-links_by : (prefix : List ℕ) (net : Net) (limit : ℕ) (links : List ℕ) (files : List (List ℕ)) (events : List Event) → ReadsAll limit (streams_wanted prefix net links) files events
-    → map (λ (stream : Stream). stream.link) (streams_of links files) ≡ links
-links_by prefix net limit [] files events reads = refl
-links_by prefix net limit (link ∷ links) [] events reads = absurd reads
-links_by prefix net limit (link ∷ links) (bytes ∷ files) events reads =
-    ap (λ links. link ∷ links) (links_by prefix net (limit - length bytes) links files reads.1.later reads.1.holds_later)
-
-pub links_read : (prefix : List ℕ) (net : Net) (links : List ℕ) (streams : List Stream) (events : List Event) → HasReadAll prefix net links streams events → map (λ (stream : Stream). stream.link) streams ≡ links
-links_read prefix net links streams events read = ap (map (λ (stream : Stream). stream.link)) read.2 ∙ links_by prefix net stream_limit links read.0 events read.1
 
 module _ (given : AtNode) (code : Code) where
   abbrev links : List ℕ

@@ -1,9 +1,7 @@
 -- A source that is fed: what was read and sent so far, and what follows when more is read, sent or fails.
-use Rattle.std.specs.Prelude.{◌≡◌, ◌<◌, ◌≤◌, ◌+◌, ◌-◌, ◌*◌, ◌/◌, ◌&&◌, ◌||◌, ◌==◌, nat_lt, not, cond, map, min, if◌then◌else◌, ℕ, zero, suc, Bool, true, false, List, [], ◌∷◌, ◌++◌, drop, length, slice_range, take, Result, Ok, Err}
-use Rattle.std.specs.List.{range_with_len}
+use Rattle.std.specs.Prelude.{◌≡◌, ◌<◌, ◌≤◌, ◌+◌, ◌-◌, ◌*◌, ◌/◌, ◌||◌, not, cond, map, min, ℕ, zero, suc, Bool, true, false, List, [], ◌∷◌, ◌++◌, drop, length, slice_range, take, Result, Ok, Err}
 use Rattle.std.proofs.Common.{refl, sym, ap, ◌∙◌, subst, arith, inl, inr, ⊎_elim}
-use Rattle.std.proofs.Math.Nat.{add-mul, add-mul-div_right, div-mul-le_self, mul-div_left, mul-le-mul_right}
-use Rattle.std.proofs.lemmas.Bool.{ne_eqb}
+use Rattle.std.proofs.Math.Nat.{add-mul, add-mul-div_right, mul-div_left, mul-le-mul_right}
 use Rattle.std.proofs.lemmas.List.{append-nil, append_assoc, drop-append-le, drop-drop, drop-take, drop_all, length-append, length-drop, take-append-le, take_at}
 use Rattle.std.proofs.Math.Seq.{length-take-le, take-append-add}
 use Rattle.std.specs.Result.{IsErrAnd}
@@ -11,41 +9,30 @@ use borrow.Rule.Slice.PartMut.{put_mid}
 use Rattle.std.proofs.lemmas.List.Folds.{list_any-append}
 use Rattle.std.proofs.lemmas.List.FromFn.{map-range_with_len_more}
 use Rattle.std.proofs.lemmas.Nat.{le-div}
+use Rattle.command_steps.proofs.FeedingLaws.{unended}
 use Rattle.generation_frame.specs.Blocks.{block_count, block_of, capacity, piece_of, row_bytes}
 use Rattle.item_list.proofs.Maps.{same_made}
 use Rattle.item_list.proofs.Tests.{AllByRecursion-append}
 use Rattle.lif_outside.specs.Events.{Event, appended, read, read_failed}
-use Rattle.lif_outside.specs.FileCalls.{AreReadsFrom, ReadsPastLimit, ReadsToFault, ReadsWhole, StopsWithin, Written, appends_of, bytes_read, creates_of}
+use Rattle.lif_outside.specs.FileCalls.{AreReadsFrom, ReadsPastLimit, ReadsToFault, ReadsWhole, StopsWithin, Written, appends_of, bytes_read}
 use Rattle.lif_outside.specs.Sequences.{Are, IsFrontOf}
 use Rattle.lif_outside.specs.Streams.{Streams, gave_nothing, have_ended, is_read, reads_in, writes_in}
 use Rattle.lif_outside.proofs.FileCallLaws.{bytes_read-append, reads_more}
-use Rattle.lif_outside.proofs.SequenceLaws.{all_split, front_all, stops_behind, stops_first}
+use Rattle.lif_outside.proofs.SequenceLaws.{all_split, stops_behind, stops_first}
 use Rattle.lif_outside.proofs.StreamLaws.{AreDue, AreWrites, due_all, due_stops, reads-append, reads_none, split_at_call, stops_are_writes, whole_ended, whole_gave, writes-append, writes_all}
 use Rattle.lif_outside.proofs.TurnLaws.{appends_of-append}
 use Rattle.command_steps.specs.Filling.{Fills}
 use Rattle.top_base.specs.Inputs.{ReadsAny}
 use Rattle.top_nodes.proofs.AppendLaws.{turns_front}
 use Rattle.top_nodes.proofs.RelayLaws.{piece_front}
+use Rattle.top_nodes.proofs.RelayingLaws.{parts_each}
 use Rattle.link_streams.specs.Filled.{frames_of}
 use Rattle.node_program.specs.declared.code.Code.{Code}
 use Rattle.top_base.specs.Words.{AtNode}
 use Rattle.top_nodes.specs.Files.{stream_path}
 use Rattle.top_nodes.specs.Relay.{blocks_by, frames_turn, node_in, originated_in, outputs_in, outs_in, source_turns}
 use Rattle.top_nodes.specs.Sink.{pattern_in}
-use Rattle.top_nodes.specs.Working.{parts_of}
 use Rattle.top_nodes.specs.Sourcing.{IsLeft, Job, feed_brought, feed_turns, piece_turn, size_of, turns_from}
-
--- reads that gave something haven't ended
-unended : (at : ℕ) (path : List ℕ) (events : List Event) → AreReadsFrom at path events → have_ended events ≡ false
-unended at path [] reads = refl
-unended at path (read other place room bytes ∷ events) reads =
-    let some : (length bytes == 0) ≡ false = ne_eqb (length bytes) 0 (λ none. omega arith) in
-    ap (λ b. (nat_lt 0 room && b) || have_ended events) some ∙ by_test (nat_lt 0 room) ∙ unended (at + length bytes) path events reads.3
-  where
-    by_test : (b : Bool) → ((b && false) || have_ended events) ≡ have_ended events
-    by_test true = refl
-    by_test false = refl
-unended at path (event ∷ events) reads = absurd reads
 
 -- appends are writes
 turn-writes : (turn : List Written) → AreWrites (map (λ (part : Written). appended part.0 part.1) turn)
@@ -495,11 +482,6 @@ err_is (Err error) made is = ap (λ error. Err error) is
 
 -- ---- the command's turns
 
--- paths and frames that are made of links stand together
-pub parts_made : (path : ℕ → List ℕ) (frames : ℕ → List ℕ) (links : List ℕ) → parts_of (map path links) (map frames links) ≡ map (λ link. (path link, frames link)) links
-parts_made path frames [] = refl
-parts_made path frames (link ∷ links) = ap (λ parts. (path link, frames link) ∷ parts) (parts_made path frames links)
-
 -- the job of the command at its source
 abbrev pub job_in : AtNode → Code → Job
 job_in given code = record { code = code; pattern = pattern_in given code; node = node_in given code; paths = outputs_in given code }
@@ -511,7 +493,7 @@ turns_in given code ended bytes =
     (λ place below.
     let start : 0 + place ≡ place = omega arith in
     ap (λ n. piece_turn (job_in given code) n (piece_of bytes code.rate place)) start
-    ∙ parts_made (stream_path given.output code.net) (λ link. frames_of link place (originated_in given code bytes place link)) (outs_in given code))
+    ∙ parts_each (stream_path given.output code.net) (λ link. frames_of link place (originated_in given code bytes place link)) (outs_in given code))
 
 -- reads that bring alike are mixed alike
 pub streams_alike : (brings others : List Event → List Event) (P : List Event → Type 0) (Q : List Event → List Event → Type 0) (events : List Event) → ((reads : List Event) → brings reads ≡ others reads) → Streams brings P Q events → Streams others P Q events

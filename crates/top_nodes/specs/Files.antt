@@ -1,5 +1,5 @@
 -- The files of links, and what is read of them.
-use Rattle.std.specs.Prelude.{◌≡◌, ◌*◌, ◌/◌, ◌%◌, ℕ, List, [], ◌∷◌, Option, None, Some, Result, Ok, Err, find, map, max, not}
+use Rattle.std.specs.Prelude.{◌*◌, ◌/◌, ◌%◌, ℕ, List, [], ◌∷◌, Option, None, Some, Result, Ok, Err, find, map, max, not}
 use Rattle.std.specs.List.{range_with_len}
 use Rattle.command_steps.specs.Listed.{Wanted}
 use Rattle.generation_frame.specs.Blocks.{pieces}

@@ -1,14 +1,12 @@
 -- The command `sink`: the streams that a sink's decoder wants are read, and what their blocks count is written to one file.
-use Rattle.std.specs.Prelude.{◌-◌, ◌+◌, ◌==◌, ◌∷◌, nat_lt, not, ℕ, Bool, List, [], Option, find, filter, if◌then◌else◌, map, sum_by, unwrap_or}
+use Rattle.std.specs.Prelude.{◌+◌, ◌==◌, ◌∷◌, nat_lt, not, ℕ, Bool, List, [], Option, find, filter, if◌then◌else◌, map, sum_by, unwrap_or}
 use Rattle.std.specs.List.{range_with_len}
 use Rattle.std.specs.Option.{option_map, option_or}
 use Rattle.code_file.specs.Limits.{code_limit}
 use Rattle.command_steps.specs.Filling.{fills, has_bytes}
 use Rattle.command_steps.specs.Listed.{reads_each}
 use Rattle.command_steps.specs.Steps.{reads_then}
-use Rattle.failure_patterns.specs.Demands.{number_of}
 use Rattle.generation_frame.specs.Blocks.{capacity, count_of, counted_bytes}
-use Rattle.generation_frame.specs.declared.frame.Packet.{Packet}
 use Rattle.lif_outside.specs.FileCalls.{Written}
 use Rattle.link_streams.specs.Gathering.{wanted_links}
 use Rattle.link_streams.specs.Streams.{Stream, all_packets}

@@ -1,5 +1,5 @@
 -- The source of a code at work: its file is read while its blocks become frames.
-use Rattle.std.specs.Prelude.{◌≡◌, ◌≤◌, ◌+◌, ◌*◌, ℕ, Bool, true, List, [], drop, length, map, Result, Ok, Err}
+use Rattle.std.specs.Prelude.{◌≡◌, ◌≤◌, ◌+◌, ◌*◌, ℕ, Bool, List, drop, length, map, Result, Ok, Err}
 use Rattle.std.specs.List.{range_with_len}
 use Rattle.command_steps.specs.Filling.{Fills, StopsFilling}
 use Rattle.generation_frame.specs.Blocks.{block_count, block_of, capacity, piece_of}

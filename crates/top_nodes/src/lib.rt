@@ -1,5 +1,4 @@
-//! The commands `relay` and `sink`, which run one node of a code over files, a stream of frames for each link: their words with all
-//! laws, and the code of `sink`.
+//! The commands `relay` and `sink`, which run one node of a code over files, a stream of frames for each link.
 //!
 //! Read `specs/Sink.antt` and `specs/Relay.antt`, each the steps of its command, and `specs/Chained.antt`: what they make of
 //! streams for numbered blocks, and for the blocks of a file.
@@ -12,4 +11,5 @@ mod sinking;
 mod sourcing;
 mod working;
 
+pub use relaying::relay;
 pub use sinking::sink;

@@ -27,31 +27,11 @@ use failure_patterns::number_of;
 use generation_frame::{ROW, cap, counted};
 use gf_tables::{Field, FieldKind, Gf8, Gf9, Gf16};
 use lif_outside::{Failed, Gate, Store};
-use link_streams::{Gather, StreamList};
+use link_streams::{Gather, StreamList, wanted_links};
 use net_model::Demand;
-use node_program::live_links;
 use std::alloc::{AllocError, Global};
 use std::thread::Threads;
 use top_base::{Line, NodeWords, Outcome, Status, pattern_named, read_accepted, sink_named};
-
-// The links that the sink of a demand wants: those of its decoder that are live.
-fn links_wanted(alloc: Global, code: &Checked, demand: Demand) -> Result<Vec<u32>, AllocError>
-    requires sink { demand.sink < length code.now.net.sinks }
-    requires pattern { demand.pattern < length code.now.net.patterns }
-    ensures { IfOk result (λ links. links.items
-        ≡ wanted_links (sink_plan_of code.now (number_of code.now.net demand))) }
-{
-    let code = code.code();
-    let live = live_links(alloc, code, demand.pattern)?;
-    let decoder = code.decoders.at(number_of(&code.net, demand) as usize);
-    let mut links = Vec::with_capacity(alloc, decoder.links.len())?;
-    for link in decoder.links.as_slice() {
-        if *live.at(*link as usize) {
-            links.push(*link)?;
-        }
-    }
-    Ok(links)
-}
 
 // The outcome of a block whose count is wrong.
 fn bad_block<'a>(generation: u32, count: u32) -> Outcome<'a>
@@ -293,7 +273,7 @@ fn demanded<'a>(
         return Err(unknown_node(words));
     };
     let demand = Demand { sink, pattern };
-    let links = links_wanted(alloc, code, demand)?;
+    let links = wanted_links(alloc, code, demand)?;
     let inputs = stream_paths(alloc, words.input, net, &links)?;
     let outputs = one_path(alloc, words.output)?;
     see_apart(alloc, words.code, &inputs, &outputs)?;

@@ -3,7 +3,7 @@ use Rattle.std.proofs.Common.{◌≡◌, ℕ, Bool, true, false, List, None, Opt
 use Rattle.std.proofs.lemmas.Bool.{ltb-true}
 use Rattle.std.proofs.lemmas.Option.{none-some, same_Some}
 use Rattle.std.specs.List.{position_or_len}
-use Rattle.std.specs.Prelude.{◌<◌, position, unwrap_or}
+use Rattle.std.specs.Prelude.{◌<◌, unwrap_or}
 use Rattle.std.specs.Str.{bytes_eq}
 use Rattle.node_program.specs.declared.code.Code.{Code}
 use Rattle.top_base.specs.Given.{given_in}

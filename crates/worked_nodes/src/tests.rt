@@ -14,6 +14,7 @@ mod orders;
 mod repeats;
 mod rows;
 mod runs;
+mod streams;
 mod sums;
 mod told;
 mod traffic;

@@ -1,4 +1,4 @@
-use Rattle.std.proofs.Common.{◌≡◌, ◌==◌, true, below_more, sym, ap, ◌∙◌, arith}
+use Rattle.std.proofs.Common.{◌==◌, below_more, sym, ap, ◌∙◌, arith}
 use Rattle.std.proofs.lemmas.Bool.{eq-eqb, ne_eqb}
 use Rattle.std.proofs.lemmas.Option.{get_or_from_slice_get}
 use Rattle.failure_patterns.proofs.DemandLaws.{few_sinks}

@@ -1,4 +1,4 @@
-use Rattle.std.proofs.Common.{◌≡◌, ◌≤◌, ◌||◌, ◌∷◌, ℕ, Bool, true, false, List, Some, find, map, string_bytes, length, refl, sym, ap, ◌∙◌, arith, inl, inr, rules, tests}
+use Rattle.std.proofs.Common.{◌≡◌, ◌≤◌, ◌∷◌, ℕ, true, false, List, find, map, string_bytes, length, refl, sym, ap, ◌∙◌, arith, inr, rules, tests}
 use Rattle.std.specs.List.{list_any}
 use Rattle.std.specs.Str.{bytes_eq}
 use Rattle.std.proofs.Math.Bool.{or-true}
@@ -6,7 +6,8 @@ use Rattle.std.proofs.lemmas.Iterator.{YieldsList-from_slice}
 use Rattle.std.proofs.lemmas.Iterator.Search.{any_from_yields_List}
 use Rattle.std.proofs.lemmas.List.{length-map, take_all}
 use Rattle.top_base.specs.Making.{shares}
-use Rattle.top_nodes.proofs.NamingLaws.{find_here, find_later, is_among_inputs, shared_of_distinct}
+use Rattle.top_base.proofs.OutputLaws.{find_here, find_later, shared_of_distinct}
+use Rattle.top_nodes.proofs.NamingLaws.{is_among_inputs}
 use Rattle.top_nodes.proofs.naming.see_apart.Goals as goal
 use Rattle.top_nodes.proofs.naming.see_apart.Goals.{then-eq-via-then-eq, then-eq-via-else-eq+then-any}
 

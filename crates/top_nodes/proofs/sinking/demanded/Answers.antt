@@ -1,6 +1,7 @@
 use Rattle.std.proofs.Common.{◌≡◌, ◌<◌, ◌∷◌, [], ℕ, All, List, Option, Some, length, map, string_bytes, inl, inr, sym, subst, ap, ◌∙◌}
 use Rattle.std.specs.Option.{option_map}
 use Rattle.failure_patterns.specs.Demands.{number_of}
+use Rattle.link_streams.proofs.WantedLaws.{wanted_within}
 use Rattle.link_streams.specs.Gathering.{wanted_links}
 use Rattle.net_model.specs.declared.net.Net.{Net}
 use Rattle.node_program.specs.declared.code.Code.{Code}
@@ -10,7 +11,7 @@ use Rattle.top_base.specs.Given.{node_given_in}
 use Rattle.top_base.specs.Making.{shares}
 use Rattle.top_base.specs.Named.{pattern_named, sink_named}
 use Rattle.top_base.specs.Paths.{shared_path}
-use Rattle.top_nodes.proofs.SinkingLaws.{declined_named, demand_named, pattern_within, sink_within, wanted_within}
+use Rattle.top_nodes.proofs.SinkingLaws.{declined_named, demand_named, pattern_within, sink_within}
 use Rattle.top_nodes.specs.Files.{stream_paths}
 use Rattle.top_nodes.specs.Sink.{demand_in, links_in}
 use Rattle.top_nodes.proofs.sinking.demanded.Goals as goal

@@ -1,9 +1,10 @@
 use Rattle.std.proofs.Common.{◌≡◌, ◌<◌, All, length, sym, subst, ap, ◌∙◌, arith}
 use Rattle.failure_patterns.specs.Demands.{number_of}
+use Rattle.link_streams.proofs.WantedLaws.{wanted_within}
 use Rattle.link_streams.specs.Gathering.{wanted_links}
 use Rattle.node_program.specs.declared.code.Code.{Code}
 use Rattle.sink_decoder.specs.Receiving.{SinkPlan, sink_plan_of}
-use Rattle.top_nodes.proofs.SinkingLaws.{few_generations, wanted_within}
+use Rattle.top_nodes.proofs.ReadingLaws.{few_generations}
 use Rattle.top_nodes.specs.Files.{first_lacking}
 use Rattle.top_nodes.proofs.sinking.gathering.Goals as goal
 

@@ -1,12 +1,13 @@
 use Rattle.std.proofs.Common.{◌<◌, [], All, length, append-nil, subst, subst₂, sym, ap, ◌∙◌}
 use Rattle.command_steps.specs.Steps.{RunsOrForgets}
 use Rattle.lif_outside.proofs.CallLaws.{calls_of, calls_then, calls_weaker}
+use Rattle.link_streams.proofs.WantedLaws.{wanted_within}
 use Rattle.link_streams.specs.Gathering.{wanted_links}
 use Rattle.node_program.specs.declared.code.Code.{Code}
 use Rattle.sink_decoder.specs.Receiving.{sink_plan_of}
 use Rattle.top_base.specs.Given.{node_given_in}
-use Rattle.top_nodes.proofs.ReadingLaws.{HasLost}
-use Rattle.top_nodes.proofs.SinkingLaws.{HasReadAll, gathers_refused, links_read, through_declined, through_lost, through_read, wanted_within}
+use Rattle.top_nodes.proofs.ReadingLaws.{HasLost, HasReadAll, links_read}
+use Rattle.top_nodes.proofs.SinkingLaws.{gathers_refused, through_declined, through_lost, through_read}
 use Rattle.top_nodes.specs.Sink.{sink_gathers, sink_through}
 use Rattle.top_nodes.proofs.sinking.sink_over.Goals as goal
 

@@ -4,7 +4,7 @@ use Rattle.std.specs.Str.{bytes_eq}
 use Rattle.std.proofs.Math.Bool.{or-false}
 use Rattle.std.proofs.lemmas.List.{length-map, take_all}
 use Rattle.std.proofs.lemmas.Slice.Eq.{bytes_eq-Decides}
-use Rattle.top_runs.proofs.PathLaws.{shared_of_distinct, find_here, find_later}
+use Rattle.top_base.proofs.OutputLaws.{shared_of_distinct, find_here, find_later}
 use Rattle.top_runs.proofs.paths.shared_path.Goals as goal
 
 -- whether a path is one of two

@@ -1,4 +1,4 @@
-use Rattle.top_nodes.proofs.SinkingLaws.{generation_whole}
+use Rattle.top_nodes.proofs.ReadingLaws.{generation_whole}
 use Rattle.top_nodes.proofs.sinking.Sinking.decode.Goals as goal
 
 pub take-requires-clause-whole : goal.take-requires-clause-whole

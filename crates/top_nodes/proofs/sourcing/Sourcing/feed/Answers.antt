@@ -1,4 +1,4 @@
-use Rattle.std.specs.Prelude.{◌≤◌, ◌<◌, ◌+◌, ◌-◌, ◌*◌, ◌/◌, ℕ, drop, length, Ok}
+use Rattle.std.specs.Prelude.{◌≤◌, ◌<◌, ◌+◌, ◌-◌, ◌/◌, ℕ, drop, length, Ok}
 use Rattle.std.proofs.Common.{◌≡◌, ◌++◌, ◌∷◌, [], Contains, Err, List, take, refl, sym, ap, ◌∙◌, subst, arith, inr}
 use Rattle.command_steps.specs.Filling.{Fills}
 use Rattle.lif_outside.proofs.CallLaws.{calls_then, calls_weaker}

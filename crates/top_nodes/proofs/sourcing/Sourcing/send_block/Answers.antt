@@ -1,5 +1,5 @@
 use Rattle.std.specs.Prelude.{◌*◌}
-use Rattle.std.proofs.Common.{◌≡◌, ◌∷◌, [], length, map, slice_range, string_bytes, OnErr, OnOk, refl, sym, ap, ◌∙◌, subst, arith}
+use Rattle.std.proofs.Common.{◌≡◌, ◌∷◌, [], length, map, slice_range, string_bytes, OnErr, OnOk, ap, ◌∙◌, subst, arith}
 use Rattle.std.proofs.lemmas.List.{take_at}
 use Rattle.generation_frame.specs.Blocks.{block_of, row_bytes}
 use Rattle.lif_outside.specs.Calls.{MakesCalls}

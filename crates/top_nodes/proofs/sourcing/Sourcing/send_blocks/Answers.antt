@@ -1,11 +1,11 @@
-use Rattle.std.specs.Prelude.{◌≤◌, ◌<◌, ◌+◌, ◌*◌, min}
-use Rattle.std.proofs.Common.{◌≡◌, ◌++◌, ◌∷◌, [], Contains, take, slice_range, refl, sym, ap, ◌∙◌, subst, arith}
-use Rattle.generation_frame.specs.Blocks.{capacity, piece_of}
+use Rattle.std.specs.Prelude.{◌≤◌, ◌+◌, ◌*◌, min}
+use Rattle.std.proofs.Common.{◌≡◌, ◌++◌, ◌∷◌, [], Contains, take, sym, ap, ◌∙◌, subst, arith}
+use Rattle.generation_frame.specs.Blocks.{capacity}
 use Rattle.item_list.proofs.Results.{on_err}
 use Rattle.lif_outside.proofs.CallLaws.{calls_then}
 use Rattle.lif_outside.specs.FileCalls.{StopsWithin, appends_of}
 use Rattle.top_nodes.proofs.SourcingLaws.{next_turn, reaches, turns_more, turns_stop}
-use Rattle.top_nodes.specs.Sourcing.{job_of, piece_turn, size_of, turns_from}
+use Rattle.top_nodes.specs.Sourcing.{job_of, size_of, turns_from}
 use Rattle.top_nodes.proofs.sourcing.Sourcing.send_blocks.Goals as goal
 
 pub send_block-requires-clause-order : goal.send_block-requires-clause-order

@@ -4,7 +4,6 @@ use Rattle.item_list.proofs.Results.{on_err}
 use Rattle.lif_outside.proofs.CallLaws.{calls_of, calls_then, calls_weaker}
 use Rattle.lif_outside.specs.Events.{created, create_failed}
 use Rattle.lif_outside.specs.FileCalls.{StopsWithin, creates_of}
-use Rattle.lif_outside.specs.Sequences.{Are}
 use Rattle.top_nodes.proofs.RelayingLaws.{create_stops, created_more, created_there}
 use Rattle.top_nodes.specs.Working.{paths_of}
 use Rattle.top_nodes.proofs.working.Relaying.create_outputs.Goals as goal

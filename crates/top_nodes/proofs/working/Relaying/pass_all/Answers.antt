@@ -1,13 +1,12 @@
-use Rattle.std.proofs.Common.{◌≡◌, ◌∷◌, ◌∙◌, [], Contains, List, ap, inl, map, subst, sym}
+use Rattle.std.proofs.Common.{◌∷◌, ◌∙◌, [], Contains, ap, inl, map, subst, sym}
 use Rattle.std.specs.List.{range_with_len}
 use Rattle.command_steps.specs.Filling.{StopsFilling}
 use Rattle.item_list.proofs.Results.{on_err}
 use Rattle.lif_outside.proofs.CallLaws.{calls_then, calls_weaker}
 use Rattle.lif_outside.specs.FileCalls.{StopsWithin, appends_of}
-use Rattle.lif_outside.specs.Sequences.{Are}
 use Rattle.node_plans.specs.declared.plan.Plan.{Plan}
 use Rattle.top_nodes.proofs.RelayingLaws.{fills_more, fills_none, fills_stopped, ins_still, passed_turn, paths_still, plan_still, still_here, still_then, turn_still}
-use Rattle.top_nodes.proofs.SinkingLaws.{generation_whole}
+use Rattle.top_nodes.proofs.ReadingLaws.{generation_whole}
 use Rattle.top_nodes.specs.Working.{paths_of}
 use Rattle.top_nodes.proofs.working.Relaying.pass_all.Goals as goal
 

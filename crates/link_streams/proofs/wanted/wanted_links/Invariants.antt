@@ -1,7 +1,7 @@
 use Rattle.std.proofs.Common.{◌≡◌, take}
 use Rattle.std.specs.Prelude.{filter}
 use Rattle.node_program.specs.CodeValue.{is_live_in}
-use Rattle.top_nodes.proofs.sinking.links_wanted.Given as goal
+use Rattle.link_streams.proofs.wanted.wanted_links.Given as goal
 
 -- of the decoder's links before, those that are live
 abbrev pub invariant-loop-link : goal.invariant-loop-link

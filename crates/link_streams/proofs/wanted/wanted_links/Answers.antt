@@ -6,9 +6,9 @@ use Rattle.node_program.proofs.DecodingLaws.{decoder_of_demand}
 use Rattle.node_program.specs.CodeValue.{is_live_in}
 use Rattle.node_program.specs.declared.code.Code.{Code}
 use Rattle.sink_decoder.proofs.OpeningLaws.{links_within}
-use Rattle.top_nodes.proofs.SinkingLaws.{wanted_all, wanted_elsewhere, wanted_here}
-use Rattle.top_nodes.proofs.sinking.links_wanted.Goals as goal
-use Rattle.top_nodes.proofs.sinking.links_wanted.Goals.{then-at+in_ok-push, else-at}
+use Rattle.link_streams.proofs.WantedLaws.{wanted_all, wanted_elsewhere, wanted_here}
+use Rattle.link_streams.proofs.wanted.wanted_links.Goals as goal
+use Rattle.link_streams.proofs.wanted.wanted_links.Goals.{then-at+in_ok-push, else-at}
 
 pub at-decoder-requires : goal.at-decoder-requires
 at-decoder-requires c =

@@ -1,0 +1,136 @@
+"""What the nodes and sinks of a code write, each by itself, beside what its links carry by docs/FORMATS.md."""
+from __future__ import annotations
+
+import random
+from pathlib import Path
+from typing import Sequence
+
+import pytest
+
+from support import TOP, Program
+from lif_tools.formats import (
+    COUNT_BYTES,
+    ELEMENT_BYTES,
+    FRAME_BYTES,
+    PIECES,
+    ROW_BYTES,
+    Code,
+    Decoder,
+    Link,
+    Network,
+    Operand,
+    Pattern,
+    capacity,
+    generations,
+    live_links,
+    product_of,
+    read_code,
+    vectors_of,
+    write_code,
+)
+
+DATA = TOP / "crates/worked_cases/data"
+NONE = Pattern("none", ())
+
+
+def times(field: int, element: int, row: bytes) -> bytes:
+    """A row times an element."""
+    product, size = product_of(field), ELEMENT_BYTES[field]
+    if size == 1:
+        return row.translate(bytes(product(element, other) for other in range(256)))
+    parts = (int.from_bytes(row[at : at + size], "big") for at in range(0, len(row), size))
+    return b"".join(product(element, part).to_bytes(size, "big") for part in parts)
+
+
+def sum_of(rows: Sequence[bytes]) -> bytes:
+    """The sum of rows, in each of the fields."""
+    total = 0
+    for row in rows:
+        total ^= int.from_bytes(row, "big")
+    return total.to_bytes(len(rows[0]), "big")
+
+
+def blocks_of(rate: int, source: bytes) -> list[bytes]:
+    room = capacity(rate)
+    parts = [source[number * room : (number + 1) * room] for number in range(generations(rate, len(source)))]
+    return [(len(part).to_bytes(COUNT_BYTES, "big") + part).ljust(rate * ROW_BYTES, b"\0") for part in parts]
+
+
+def stream_of(link: int, rows: Sequence[bytes]) -> bytes:
+    """The frames of a link that carries these rows, one of each generation."""
+    size = ROW_BYTES // PIECES
+    return b"".join(
+        b"LF\1" + bytes([piece]) + link.to_bytes(4, "big") + number.to_bytes(4, "big") + row[piece * size :][:size]
+        for number, row in enumerate(rows)
+        for piece in range(PIECES)
+    )
+
+
+def streams_of(code: Code, pattern: int, source: bytes) -> dict[str, bytes]:
+    """The stream of each live link, by the link's name."""
+    live, vectors, found = live_links(code, pattern), vectors_of(code, pattern), {}
+    places = range(0, code.rate * ROW_BYTES, ROW_BYTES)
+    blocks = [[block[at : at + ROW_BYTES] for at in places] for block in blocks_of(code.rate, source)]
+    for number, link in enumerate(code.network.links):
+        if live[number]:
+            sums = [sum_of([times(code.field, *pair) for pair in zip(vectors[number], rows)]) for rows in blocks]
+            found[link.name] = stream_of(number, sums)
+    return found
+
+
+def mixed(stream: bytes, seed: int) -> bytes:
+    """The frames of a stream in another order, some of them twice."""
+    chance = random.Random(seed)
+    frames = [stream[at : at + FRAME_BYTES] for at in range(0, len(stream), FRAME_BYTES)]
+    frames += chance.choices(frames, k=len(frames) // 3)
+    chance.shuffle(frames)
+    return b"".join(frames)
+
+
+def run_nodes(program: Program, folder: Path, code: Code, pattern: int, source: bytes) -> None:
+    """Runs each node and each sink over mixed streams, and compares what they write."""
+    network, wanted = code.network, streams_of(code, pattern, source)
+    named = ("code", network.patterns[pattern].name)
+    (folder / "code").write_bytes(write_code(code))
+    (folder / "source").write_bytes(source)
+    for seed, (name, stream) in enumerate(wanted.items()):
+        (folder / f"in.{name}").write_bytes(mixed(stream, seed))
+    for number, node in enumerate(network.nodes):
+        given = "source" if number == network.source else "in"
+        done = program("relay", *named, node, given, "out", cwd=folder)
+        assert done.returncode == 0, (node, done.stdout)
+    made = {path.name.removeprefix("out."): path.read_bytes() for path in folder.glob("out.*")}
+    assert sorted(made) == sorted(wanted)
+    assert [name for name, stream in made.items() if stream != wanted[name]] == []
+    for sink in network.sinks:
+        done = program("sink", *named, network.nodes[sink], "in", "got", cwd=folder)
+        assert done.stdout == f"received {len(source)} bytes in {generations(code.rate, len(source))} generations\n"
+        assert (folder / "got").read_bytes() == source
+
+
+@pytest.mark.parametrize(
+    "name", ["butterfly", "doubled-one-link", "fan-nine", "many-rows", "two-ways", "wide-butterfly", "wide-many-rows"]
+)
+def test_each_node_writes_what_its_links_carry(program: Program, tmp_path: Path, name: str) -> None:
+    code = read_code((DATA / f"{name}.lif").read_bytes())
+    for pattern in range(len(code.network.patterns)):
+        folder = tmp_path / str(pattern)
+        folder.mkdir()
+        length = capacity(code.rate) * 2 + 1000 - pattern
+        run_nodes(program, folder, code, pattern, random.Random(pattern).randbytes(length))
+
+
+def test_a_node_with_8191_links_in(program: Program, tmp_path: Path) -> None:
+    """What its one link out carries is the sum of what all bring, each times its coefficient."""
+    count = 8191
+    links = (*(Link(f"l{number}", 0, 1) for number in range(count)), Link("z", 1, 2))
+    ways = tuple(Operand(number, number % 255 + 1) for number in range(count))
+    sources = tuple((Operand(0, number % 251 + 1),) for number in range(count))
+    network = Network(("s", "m", "t"), links, 0, (2,), (NONE,))
+    product = product_of(8)
+    factor = 0
+    for way, (of_source,) in zip(ways, sources):
+        factor ^= product(way.times, of_source.times)
+    inverse = next(element for element in range(256) if product(element, factor) == 1)
+    code = Code(network, 8, 1, (*sources, ways), (Decoder((count,), [inverse]),))
+    run_nodes(program, tmp_path, code, 0, b"over each of 8,191 links" * 50)
