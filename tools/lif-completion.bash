@@ -79,13 +79,14 @@ _lif_tool() {
     local tool=${COMP_WORDS[0]##*/} word=${COMP_WORDS[COMP_CWORD]} before=${COMP_WORDS[COMP_CWORD - 1]} told value
     COMPREPLY=()
     case $tool,$before in
-    lif-estimate,--pattern) _lif_patterns "$word" "$(_lif_given .lif)" ;;
+    lif-estimate,--pattern | lif-plan,--pattern) _lif_patterns "$word" "$(_lif_given .lif)" ;;
     *,--pattern) _lif_words "$word" "none $(_lif_names pattern)" ;;
     lif-draw,--sink) _lif_words "$word" "$(_lif_names sink)" ;;
     lif-draw,--report) _lif_files "$word" .txt ;;
     lif-draw,--code) _lif_files "$word" .lif ;;
     lif-draw,-o) _lif_files "$word" .svg .png .pdf ;;
     lif-import,-o) _lif_files "$word" .net ;;
+    lif-plan,--places) _lif_files "$word" "" ;;
     *)
         told=$("$(_lif_path "${COMP_WORDS[0]}")" --help 2>/dev/null)
         # What an option takes: its choices are offered, and nothing else of which nothing is known.
@@ -97,7 +98,7 @@ _lif_tool() {
         else
             case $tool in
             lif-import) _lif_files "$word" .graphml .xml .gml .dot .gv .json ;;
-            lif-estimate) _lif_files "$word" .lif ;;
+            lif-estimate | lif-plan) _lif_files "$word" .lif ;;
             *) _lif_files "$word" .net ;;
             esac
         fi
@@ -106,4 +107,4 @@ _lif_tool() {
 }
 
 complete -F _lif lif
-complete -F _lif_tool lif-draw lif-estimate lif-gain lif-import
+complete -F _lif_tool lif-draw lif-estimate lif-gain lif-import lif-plan

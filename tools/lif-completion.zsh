@@ -1,4 +1,4 @@
-#compdef lif lif-draw lif-estimate lif-gain lif-import
+#compdef lif lif-draw lif-estimate lif-gain lif-import lif-plan
 # Completion of zsh for lif and its tools: words, files, and the patterns and sinks of networks and codes. It goes as _lif to a
 # folder of fpath; the patterns of codes need lif-estimate on the path.
 
@@ -45,7 +45,7 @@ _lif_tool() {
     local word=$words[CURRENT] before=$words[CURRENT-1] value
     local -a told codes options choices
     case ${words[1]:t},$before in
-    lif-estimate,--pattern)
+    lif-estimate,--pattern | lif-plan,--pattern)
         codes=(${(M)words:#*.lif})
         _lif_patterns $codes[1]
         ;;
@@ -55,6 +55,7 @@ _lif_tool() {
     lif-draw,--code) _files -g '*.lif' ;;
     lif-draw,-o) _files -g '*.(svg|png|pdf)' ;;
     lif-import,-o) _files -g '*.net' ;;
+    lif-plan,--places) _files ;;
     *)
         told=(${(f)"$(${~words[1]} --help 2>/dev/null)"})
         # What an option takes: its choices are offered, and nothing else of which nothing is known.
@@ -69,7 +70,7 @@ _lif_tool() {
         else
             case ${words[1]:t} in
             lif-import) _files -g '*.(graphml|xml|gml|dot|gv|json)' ;;
-            lif-estimate) _files -g '*.lif' ;;
+            lif-estimate | lif-plan) _files -g '*.lif' ;;
             *) _files -g '*.net' ;;
             esac
         fi

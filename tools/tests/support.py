@@ -28,7 +28,7 @@ from lif_tools.formats import Link, Network, Pattern, Refused  # noqa: E402
 
 
 # The module of each tool.
-MODULES = {"lif-draw": "draw", "lif-estimate": "estimate", "lif-gain": "gain", "lif-import": "importing"}
+MODULES = {"lif-draw": "draw", "lif-estimate": "estimate", "lif-gain": "gain", "lif-import": "importing", "lif-plan": "plan"}
 
 
 def run_tool(name: str, *words: object, **options: Any) -> subprocess.CompletedProcess[str]:

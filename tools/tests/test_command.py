@@ -19,12 +19,13 @@ NET, CODE = EXAMPLES / "butterfly/butterfly.net", EXAMPLES / "butterfly/butterfl
 POLSKA = EXAMPLES / "polska/polska.graphml"
 
 # The words with which each tool is called, behind its input.
-INPUTS: dict[str, Path] = {"lif-draw": NET, "lif-estimate": CODE, "lif-gain": NET, "lif-import": POLSKA}
+INPUTS: dict[str, Path] = {"lif-draw": NET, "lif-estimate": CODE, "lif-gain": NET, "lif-import": POLSKA, "lif-plan": CODE}
 MORE: dict[str, list[object]] = {
     "lif-draw": ["--code", CODE, "-o", "-"],
     "lif-estimate": ["--bytes", 1000],
     "lif-gain": [],
     "lif-import": ["--format", "graphml", "--source", "Bydgoszcz", "--sinks", "Gdansk,Katowice", "--orient=flow", "-o", "-"],
+    "lif-plan": [],
 }
 NAMES = sorted(INPUTS)
 PACKAGES = {"lif-gain": "scipy", "lif-import": "networkx"}

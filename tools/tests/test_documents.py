@@ -130,6 +130,7 @@ def test_output_follows_from_the_input_alone(top: Path) -> None:
         ["lif-draw", top / "examples/polska/polska.net", "-o", "-"],
         ["lif-gain", top / "examples/butterfly/butterfly.net"],
         ["lif-estimate", top / "examples/butterfly/butterfly.lif", "--bytes", "1"],
+        ["lif-plan", top / "examples/butterfly/butterfly.lif"],
     ]
     for call in calls:
         name, *words = call

@@ -97,7 +97,7 @@ def completed_by_zsh(folder: Path, *words: str) -> list[str]:
     return sorted(filter(None, done.stdout.splitlines()))
 
 
-DRAW, IMPORT, ESTIMATE = (str(TOOLS / f"lif-{name}") for name in ("draw", "import", "estimate"))
+DRAW, IMPORT, ESTIMATE, PLAN = (str(TOOLS / f"lif-{name}") for name in ("draw", "import", "estimate", "plan"))
 NET = "source s\nsink t\nsink u # far\nlink l s t\nlink k s u\npattern duct l\n"
 
 # The words, and what is offered for the last one: names, and the endings of files.
@@ -107,6 +107,8 @@ OFFERED = [
     ((DRAW, "two.net", "--code", ""), ["my code.lif", "old"], "*.lif"),
     ((ESTIMATE, "my\\ code.lif", "--pattern", ""), ["duct", "dust", "none"], ""),
     ((ESTIMATE, ""), ["my code.lif", "old"], "*.lif"),
+    ((PLAN, "my\\ code.lif", "--pattern", ""), ["duct", "dust", "none"], ""),
+    ((PLAN, ""), ["my code.lif", "old"], "*.lif"),
     ((ESTIMATE, "--bytes", ""), [], ""),
     ((IMPORT, "--field", ""), ["16", "8"], ""),
     ((IMPORT, "--format", ""), ["dot", "gml", "graphml", "json"], ""),
@@ -121,6 +123,7 @@ def test_words_of_the_tools_are_completed(folder: Path) -> None:
     options = set(re.findall(r"--[a-z-]+", run_tool("lif-draw", "--help").stdout.split("positional")[0])) | {"--help"}
     assert set(completed(folder, DRAW, "two.net", "--")) == options
     assert completed(folder, DRAW, "--l") == ["--live"]
+    assert completed(folder, PLAN, "my\\ code.lif", "--places", "n") == ["notes.txt"]
 
 
 def test_zsh_completes_the_words_of_the_tools(folder: Path) -> None:
@@ -130,6 +133,7 @@ def test_zsh_completes_the_words_of_the_tools(folder: Path) -> None:
     for words, offered, files in OFFERED:
         assert (words, completed_by_zsh(folder, *words)) == (words, [f"files {files}"] if files else offered)
     assert completed_by_zsh(folder, DRAW, "-") == sorted(completed(folder, DRAW, "--"))
+    assert completed_by_zsh(folder, PLAN, "my\\ code.lif", "--places", "") == ["files "]
     assert completed_by_zsh(folder, "lif", "") == completed(folder, "lif", "")
     assert completed_by_zsh(folder, "lif", "migrate", "a.lif", "") == ["files *.lif"]
     assert completed_by_zsh(folder, "lif", "send", "my\\ code.lif", "") == ["duct", "dust", "none"]
