@@ -1,4 +1,4 @@
-"""Slurm on this machine alone: its daemons on loopback, with a key, ports and files of their own, for the tests."""
+"""Slurm on this machine alone: a controller and three machines on loopback, with a key, ports and files of their own."""
 from __future__ import annotations
 
 import contextlib
@@ -14,13 +14,12 @@ import time
 from pathlib import Path
 from typing import Callable, Iterable, Iterator
 
-# The daemons with the packages of Debian that have them.
-DAEMONS = {"munged": "munge", "slurmctld": "slurmctld", "slurmd": "slurmd", "sbatch": "slurm-client"}
-SBIN = "/usr/sbin"
+# The programs that are needed, with the packages of Debian that have them.
+PROGRAMS = {"munged": "munge", "slurmctld": "slurmctld", "slurmd": "slurmd", "sbatch": "slurm-client"}
+FOLDERS = f"{os.environ.get('PATH', '')}:/usr/sbin"
 MACHINES = ("n1", "n2", "n3")
-# In seconds: how long is waited for what has to come, and how often it is looked for.
-PATIENCE = 60.0
-LOOKED_EACH = 0.1
+# In seconds: how long is waited for what has to come, how often it is looked for, and how long for a daemon that is to end.
+PATIENCE, LOOKED_EACH, ENDING = 60.0, 0.1, 5.0
 
 CONF = """\
 ClusterName=lif
@@ -35,8 +34,6 @@ StateSaveLocation={room}/state
 SlurmdSpoolDir={room}/%n
 SlurmctldPidFile={room}/slurmctld.pid
 SlurmdPidFile={room}/%n.pid
-SlurmctldLogFile={room}/slurmctld.log
-SlurmdLogFile={room}/%n.log
 ProctrackType=proctrack/linuxproc
 TaskPlugin=task/none
 MpiDefault=none
@@ -53,29 +50,27 @@ PARTITION = "PartitionName=all Nodes=ALL Default=YES MaxTime=INFINITE\n"
 
 
 def missing() -> list[str]:
-    """The packages whose daemons aren't here."""
-    return [package for name, package in DAEMONS.items() if found(name) is None]
-
-
-def found(name: str) -> str | None:
-    return shutil.which(name, path=f"{os.environ.get('PATH', '')}:{SBIN}")
+    """The packages whose programs aren't here."""
+    return [package for name, package in PROGRAMS.items() if shutil.which(name, path=FOLDERS) is None]
 
 
 def wait_for(holds: Callable[[], bool], what: str) -> None:
     """Waits until something holds."""
     end = time.monotonic() + PATIENCE
     while not holds():
-        assert time.monotonic() < end, f"{what} didn't come within {PATIENCE:.0f} s"
+        assert time.monotonic() < end, f"{what}: it didn't come within {PATIENCE:.0f} s"
         time.sleep(LOOKED_EACH)
 
 
 def free_ports(count: int) -> list[int]:
-    """Ports of this machine that nothing listens at."""
-    with contextlib.ExitStack() as held:
-        sockets = [held.enter_context(socket.socket()) for _ in range(count)]
-        for one in sockets:
-            one.bind(("127.0.0.1", 0))
-        return [int(one.getsockname()[1]) for one in sockets]
+    """Ports of this machine at which nothing listens."""
+    sockets = [socket.socket() for _ in range(count)]
+    for one in sockets:
+        one.bind(("127.0.0.1", 0))
+    ports = [int(one.getsockname()[1]) for one in sockets]
+    for one in sockets:
+        one.close()
+    return ports
 
 
 def parent_of(number: int) -> int:
@@ -87,89 +82,104 @@ def parent_of(number: int) -> int:
 
 
 def kill(numbers: Iterable[int]) -> None:
-    """Kills processes that may have ended."""
+    """Kills processes, of which some may have ended."""
     for number in numbers:
         with contextlib.suppress(ProcessLookupError):
             os.kill(number, signal.SIGKILL)
 
 
 class Slurm:
-    """A controller and three machines. `env` is the environment in which its commands find it."""
+    """A controller and three machines. `env` is the environment in which the commands of Slurm find them."""
 
     def __init__(self, room: Path) -> None:
         self.room = room
-        self.env = {**os.environ, "SLURM_CONF": str(room / "slurm.conf"), "CI": "true"}
+        self.conf = room / "slurm.conf"
+        # With CI Snakemake asks for its jobs each second.
+        self.env = {**os.environ, "SLURM_CONF": str(self.conf), "CI": "true"}
         self.running: dict[str, subprocess.Popen[bytes]] = {}
 
     def start(self) -> None:
-        key = self.room / "munge.key"
+        key = self.room / "key"
         key.write_bytes(secrets.token_bytes(128))
         key.chmod(0o600)
         (self.room / "state").mkdir()
         ports = free_ports(1 + len(MACHINES))
         machines = [MACHINE.format(name=name, port=port) for name, port in zip(MACHINES, ports[1:])]
         conf = CONF.format(room=self.room, user=getpass.getuser(), ports=ports)
-        (self.room / "slurm.conf").write_text(conf + "".join(machines) + PARTITION)
-        files = {"key-file": "munge.key", "socket": "munge.socket", "pid-file": "munge.pid", "seed-file": "seed", "log-file": "munge.log"}
-        self.daemon("munged", "munged", "--foreground", "--force", *(f"--{word}={self.room / name}" for word, name in files.items()))
+        self.conf.write_text(conf + "".join(machines) + PARTITION)
+        names = {"key-file": "key", "socket": "munge.socket", "pid-file": "pid", "seed-file": "seed", "log-file": "log"}
+        files = [f"--{word}={self.room / name}" for word, name in names.items()]
+        self.daemon("munged", "munged", "--foreground", "--force", *files)
         wait_for((self.room / "munge.socket").exists, "munged")
         self.daemon("slurmctld", "slurmctld", "-D")
         for name in MACHINES:
-            self.machine(name)
-        wait_for(lambda: self.ask("sinfo", "-h", "-o", "%T") == "idle", "a machine that is idle")
-
-    def machine(self, name: str) -> None:
-        """Starts a machine, anew where it was lost."""
-        self.daemon(name, "slurmd", "-D", "-N", name)
+            self.boot(name)
+        wait_for(lambda: set(self.ask("sinfo", "-h", "-N", "-o", "%T").split()) == {"idle"}, "idle machines")
 
     def daemon(self, name: str, program: str, *words: str) -> None:
         with open(self.room / f"{name}.said", "ab") as said:
             self.running[name] = subprocess.Popen(
-                [found(program) or program, *words], env=self.env, stdin=subprocess.DEVNULL, stdout=said, stderr=said
+                [shutil.which(program, path=FOLDERS) or program, *words],
+                env=self.env,
+                stdin=subprocess.DEVNULL,
+                stdout=said,
+                stderr=said,
             )
 
-    def ask(self, *words: str) -> str:
-        """What a command of Slurm says, without its last line's end."""
-        done = subprocess.run(words, env=self.env, capture_output=True, text=True, check=False)
-        return (done.stdout + done.stderr).rstrip("\n")
+    def boot(self, name: str) -> None:
+        self.daemon(name, "slurmd", "-D", "-N", name)
 
-    def lose(self, name: str) -> None:
-        """Kills a machine's daemon, and then its jobs: first what watches over them, so that nothing tells how they ended."""
+    @contextlib.contextmanager
+    def lost(self, name: str) -> Iterator[None]:
+        """A machine is away until the end of the block. Its daemon is killed, and then its jobs: first what watches over these,
+        so that nothing tells how they ended."""
         daemon = self.running.pop(name)
         daemon.kill()
         daemon.wait()
-        jobs = self.processes(name)
+        jobs = self.processes(f"SLURMD_NODENAME={name}")
         kill([*sorted({parent_of(number) for number in jobs} - {0, 1, *jobs}), *jobs])
+        try:
+            yield
+        finally:
+            self.boot(name)
 
-    def processes(self, name: str | None = None) -> list[int]:
-        """The numbers of the processes of all jobs, or of those of a machine, by their environment."""
-        wanted = [f"SLURM_CONF={self.room}/slurm.conf".encode()] + ([f"SLURMD_NODENAME={name}".encode()] if name else [])
+    def ask(self, *words: str) -> str:
+        """What a command of Slurm says."""
+        done = subprocess.run(words, env=self.env, capture_output=True, text=True, check=False)
+        return (done.stdout + done.stderr).strip()
+
+    def processes(self, *variables: str) -> list[int]:
+        """The numbers of the processes that were started with this Slurm's environment, and variables of it."""
+        wanted = {variable.encode() for variable in (f"SLURM_CONF={self.conf}", *variables)}
         numbers = []
         for path in Path("/proc").glob("[0-9]*/environ"):
             with contextlib.suppress(OSError):
-                if set(wanted) <= set(path.read_bytes().split(b"\0")) and int(path.parent.name) != os.getpid():
+                if wanted <= set(path.read_bytes().split(b"\0")):
                     numbers.append(int(path.parent.name))
         return numbers
 
     def end(self) -> None:
-        """Ends all that was started."""
-        self.ask("scancel", "--user", getpass.getuser(), "--signal=KILL")
+        """Ends all that was started: the daemons, and what is left of jobs."""
+        for daemon in reversed(self.running.values()):
+            daemon.terminate()
         for daemon in self.running.values():
-            daemon.kill()
-            daemon.wait()
-        for number in self.processes():
-            with contextlib.suppress(ProcessLookupError):
-                os.kill(number, signal.SIGKILL)
+            try:
+                daemon.wait(ENDING)
+            except subprocess.TimeoutExpired:
+                daemon.kill()
+                daemon.wait()
+        while left := self.processes():
+            kill(left)
+            time.sleep(LOOKED_EACH)
 
 
 @contextlib.contextmanager
 def slurm() -> Iterator[Slurm]:
     """Slurm, until the end of the block. Its folder has a short path, since sockets take no long one."""
-    room = Path(tempfile.mkdtemp(prefix="lif-slurm-"))
-    made = Slurm(room)
+    made = Slurm(Path(tempfile.mkdtemp(prefix="lif-slurm-")))
     try:
         made.start()
         yield made
     finally:
         made.end()
-        shutil.rmtree(room, ignore_errors=True)
+        shutil.rmtree(made.room, ignore_errors=True)
