@@ -310,7 +310,8 @@ def test_a_node_that_no_folder_can_be_named_after(fly: Run, name: str) -> None:
 def word_of(folder: Path, said: str, status: int) -> str:
     """The word for a job of which Slurm says something."""
     scontrol = folder / "scontrol"
-    scontrol.write_text(f'#!/bin/sh\n[ "$*" = "--oneliner show job 7" ] || exit 2\necho "{said}" >&{1 + status}\nexit {status}\n')
+    call = '[ "$*" = "--oneliner show job 7" ] || exit 2'
+    scontrol.write_text(f'#!/bin/sh\n{call}\necho "{said}" >&{1 + status}\nexit {status}\n')
     scontrol.chmod(0o755)
     done = ended([CLUSTER / "status", 7], env={"PATH": f"{folder}:/usr/bin:/bin"})
     assert (done.returncode, done.stderr) == (0, "")

@@ -4,11 +4,12 @@ from __future__ import annotations
 import importlib
 import os
 import re
+import shutil
 from pathlib import Path
 
 import pytest
 
-from documents import check_commands
+from documents import check_commands, commands
 from support import MODULES, TOOLS, TOP, Program, run_command, run_tool
 
 DOCUMENTS = ["README.md", "docs/TUTORIAL.md", "docs/lif.1", "tools/README.md"]
@@ -16,7 +17,10 @@ DOCUMENTS = ["README.md", "docs/TUTORIAL.md", "docs/lif.1", "tools/README.md"]
 
 @pytest.mark.parametrize("document", DOCUMENTS)
 def test_commands_say_what_the_document_shows(program: Program, top: Path, document: str) -> None:
-    check_commands(document, top)
+    if shutil.which("snakemake") is None and any(command.startswith("snakemake ") for command, _ in commands(document)):
+        pytest.skip("there is no program snakemake; on Debian: apt-get install snakemake")
+    # Snakemake keeps files in the folder of caches.
+    check_commands(document, top, env={**os.environ, "XDG_CACHE_HOME": str(top / "cache")})
 
 
 def test_the_table_of_gains(program: Program, top: Path) -> None:
