@@ -6,20 +6,21 @@ import getpass
 import os
 import secrets
 import shutil
-import signal
 import socket
 import subprocess
 import tempfile
 import time
 from pathlib import Path
-from typing import Callable, Iterable, Iterator
+from typing import Callable, Iterator
+
+from keeping import LOOKED_EACH, kill, marked
 
 # The programs that are needed, with the packages of Debian that have them.
 PROGRAMS = {"munged": "munge", "slurmctld": "slurmctld", "slurmd": "slurmd", "sbatch": "slurm-client"}
 FOLDERS = f"{os.environ.get('PATH', '')}:/usr/sbin"
 MACHINES = ("n1", "n2", "n3")
-# In seconds: how long is waited for what has to come, how often it is looked for, and how long for a daemon that is to end.
-PATIENCE, LOOKED_EACH, ENDING = 60.0, 0.1, 5.0
+# In seconds: how long is waited for what has to come, and for a daemon that is to end.
+PATIENCE, ENDING = 60.0, 5.0
 
 CONF = """\
 ClusterName=lif
@@ -81,21 +82,14 @@ def parent_of(number: int) -> int:
         return 0
 
 
-def kill(numbers: Iterable[int]) -> None:
-    """Kills processes, of which some may have ended."""
-    for number in numbers:
-        with contextlib.suppress(ProcessLookupError):
-            os.kill(number, signal.SIGKILL)
-
-
 class Slurm:
     """A controller and three machines. `env` is the environment in which the commands of Slurm find them."""
 
-    def __init__(self, room: Path) -> None:
+    def __init__(self, room: Path, env: dict[str, str]) -> None:
         self.room = room
         self.conf = room / "slurm.conf"
         # With CI Snakemake asks for its jobs each second.
-        self.env = {**os.environ, "SLURM_CONF": str(self.conf), "CI": "true"}
+        self.env = {**env, "SLURM_CONF": str(self.conf), "CI": "true"}
         self.running: dict[str, subprocess.Popen[bytes]] = {}
 
     def start(self) -> None:
@@ -136,7 +130,7 @@ class Slurm:
         daemon = self.running.pop(name)
         daemon.kill()
         daemon.wait()
-        jobs = self.processes(f"SLURMD_NODENAME={name}")
+        jobs = marked(f"SLURM_CONF={self.conf}", f"SLURMD_NODENAME={name}")
         kill([*sorted({parent_of(number) for number in jobs} - {0, 1, *jobs}), *jobs])
         try:
             yield
@@ -148,18 +142,8 @@ class Slurm:
         done = subprocess.run(words, env=self.env, capture_output=True, text=True, check=False)
         return (done.stdout + done.stderr).strip()
 
-    def processes(self, *variables: str) -> list[int]:
-        """The numbers of the processes that were started with this Slurm's environment, and variables of it."""
-        wanted = {variable.encode() for variable in (f"SLURM_CONF={self.conf}", *variables)}
-        numbers = []
-        for path in Path("/proc").glob("[0-9]*/environ"):
-            with contextlib.suppress(OSError):
-                if wanted <= set(path.read_bytes().split(b"\0")):
-                    numbers.append(int(path.parent.name))
-        return numbers
-
     def end(self) -> None:
-        """Ends all that was started: the daemons, and what is left of jobs."""
+        """Ends the daemons, and what is left of jobs."""
         for daemon in reversed(self.running.values()):
             daemon.terminate()
         for daemon in self.running.values():
@@ -168,15 +152,13 @@ class Slurm:
             except subprocess.TimeoutExpired:
                 daemon.kill()
                 daemon.wait()
-        while left := self.processes():
-            kill(left)
-            time.sleep(LOOKED_EACH)
+        kill(marked(f"SLURM_CONF={self.conf}"))
 
 
 @contextlib.contextmanager
-def slurm() -> Iterator[Slurm]:
+def slurm(env: dict[str, str]) -> Iterator[Slurm]:
     """Slurm, until the end of the block. Its folder has a short path, since sockets take no long one."""
-    made = Slurm(Path(tempfile.mkdtemp(prefix="lif-slurm-")))
+    made = Slurm(Path(tempfile.mkdtemp(prefix="lif-slurm-")), env)
     try:
         made.start()
         yield made

@@ -8,13 +8,15 @@ import re
 import shutil
 import signal
 import subprocess
+import sys
 import time
 from pathlib import Path
-from typing import Iterator
+from typing import Any, Iterator
 
 import pytest
 
 from documents import check_commands
+from keeping import kept, marked
 from slurm import MACHINES, Slurm, missing, slurm, wait_for
 from support import EXAMPLES, Program, combination_text, ended, find_program, run_tool
 
@@ -42,16 +44,14 @@ CUT = """{lif} "$@"
     done
     kill -KILL $$"""
 HANG = "exec sleep 600"
-# Brings the first half of the file of one link, and is killed; all else as it should be.
+# Brings files, with its calls noted. The first time it brings a part of the file of one link, and is killed.
 CARRIED = """\
 #!/bin/sh
-echo "carry ${{1##*/L.}}" >>{room}/calls
-case $1/$(grep -c "^carry {link}$" {room}/calls) in
-*/L.{link}/1)
+echo "carry ${{1##*/L.}} ${{2##*/}} ${{SLURMD_NODENAME-}}" >>{room}/calls
+if [ "${{1##*/L.}}" = {link} ] && [ "$(grep -c "^carry {link} " {room}/calls)" = 1 ]; then
     head --bytes=1000 "$1" >"$2"
     kill -KILL $$
-    ;;
-esac
+fi
 exec cp "$1" "$2"
 """
 
@@ -59,14 +59,14 @@ exec cp "$1" "$2"
 class Run:
     """A folder with a source and a plan, in which Snakemake runs the nodes of a code."""
 
-    def __init__(self, folder: Path, code: Path, *words: object) -> None:
+    def __init__(self, folder: Path, env: dict[str, str], code: Path, *words: object) -> None:
         self.folder = folder
         folder.mkdir(exist_ok=True)
         (folder / "source").write_bytes(SOURCE)
         (folder / "plan.json").write_text(run_tool("lif-plan", code, *words).stdout)
         self.config: dict[str, object] = {"plan": "plan.json", "code": code, "src": "source", "lif": find_program()}
         # Snakemake keeps files in the folder of caches.
-        self.env = {**os.environ, "XDG_CACHE_HOME": str(folder / "cache")}
+        self.env = {**env, "XDG_CACHE_HOME": str(folder / "cache")}
         self.words: list[object] = ["--cores", "2"]
 
     def script(self, name: str, text: str, **parts: object) -> Path:
@@ -116,6 +116,13 @@ class Run:
         with self.started(*words) as process:
             return process.wait(LIMIT)
 
+    def plan(self) -> Any:
+        return json.loads((self.folder / "plan.json").read_text())
+
+    def hosts(self) -> dict[str, str]:
+        """The machine of each node that does something."""
+        return {one["name"]: one["host"] for one in self.plan()["nodes"] + self.plan()["sinks"]}
+
     def said(self) -> str:
         return (self.folder / "said").read_text()
 
@@ -134,25 +141,28 @@ class Run:
         return [*self.received().values()] == [SOURCE] * sinks
 
 
-@pytest.fixture(autouse=True)
-def snakemake() -> None:
+@pytest.fixture(scope="module")
+def env() -> Iterator[dict[str, str]]:
+    """The environment in which Snakemake is started, with which all ends that it starts."""
     if shutil.which("snakemake") is None:
         pytest.skip("there is no program snakemake; on Debian: apt-get install snakemake")
+    with kept() as made:
+        yield made
 
 
 @pytest.fixture(scope="module")
-def cluster() -> Iterator[Slurm]:
+def cluster(env: dict[str, str]) -> Iterator[Slurm]:
     packages = missing()
     if packages:
         pytest.skip(f"there is no Slurm; on Debian: apt-get install {' '.join(packages)}")
-    with slurm() as made:
+    with slurm(env) as made:
         yield made
 
 
 @pytest.fixture
-def fly(program: Program, tmp_path: Path) -> Run:
+def fly(program: Program, env: dict[str, str], tmp_path: Path) -> Run:
     """The butterfly, with all calls noted."""
-    run = Run(tmp_path / "run", BUTTERFLY)
+    run = Run(tmp_path / "run", env, BUTTERFLY)
     run.note()
     return run
 
@@ -170,22 +180,41 @@ def rest(run: Run) -> None:
     assert run.calls() == ["relay d", "sink t1", "sink t2"]
 
 
+KEPT = """
+import keeping, subprocess
+with keeping.kept() as env:
+    subprocess.run(["sleep", "600"], env={**env, "ROOM": room})
+"""
+
+
+def test_what_is_started_ends_where_the_tests_are_killed(tmp_path: Path) -> None:
+    words = [sys.executable, "-c", f"room = {str(tmp_path)!r}{KEPT}"]
+    with subprocess.Popen(words, cwd=Path(__file__).parent) as tests:
+        try:
+            wait_for(lambda: marked(f"ROOM={tmp_path}") != [], "what is started")
+        finally:
+            tests.kill()
+    wait_for(lambda: marked(f"ROOM={tmp_path}") == [], "its end")
+
+
 # On this machine
 
 
 @pytest.mark.parametrize(
     "network, pattern", [("butterfly", "none"), ("regional", "none"), ("regional", "duct-2"), ("regional", "ring")]
 )
-def test_what_is_received_is_what_send_writes(program: Program, tmp_path: Path, network: str, pattern: str) -> None:
+def test_what_is_received_is_what_send_writes(
+    program: Program, env: dict[str, str], tmp_path: Path, network: str, pattern: str
+) -> None:
     code = tmp_path / "made.lif"
     assert program("compile", EXAMPLES / network / f"{network}.net", code, tmp_path / "report").returncode == 0
-    run = Run(tmp_path / "run", code, "--pattern", pattern)
+    run = Run(tmp_path / "run", env, code, "--pattern", pattern)
     assert run.run() == 0
     assert program("send", code, pattern, 1, run.folder / "source", tmp_path / "sent").returncode == 0
     sent = {path.suffix.removeprefix("."): path.read_bytes() for path in tmp_path.glob("sent.*")}
     assert run.received() == sent and set(sent.values()) == {SOURCE}
     # Nothing is left to do, and no file stands beside those of the plan.
-    plan = json.loads((run.folder / "plan.json").read_text())
+    plan = run.plan()
     assert run.run() == 0 and "Nothing to be done" in run.said()
     wanted = {f"{node['name']}/out/L.{link}" for node in plan["nodes"] for link in node["out"]}
     wanted |= {f"{node['name']}/in/L.{link}" for node in plan["nodes"] for link in node["in"]}
@@ -194,35 +223,33 @@ def test_what_is_received_is_what_send_writes(program: Program, tmp_path: Path, 
     assert {str(path.relative_to(nodes)) for path in nodes.glob("*/*/[!.]*")} == wanted
 
 
-@pytest.mark.parametrize("node, left", [("d", ["relay d", "sink t1", "sink t2"]), ("t1", ["sink t1"])])
-def test_a_job_that_is_killed_in_the_middle(fly: Run, node: str, left: list[str]) -> None:
+@pytest.mark.parametrize("call, made", [("relay d", "nodes/d/out"), ("sink t1", "received/t1")])
+def test_a_job_that_is_killed_in_the_middle(fly: Run, call: str, made: str) -> None:
+    rule, node = call.split()
     fly.note(node, times=2)
-    assert fly.run("--retries", 2) == 0
-    call = left[0]
-    assert fly.calls().count(call) == 3 and fly.is_received()
+    assert fly.run("--retries", 2) == 0 and fly.is_received()
+    assert fly.calls().count(call) == 3
     # Without retries each run fails, and the next one does what is missing.
     shutil.rmtree(fly.folder / "nodes")
     shutil.rmtree(fly.folder / "received")
     for _ in range(2):
-        assert fly.run() == 1
-        assert f"Error in rule {call.split()[0]}" in fly.said()
-        assert not (fly.folder / "nodes/d/out").exists() or node != "d"
-        assert not (fly.folder / "received/t1").exists()
+        assert fly.run() == 1 and f"Error in rule {rule}" in fly.said()
+        assert not (fly.folder / made).exists() and "t1" not in fly.received()
     fly.calls()
-    fly.note(node, times=0)
-    assert fly.run() == 0
-    assert set(left) - {"sink t2"} <= set(fly.calls()) <= set(left) and fly.is_received()
+    fly.note()
+    assert fly.run() == 0 and fly.is_received()
+    calls = set(fly.calls())
+    assert call in calls and calls <= {call, "sink t1", "sink t2"}
 
 
 def test_what_carries_is_killed_in_the_middle(fly: Run) -> None:
-    """The command of `carry` brings each file; of one that it brought in part the next job sees nothing."""
+    """It brings each file to another name, so that the next job sees nothing of one that was brought in part."""
     fly.config["carry"] = fly.script("carried", CARRIED, link="c-d")
     assert fly.run() == 1
     assert not (fly.folder / "nodes/d/in/L.c-d").exists() and not fly.received()
     assert fly.run() == 0 and fly.is_received()
-    plan = json.loads((fly.folder / "plan.json").read_text())
-    carried = [f"carry {link['name']}" for link in plan["links"]]
-    assert [call for call in fly.calls() if call.startswith("carry")] == sorted([*carried, "carry c-d"])
+    carried = [f"carry {link['name']} part.{link['name']}" for link in fly.plan()["links"]]
+    assert [call for call in fly.calls() if call.startswith("carry")] == sorted([*carried, "carry c-d part.c-d"])
 
 
 def test_snakemake_that_is_killed(fly: Run) -> None:
@@ -286,12 +313,12 @@ def test_a_payload_that_is_changed_is_not_seen(fly: Run) -> None:
     assert sorted(fly.received()) == ["t1", "t2"] and SOURCE not in fly.received().values()
 
 
-def test_a_large_plan_is_dried(program: Program, tmp_path: Path) -> None:
+def test_a_large_plan_is_dried(program: Program, env: dict[str, str], tmp_path: Path) -> None:
     """Of a network with a sink behind each two of 23 middle nodes."""
     (tmp_path / "fan.net").write_text(combination_text(23, 2))
     assert program("compile", tmp_path / "fan.net", tmp_path / "fan.lif", tmp_path / "report").returncode == 0
     begun = time.monotonic()
-    run = Run(tmp_path / "run", tmp_path / "fan.lif")
+    run = Run(tmp_path / "run", env, tmp_path / "fan.lif")
     assert run.run("--dry-run") == 0
     assert time.monotonic() - begun < 10
     assert re.search(r"^total +807 ", run.said(), re.MULTILINE)
@@ -349,11 +376,6 @@ def place(run: Run, *names: str) -> None:
     (run.folder / "plan.json").write_text(run_tool("lif-plan", BUTTERFLY, "--places", run.folder / "places").stdout)
 
 
-def hosts(run: Run) -> dict[str, str]:
-    plan = json.loads((run.folder / "plan.json").read_text())
-    return {one["name"]: one["host"] for one in plan["nodes"] + plan["sinks"]}
-
-
 def job_of(cluster: Slurm, run: Run, call: str) -> str:
     """The number of the job that makes a call of the program, once it does."""
     wait_for(lambda: call in (run.folder / "calls").read_text(), call)
@@ -369,12 +391,15 @@ def state_of(cluster: Slurm, job: str) -> str:
 
 @pytest.mark.slow
 def test_each_job_runs_on_its_machine(placed: Run, cluster: Slurm) -> None:
+    """A link is brought by that of its head."""
+    placed.config["carry"] = placed.script("carried", CARRIED, link="-")
     with placed.on(cluster):
         assert placed.run() == 0 and placed.is_received()
-    of = hosts(placed)
+    of, links = placed.hosts(), placed.plan()["links"]
     assert set(of.values()) == set(MACHINES)
-    called = [f"relay {node} {of[node]}" for node in "sabcd"] + [f"sink {sink} {of[sink]}" for sink in ("t1", "t2")]
-    assert placed.calls() == sorted(called)
+    calls = [f"relay {node} {of[node]}" for node in "sabcd"] + [f"sink {sink} {of[sink]}" for sink in ("t1", "t2")]
+    calls += [f"carry {link['name']} part.{link['name']} {of[link['head']]}" for link in links]
+    assert placed.calls() == sorted(calls)
 
 
 @pytest.mark.slow
@@ -407,12 +432,12 @@ def test_a_machine_that_is_lost(placed: Run, cluster: Slurm) -> None:
     placed.note("c", times=1, trouble=HANG)
     with placed.on(cluster), placed.started("nodes/c/out", "--retries", 1) as process:
         job = job_of(cluster, placed, "relay c")
-        with cluster.lost(hosts(placed)["c"]):
+        with cluster.lost(placed.hosts()["c"]):
             wait_for(lambda: "ReqNodeNotAvail" in cluster.ask("squeue", "-h", "-o", "%r"), "a job that waits")
             assert state_of(cluster, job) == "NODE_FAIL"
             assert process.poll() is None and not (placed.folder / "nodes/c/out").exists()
         assert process.wait(LIMIT) == 0
-    assert placed.calls() == [f"relay c {hosts(placed)['c']}"] * 2
+    assert placed.calls() == [f"relay c {placed.hosts()['c']}"] * 2
     rest(placed)
 
 
@@ -420,13 +445,14 @@ def test_a_machine_that_is_lost(placed: Run, cluster: Slurm) -> None:
 def test_a_machine_that_stays_away(placed: Run, cluster: Slurm) -> None:
     """Ctrl-C ends the run with the job that waits, and a plan with other places goes on."""
     middle(placed)
-    with cluster.lost(hosts(placed)["c"]), placed.on(cluster):
+    away = placed.hosts()["c"]
+    with cluster.lost(away), placed.on(cluster):
         with placed.started("nodes/c/out") as process:
             wait_for(lambda: cluster.ask("squeue", "-h", "-o", "%r") != "", "a job that waits")
             process.send_signal(signal.SIGINT)
             assert process.wait(LIMIT) == 1
         wait_for(lambda: cluster.ask("squeue", "-h") == "", "no job")
-        (other, *_) = (name for name in MACHINES if name != hosts(placed)["c"])
+        other = next(name for name in MACHINES if name != away)
         place(placed, other)
         # The job that was ended counts as a try.
         assert placed.run("nodes/c/out", "--retries", 1) == 0
