@@ -62,9 +62,9 @@ class Run:
     def __init__(self, folder: Path, env: dict[str, str], code: Path, *words: object) -> None:
         self.folder = folder
         folder.mkdir(exist_ok=True)
-        (folder / "source").write_bytes(SOURCE)
+        (folder / "the source").write_bytes(SOURCE)
         (folder / "plan.json").write_text(run_tool("lif-plan", code, *words).stdout)
-        self.config: dict[str, object] = {"plan": "plan.json", "code": code, "src": "source", "lif": find_program()}
+        self.config: dict[str, object] = {"plan": "plan.json", "code": code, "src": "the source", "lif": find_program()}
         # Snakemake keeps files in the folder of caches.
         self.env = {**env, "XDG_CACHE_HOME": str(folder / "cache")}
         self.words: list[object] = ["--cores", "2"]
@@ -206,11 +206,11 @@ def test_what_is_started_ends_where_the_tests_are_killed(tmp_path: Path) -> None
 def test_what_is_received_is_what_send_writes(
     program: Program, env: dict[str, str], tmp_path: Path, network: str, pattern: str
 ) -> None:
-    code = tmp_path / "made.lif"
+    code = tmp_path / "the code.lif"
     assert program("compile", EXAMPLES / network / f"{network}.net", code, tmp_path / "report").returncode == 0
     run = Run(tmp_path / "run", env, code, "--pattern", pattern)
     assert run.run() == 0
-    assert program("send", code, pattern, 1, run.folder / "source", tmp_path / "sent").returncode == 0
+    assert program("send", code, pattern, 1, run.folder / "the source", tmp_path / "sent").returncode == 0
     sent = {path.suffix.removeprefix("."): path.read_bytes() for path in tmp_path.glob("sent.*")}
     assert run.received() == sent and set(sent.values()) == {SOURCE}
     # Nothing is left to do, and no file stands beside those of the plan.
