@@ -180,5 +180,5 @@ def test_the_man_page_has_every_word_and_every_status() -> None:
         word, *names = form.split()
         assert f".Cm {word}\n.Ar {' '.join(names)}\n" in page()
     statuses = STATUSES.findall((TOP / "docs/FORMATS.md").read_text())
-    assert len(statuses) == 16
+    assert len(statuses) == 19
     assert [number for _, number in statuses] == re.findall(r"^\.It (\d+)$", page(), re.MULTILINE)
