@@ -33,6 +33,7 @@ FORMS = {
     "sink": ("CODE", "PATTERN", "SINK", "IN", "DST"),
 }
 INPUTS = ("NET", "CODE", "SRC", "OLD")
+NODE_COMMANDS = ("relay", "sink")
 NUMBERS = ("SEED", "N", "K", "BYTES")
 
 # The statuses, as docs/FORMATS.md has them.
@@ -147,7 +148,7 @@ class Call:
 
     def inputs(self) -> list[str]:
         named = INPUTS[:1] if self.command == "compile" else INPUTS
-        return [self.given[name] for name in named if name in self.given]
+        return [self.given[name] for name in named if name in self.given] + self.node_files()[0]
 
     def outputs(self) -> list[str]:
         """The files that are made, in order. Of `send` there are none where its code can't be read here."""
@@ -158,6 +159,8 @@ class Call:
             return [given["CODE"], given["REPORT"]]
         if self.command == "migrate" and given:
             return [given["NEW"]]
+        if self.command in NODE_COMMANDS and given:
+            return self.node_files()[1]
         if self.command != "send" or not given:
             return []
         try:
@@ -165,6 +168,27 @@ class Call:
         except Refused:
             return []
         return [f"{given['PREFIX']}.{sink}" for sink in sinks]
+
+    def node_files(self) -> tuple[list[str], list[str]]:
+        """What `relay` or `sink` reads beside CODE, and what it makes, in order, where its code can be read here."""
+        if self.command not in NODE_COMMANDS or not self.given:
+            return [], []
+        from lif_tools.formats import Refused, links_read, links_written, read_code
+
+        code, pattern, node, read, written = self.words[1:]
+        content = content_of(code, MOST_READ_AGAIN + 1)
+        outputs = [written] if self.command == "sink" else []
+        try:
+            if len(content) > MOST_READ_AGAIN:
+                return [], outputs
+            known = read_code(content)
+            if self.command == "sink":
+                return [f"{read}.{link}" for link in links_read(known, pattern, node, is_sink=True)], outputs
+            inputs = [f"{read}.{link}" for link in links_read(known, pattern, node)]
+            outputs = [f"{written}.{link}" for link in links_written(known, pattern, node)]
+            return ([read] if node == known.network.nodes[known.network.source] else inputs), outputs
+        except (Refused, ValueError):
+            return [], outputs
 
     def is_written(self, path: str) -> bool:
         """Whether a regular file was written to since the program began."""
@@ -206,7 +230,7 @@ def cause(call: Call, status: int) -> str | None:
     if status == WRITE_FAULT:
         return output_cause(call)
     if status == TOO_LONG:
-        return length_cause(given)
+        return length_cause(call)
     if status == OUT_OF_MEMORY:
         return "the system gave no more memory, or this process may have no more (`ulimit -v`)"
     if status == SAME_PATH:
@@ -313,13 +337,20 @@ def output_cause(call: Call) -> str:
     return f"{whole}standard output took no more"
 
 
-def length_cause(given: dict[str, str]) -> str | None:
-    from lif_tools.formats import MOST_CODE_BYTES, MOST_SOURCE_BYTES, MOST_TEXT_BYTES
+def length_cause(call: Call) -> str | None:
+    from lif_tools.formats import MOST_CODE_BYTES, MOST_RELAYED_BYTES, MOST_SOURCE_BYTES, MOST_STREAM_BYTES, MOST_TEXT_BYTES
 
+    given = call.given
     for name, most in zip(INPUTS, (MOST_TEXT_BYTES, MOST_CODE_BYTES, MOST_SOURCE_BYTES, MOST_CODE_BYTES)):
         size = size_of(given.get(name, ""))
         if size is not None and size > most:
             return f"{given[name]}: {size:,} bytes, and at most {most:,} are read"
+    if call.command in NODE_COMMANDS:
+        inputs = call.node_files()[0]
+        total = sum(size_of(path) or 0 for path in inputs)
+        if inputs == [given["IN"]]:
+            return f"{given['IN']}: {total:,} bytes, and at most {MOST_RELAYED_BYTES:,} are relayed"
+        return f"{listed(inputs)}: {total:,} bytes together, and at most {MOST_STREAM_BYTES:,} are read"
     if size_of(given.get("OLD", "")) is not None:
         return f"{given['OLD']}: in version 2 its code has more than {MOST_CODE_BYTES:,} bytes, and a code file at most so many"
     return None
@@ -334,7 +365,8 @@ def beginnings(call: Call) -> str | None:
         what = "only a beginning" if length is not None else "perhaps only a beginning"
         return f"{what} of {call.given['SRC']} stands in {listed(short)}" if short else None
     # The code is whole where the report was begun.
-    return f"perhaps only a beginning stands in {written[-1]}" if written else None
+    begun = written[-1:] if call.command == "compile" else written
+    return f"perhaps only a beginning stands in {listed(begun)}" if begun else None
 
 
 # Progress

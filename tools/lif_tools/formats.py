@@ -25,6 +25,9 @@ MOST_SHOWN = 100
 MOST_TEXT_BYTES = 4_194_304
 MOST_CODE_BYTES = 268_435_456
 MOST_SOURCE_BYTES = 1_099_511_627_776
+# Of a source that `relay` reads, and of the streams that it or `sink` reads, together.
+MOST_RELAYED_BYTES = 67_108_864
+MOST_STREAM_BYTES = 268_435_456
 
 # How many demands the field of so many bits serves, of those that a network text may ask for.
 DEMANDS_SERVED = {8: 256, 16: 65_536}
@@ -723,6 +726,26 @@ def live_links(code: Code, pattern: int) -> list[bool]:
             and any(link.tail == network.source or live[operand.origin] for operand in code.operands[number])
         )
     return live
+
+
+def _pattern_named(network: Network, name: str) -> int:
+    return [pattern.name for pattern in network.patterns].index(name)
+
+
+def links_read(code: Code, pattern: str, node: str, is_sink: bool = False) -> list[str]:
+    """The names of the live links into a node, or of those that the sink there decodes. An unknown name is a ValueError."""
+    network, failed = code.network, _pattern_named(code.network, pattern)
+    number, live = network.nodes.index(node), live_links(code, failed)
+    links: Iterable[int] = (place for place, link in enumerate(network.links) if link.head == number)
+    if is_sink:
+        links = code.decoders[network.demand(network.sinks.index(number), failed)].links
+    return [network.links[link].name for link in links if live[link]]
+
+
+def links_written(code: Code, pattern: str, node: str) -> list[str]:
+    """The names of the live links out of a node. An unknown name is a ValueError."""
+    live, number = live_links(code, _pattern_named(code.network, pattern)), code.network.nodes.index(node)
+    return [link.name for place, link in enumerate(code.network.links) if link.tail == number and live[place]]
 
 
 def vectors_of(code: Code, pattern: int) -> list[Vector]:

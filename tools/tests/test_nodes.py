@@ -22,6 +22,7 @@ from lif_tools.formats import (
     Pattern,
     capacity,
     generations,
+    links_written,
     live_links,
     product_of,
     read_code,
@@ -101,6 +102,7 @@ def run_nodes(program: Program, folder: Path, code: Code, pattern: int, source: 
         assert done.returncode == 0, (node, done.stdout)
     made = {path.name.removeprefix("out."): path.read_bytes() for path in folder.glob("out.*")}
     assert sorted(made) == sorted(wanted)
+    assert sorted(made) == sorted(name for node in network.nodes for name in links_written(code, named[1], node))
     assert [name for name, stream in made.items() if stream != wanted[name]] == []
     for sink in network.sinks:
         done = program("sink", *named, network.nodes[sink], "in", "got", cwd=folder)
