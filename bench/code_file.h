@@ -27,6 +27,7 @@ struct operand {
 };
 
 struct link {
+    char *name;
     unsigned tail;
     unsigned head;
     bool has_failed;
@@ -133,7 +134,7 @@ static void take_links(struct code *code, struct bytes *rest) {
     code->link_count = take_below(rest, 2, MOST_LINKS + 1);
     code->links = room(code->link_count, sizeof *code->links);
     for (unsigned link = 0; link < code->link_count; link++) {
-        free(take_name(rest));
+        code->links[link].name = take_name(rest);
         code->links[link].tail = take_below(rest, 2, code->node_count);
         code->links[link].head = take_below(rest, 2, code->node_count);
     }

@@ -18,6 +18,12 @@ migrate_rounds=5
 frame_rounds=20
 frames_each=500000
 
+# How often a node and a sink are run over files by the program and by C, how many generations all streams have together that are
+# passed on, and how many appends there are where many links lead out.
+node_rounds=5
+node_generations=239674
+node_appends=204800
+
 # How often each network text is gone through by the program and by C++, and how often each size is taken where there are many.
 net_rounds=15
 size_rounds=5
@@ -55,7 +61,7 @@ size_bytes="1024 4096 16384 65536 262144 1048576 4194304 16777216 67108864"
 # Once around, with short sources and few sizes.
 be_quick() {
     copy_rounds=1 row_rounds=1 code_rounds=1 read_rounds=1 check_rounds=1 migrate_rounds=1 frame_rounds=1 net_rounds=1
-    size_rounds=1 alone_rounds=1
+    size_rounds=1 alone_rounds=1 node_rounds=1 node_generations=4000 node_appends=10240
     frames_each=50000 source_bytes=4194304 layer_bytes=65536
     alone_links=250 size_layers="2 4 8" size_patterns="0 3 15" size_bytes="1024 16384 262144"
 }
@@ -153,6 +159,7 @@ build() {
         codes) cc -O2 -o "$folder/codes" "$top/bench/codes.c" ;;
         c-rows) cc -O2 -o "$folder/c-rows" "$top/bench/rows.c" -lisal ;;
         c-frames) cc -O3 -march="$own_level" -o "$folder/c-frames" "$top/bench/frames.c" -lisal ;;
+        c-nodes) cc -O3 -o "$folder/c-nodes" "$top/bench/nodes.c" -lisal ;;
         c-send) cc -O3 -o "$folder/c-send" "$top/bench/send_frames.c" -lisal ;;
         c-check) cc -O3 -march="$own_level" -o "$folder/c-check" "$top/bench/check.c" ;;
         cpp-*) c++ -std=c++17 -O3 -o "$folder/$name" "$top/bench/${name#cpp-}.cpp" ;;
@@ -708,4 +715,115 @@ measure_bytes() {
     "$folder/codes" fan 8 8 16 16 8 0 >"$files/code"
     send_lengths "the fan of field 8" 16
     rm "$files/source"
+}
+
+# Runs a node or a sink, with so many files that may be open, and keeps under a name the least of its times. What it makes is at
+# that name.
+declare -A node_time
+run_node() {
+    local name=$1
+    shift
+    time_command with_handles "$@" "$made.$name"
+    node_time[$name]=$(least "${node_time[$name]:-}" "$elapsed")
+}
+
+with_handles() {
+    (ulimit -n 2048 && exec "$@")
+}
+
+# Compares what the program and C made, and removes it.
+compare_made() {
+    local path
+    for path in "$made".lif*; do
+        cmp "$path" "$made.c${path#"$made.lif"}"
+        rm "$path" "$made.c${path#"$made.lif"}"
+    done
+    for path in "$made".*; do
+        [ ! -e "$path" ] || fail "C makes a file more than the program: $path"
+    done
+}
+
+# Runs a node or a sink by the program and by C in turn, and notes the least times, and the program's memory beside so many bytes
+# that it reads. The words from the third one on are those of `lif`, but for the last one. What is made is at `made`.
+measure_node() {
+    local line=$1 bytes=$2 round
+    shift 2
+    node_time=()
+    for ((round = 0; round < node_rounds; round++)); do
+        run_node lif "$program" "$@"
+        run_node c "$folder/c-nodes" "$@"
+        compare_made
+    done
+    note "$line" "" ms 1000000 "${node_time[lif]}" "${node_time[c]}" "C with ISA-L"
+    /usr/bin/time -q -f %M -o "$folder/memory" "$program" "$@" "$made" >"$folder/log" || fail "$(cat "$folder/log")"
+    rm "$made"*
+    note "memory for $line" "" MB 1000000 $(($(cat "$folder/memory") * 1024)) "$bytes" "the bytes that are read"
+}
+
+# The bytes of the files of links into a node or sink.
+bytes_in() {
+    cat "$files"/in.* | wc -c
+}
+
+# Runs a node or a sink over the files of links as they are, and then with the frames of each from the last one on. The words are
+# those of `measure_node` without the number of bytes.
+measure_turned() {
+    local line=$1 path
+    shift
+    measure_node "$line" "$(bytes_in)" "$@"
+    for path in "$files"/in.*; do
+        "$folder/c-nodes" turned "$path" >"$files/turned"
+        mv "$files/turned" "$path"
+    done
+    measure_node "$line, in reverse" "$(bytes_in)" "$@"
+    rm "$files"/in.*
+}
+
+# Makes the files of these links, with so many generations in each.
+make_streams() {
+    local generations=$1 link
+    shift
+    for link in "$@"; do "$folder/c-nodes" frames "$link" "$generations" >"$files/in.l$link"; done
+}
+
+# Passes streams on at a node with so many links out, onto the disk.
+measure_outs() {
+    "$folder/codes" node "$1" >"$files/code"
+    make_streams $((node_appends / $1)) 0 1
+    measure_node "\`relay\` of a node with $(commas "$1") links out, on a disk" "$(bytes_in)" relay "$files/code" none n1 "$files/in"
+    rm "$files"/in.*
+}
+
+measure_nodes() {
+    local made=$files/made
+    build codes c-nodes
+    make_source
+    "$folder/codes" butterfly >"$files/code"
+    make_streams $((node_generations / 2)) 3 4
+    measure_turned "\`relay\` of the middle of the butterfly" relay "$files/code" none n3 "$files/in"
+    "$folder/codes" fan 8 8 16 16 8 0 >"$files/code"
+    make_streams "$node_generations" 0
+    measure_turned "\`relay\` of a node of the fan of field 8" relay "$files/code" none n1 "$files/in"
+    cp "$folder/source" "$files/source"
+    measure_node "\`relay\` of the source of the fan of field 8" "$source_bytes" relay "$files/code" none n0 "$files/source"
+    gather_streams
+    measure_turned "\`sink\` of the fan of field 8" sink "$files/code" none t0 "$files/in"
+    rm "$files/source"
+    made=$folder/made
+    measure_outs 512
+    measure_outs 1024
+}
+
+# Makes the files of the links into the first sink of the fan, of the source, by C.
+gather_streams() {
+    local node
+    "$folder/c-nodes" relay "$files/code" none n0 "$files/source" "$files/sent"
+    for node in 1 2 3 4 5 6 7 8; do
+        "$folder/c-nodes" relay "$files/code" none "n$node" "$files/sent" "$files/passed"
+    done
+    for node in 16 17 18 19 20 21 22 23; do mv "$files/passed.l$node" "$files/in.l$node"; done
+    rm "$files"/sent.* "$files"/passed.*
+    "$folder/c-nodes" sink "$files/code" none t0 "$files/in" "$files/got"
+    cmp "$files/source" "$files/got"
+    rm "$files/got"
 }
