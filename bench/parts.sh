@@ -743,11 +743,11 @@ compare_made() {
     done
 }
 
-# Runs a node or a sink by the program and by C in turn, and notes the least times, and the program's memory beside so many bytes
-# that it reads. The words from the third one on are those of `lif`, but for the last one. What is made is at `made`.
+# Runs a node or a sink by the program and by C in turn, and notes the least times. The words from the second one on are those of
+# `lif`, but for the last one. What is made is at `made`.
 measure_node() {
-    local line=$1 bytes=$2 round
-    shift 2
+    local line=$1 round
+    shift
     node_time=()
     for ((round = 0; round < node_rounds; round++)); do
         run_node lif "$program" "$@"
@@ -755,6 +755,13 @@ measure_node() {
         compare_made
     done
     note "$line" "" ms 1000000 "${node_time[lif]}" "${node_time[c]}" "C with ISA-L"
+}
+
+# The same, and then the program's memory beside so many bytes that it reads.
+measure_node_memory() {
+    local line=$1 bytes=$2
+    shift 2
+    measure_node "$line" "$@"
     /usr/bin/time -q -f %M -o "$folder/memory" "$program" "$@" "$made" >"$folder/log" || fail "$(cat "$folder/log")"
     rm "$made"*
     note "memory for $line" "" MB 1000000 $(($(cat "$folder/memory") * 1024)) "$bytes" "the bytes that are read"
@@ -766,16 +773,16 @@ bytes_in() {
 }
 
 # Runs a node or a sink over the files of links as they are, and then with the frames of each from the last one on. The words are
-# those of `measure_node` without the number of bytes.
+# those of `measure_node`.
 measure_turned() {
     local line=$1 path
     shift
-    measure_node "$line" "$(bytes_in)" "$@"
+    measure_node_memory "$line" "$(bytes_in)" "$@"
     for path in "$files"/in.*; do
         "$folder/c-nodes" turned "$path" >"$files/turned"
         mv "$files/turned" "$path"
     done
-    measure_node "$line, in reverse" "$(bytes_in)" "$@"
+    measure_node_memory "$line, in reverse" "$(bytes_in)" "$@"
     rm "$files"/in.*
 }
 
@@ -790,7 +797,7 @@ make_streams() {
 measure_outs() {
     "$folder/codes" node "$1" >"$files/code"
     make_streams $((node_appends / $1)) 0 1
-    measure_node "\`relay\` of a node with $(commas "$1") links out, on a disk" "$(bytes_in)" relay "$files/code" none n1 "$files/in"
+    measure_node "\`relay\` of a node with $(commas "$1") links out, on a disk" relay "$files/code" none n1 "$files/in"
     rm "$files"/in.*
 }
 
@@ -805,7 +812,7 @@ measure_nodes() {
     make_streams "$node_generations" 0
     measure_turned "\`relay\` of a node of the fan of field 8" relay "$files/code" none n1 "$files/in"
     cp "$folder/source" "$files/source"
-    measure_node "\`relay\` of the source of the fan of field 8" "$source_bytes" relay "$files/code" none n0 "$files/source"
+    measure_node_memory "\`relay\` of the source of the fan of field 8" "$source_bytes" relay "$files/code" none n0 "$files/source"
     gather_streams
     measure_turned "\`sink\` of the fan of field 8" sink "$files/code" none t0 "$files/in"
     rm "$files/source"
