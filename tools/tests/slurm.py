@@ -2,8 +2,8 @@
 from __future__ import annotations
 
 import contextlib
-import getpass
 import os
+import pwd
 import secrets
 import shutil
 import socket
@@ -21,6 +21,8 @@ FOLDERS = f"{os.environ.get('PATH', '')}:/usr/sbin"
 MACHINES = ("n1", "n2", "n3")
 # In seconds: how long is waited for what has to come, and for a daemon that is to end.
 PATIENCE, ENDING = 60.0, 5.0
+# How many letters are shown of what a daemon said, where a test fails.
+MOST_SHOWN = 2000
 
 CONF = """\
 ClusterName=lif
@@ -99,7 +101,7 @@ class Slurm:
         (self.room / "state").mkdir()
         ports = free_ports(1 + len(MACHINES))
         machines = [MACHINE.format(name=name, port=port) for name, port in zip(MACHINES, ports[1:])]
-        conf = CONF.format(room=self.room, user=getpass.getuser(), ports=ports)
+        conf = CONF.format(room=self.room, user=pwd.getpwuid(os.getuid()).pw_name, ports=ports)
         self.conf.write_text(conf + "".join(machines) + PARTITION)
         names = {"key-file": "key", "socket": "munge.socket", "pid-file": "pid", "seed-file": "seed", "log-file": "log"}
         files = [f"--{word}={self.room / name}" for word, name in names.items()]
@@ -164,4 +166,6 @@ def slurm(env: dict[str, str]) -> Iterator[Slurm]:
         yield made
     finally:
         made.end()
+        for path in sorted(made.room.glob("*.said")):
+            print(f"{path.stem} said:\n{path.read_text()[-MOST_SHOWN:]}")
         shutil.rmtree(made.room, ignore_errors=True)

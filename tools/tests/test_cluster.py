@@ -443,12 +443,12 @@ def test_a_machine_that_is_lost(placed: Run, cluster: Slurm) -> None:
 
 @pytest.mark.slow
 def test_a_machine_that_stays_away(placed: Run, cluster: Slurm) -> None:
-    """Ctrl-C ends the run with the job that waits, and a plan with other places goes on."""
+    """Ctrl-C ends the run with its jobs, and a plan with other places goes on."""
     middle(placed)
     away = placed.hosts()["c"]
     with cluster.lost(away), placed.on(cluster):
         with placed.started("nodes/c/out") as process:
-            wait_for(lambda: cluster.ask("squeue", "-h", "-o", "%r") != "", "a job that waits")
+            wait_for(lambda: "external jobid" in placed.said() and cluster.ask("squeue", "-h") != "", "a job")
             process.send_signal(signal.SIGINT)
             assert process.wait(LIMIT) == 1
         wait_for(lambda: cluster.ask("squeue", "-h") == "", "no job")
