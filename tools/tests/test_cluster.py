@@ -293,6 +293,19 @@ def test_a_stream_that_is_changed_on_the_way_is_refused(fly: Run, place: int | N
     rest(fly)
 
 
+def test_a_stream_that_its_node_has_wrong_is_made_anew(fly: Run) -> None:
+    middle(fly)
+    tail, head = fly.folder / "nodes/a/out", fly.folder / "nodes/c/in/L.a-c"
+    (tail / "L.a-c").write_bytes(b"")
+    head.unlink()
+    assert fly.run() == 1 and (fly.folder / "logs/relay.c").read_text() == "stream refused: a-c Missing 0 0\n"
+    head.unlink()
+    shutil.rmtree(tail)
+    fly.calls()
+    assert fly.run() == 0 and fly.is_received()
+    assert fly.calls() == ["relay a", "relay c", "relay d", "sink t1", "sink t2"]
+
+
 def test_streams_that_are_cut_alike_are_refused_by_the_sink(fly: Run) -> None:
     middle(fly)
     assert fly.run("nodes/t1/in/L.a-t1", "nodes/t1/in/L.d-t1") == 0
@@ -300,6 +313,9 @@ def test_streams_that_are_cut_alike_are_refused_by_the_sink(fly: Run) -> None:
         path.write_bytes(path.read_bytes()[:-GENERATION_BYTES])
     assert fly.run("received/t1") == 1 and not fly.received()
     assert (fly.folder / "logs/sink.t1").read_text() == f"bad blocks: generation {GENERATIONS - 2} count 2044\n"
+    assert fly.run("received/t2") == 0
+    shutil.rmtree(fly.folder / "nodes")
+    assert fly.run() == 0 and fly.is_received()
 
 
 def test_a_payload_that_is_changed_is_not_seen(fly: Run) -> None:
