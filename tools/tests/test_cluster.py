@@ -268,25 +268,27 @@ def test_snakemake_that_is_killed(fly: Run) -> None:
     assert fly.calls() == ["relay c", "relay c", "relay d", "sink t1", "sink t2"]
 
 
-@pytest.mark.parametrize(
-    "place, cut, line",
-    [
-        (140, 0, "a-c BadFrame 140"),
-        (147, 0, "a-c OtherLink 140"),
-        (None, 1, f"a-c BadLength {GENERATIONS * GENERATION_BYTES - 1}"),
-        (None, GENERATION_BYTES, f"a-c Missing {GENERATIONS - 1} 0"),
-    ],
-)
-def test_a_stream_that_is_changed_on_the_way_is_refused(fly: Run, place: int | None, cut: int, line: str) -> None:
+# What is done to the stream of a link: the place of a byte that is changed, or how many bytes are cut off; and what is said.
+CHANGES = [
+    (140, 0, "BadFrame 140"),
+    (147, 0, "OtherLink 140"),
+    (None, 1, f"BadLength {GENERATIONS * GENERATION_BYTES - 1}"),
+    (None, GENERATION_BYTES, f"Missing {GENERATIONS - 1} 0"),
+]
+
+
+def test_a_stream_that_is_changed_on_the_way_is_refused(fly: Run) -> None:
     middle(fly)
     path = fly.folder / "nodes/c/in/L.a-c"
-    stream = bytearray(path.read_bytes())
-    if place is not None:
-        stream[place] ^= 1
-    path.write_bytes(stream[: len(stream) - cut])
-    assert fly.run("--retries", 1) == 1
-    assert fly.calls() == ["relay c"] * 2 and not fly.received()
-    assert (fly.folder / "logs/relay.c").read_text() == f"stream refused: {line}\n"
+    whole = path.read_bytes()
+    for place, cut, line in CHANGES:
+        stream = bytearray(whole[: len(whole) - cut])
+        if place is not None:
+            stream[place] ^= 1
+        path.write_bytes(stream)
+        assert fly.run("--retries", 1) == 1
+        assert fly.calls() == ["relay c"] * 2 and not fly.received()
+        assert (fly.folder / "logs/relay.c").read_text() == f"stream refused: a-c {line}\n"
     # What to do then: the file is taken away, and the same command goes on.
     path.unlink()
     assert fly.run("nodes/c/out") == 0
