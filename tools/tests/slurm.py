@@ -20,7 +20,7 @@ PROGRAMS = {"munged": "munge", "slurmctld": "slurmctld", "slurmd": "slurmd", "sb
 FOLDERS = f"{os.environ.get('PATH', '')}:/usr/sbin"
 MACHINES = ("n1", "n2", "n3")
 # In seconds: how long is waited for what has to come, and for a daemon that is to end.
-PATIENCE, ENDING = 60.0, 5.0
+PATIENCE, ENDING = 120.0, 5.0
 # How many letters are shown of what a daemon said, where a test fails.
 MOST_SHOWN = 2000
 

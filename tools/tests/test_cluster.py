@@ -26,7 +26,7 @@ BUTTERFLY = EXAMPLES / "butterfly/butterfly.lif"
 SOURCE = bytes((167 * place + 13 * (place // 256) + 5) % 256 for place in range(20_000))
 GENERATIONS, GENERATION_BYTES = 10, 8 * 140
 # In seconds, for one call of Snakemake.
-LIMIT = 100.0
+LIMIT = 200.0
 
 # The program, with its calls noted. The first calls of one node or sink go wrong: what it wrote is cut, and it is killed, or it
 # hangs.
