@@ -1,33 +1,26 @@
--- How the rows of a code's vectors and of its products are made, and compared with the identity.
-use Rattle.std.specs.Prelude.{◌≡◌, ℕ, ◌+◌, ◌*◌, ◌<◌, ◌≤◌, true, false, Some, List, [], ◌∷◌, ◌++◌, All, length, map, take, drop, slice_get, slice_index, if◌then◌else◌}
+-- How the rows of a code's products are made, and compared with the identity.
+use Rattle.std.specs.Prelude.{◌≡◌, ℕ, ◌+◌, ◌*◌, ◌<◌, ◌≤◌, Some, List, [], length, map, take, drop, slice_get, slice_index}
 use Rattle.std.proofs.Common.{arith, refl, sym, ap, subst, ◌∙◌, get_or, inl, inr}
 use Rattle.std.proofs.lemmas.Bool.{cases_lt}
-use Rattle.std.proofs.lemmas.List.{ext_get_or, get_or-map, get_or_append_left, get_or_push, length-map, length_push}
-use Rattle.std.proofs.lemmas.List.Elements.{All-map, All-weaker}
+use Rattle.std.proofs.lemmas.List.{ext_get_or, get_or-map, length-map}
 use Rattle.std.proofs.lemmas.List.FromFn.{get_or-map-range_with_len}
 use Rattle.std.proofs.lemmas.Option.{slice_get_within}
-use Rattle.gf_tables.specs.Product.{size_of}
+use Rattle.gf_tables.specs.declared.kind.FieldKind.{FieldKind}
 use Rattle.linear_algebra.proofs.EntryLaws.{get_or-rows_of}
 use Rattle.linear_algebra.proofs.MatrixLaws.{length-identity, length-rows_of, length-times_rows, times_rows-AreRows}
-use Rattle.linear_algebra.proofs.RowLaws.{AreRows-get_or, unit_row-IsRow}
+use Rattle.linear_algebra.proofs.RowLaws.{AreRows-get_or, slice_index-unit_row, unit_row-IsRow}
 use Rattle.linear_algebra.specs.Elements.{elements_of}
 use Rattle.linear_algebra.specs.Matrices.{identity, rows_of}
-use Rattle.linear_algebra.specs.Rows.{combination, unit_row, AreElements, AreRows, IsRow}
+use Rattle.linear_algebra.specs.Rows.{combination, unit_row, AreRows, IsRow}
 use Rattle.net_model.specs.Demands.{demand_count, pattern_of_demand, sink_of_demand}
-use Rattle.net_model.specs.Failed.{failed_links, is_failed_in}
-use Rattle.net_model.specs.Walks.{leaves_source}
 use Rattle.node_program.proofs.DecodingLaws.{AreRows-decoder_matrix, AreRows-decoder_vectors, decoder_of_demand, link_within}
-use Rattle.node_program.proofs.VectorLaws.{IsRow-global_vector, global_vector-equation}
 use Rattle.node_program.specs.CodeValue.{vector_in}
 use Rattle.node_program.specs.Decoding.{IsDecoder, decoder_matrix, decoder_vectors}
-use Rattle.node_program.specs.Operands.{IsOperand}
-use Rattle.node_program.specs.Value.{operands_at}
 use Rattle.node_program.specs.declared.Decoder.{Decoder}
-use Rattle.node_program.specs.declared.Operand.{Operand}
 use Rattle.node_program.specs.declared.code.Code.{Code}
-use Rattle.code_checker.proofs.WideLaws.{slice_index-widened}
-use Rattle.code_checker.specs.Checking.{demand_product, entry_at, DiffersFirst}
-use Rattle.code_checker.specs.WideRows.{operand_vector, widened, AreVectorRows, DiffersAt}
+use Rattle.link_rows.proofs.WideLaws.{slice_index-widened, wide_room}
+use Rattle.link_rows.specs.Vectors.{wide_width, widened}
+use Rattle.code_checker.specs.Checking.{demand_product, entry_at, DiffersAt, DiffersFirst}
 
 -- a demand has a decoder
 pub decoder_within : (code : Code) (demand : ℕ) → demand < demand_count code.net → demand < length code.decoders
@@ -41,51 +34,12 @@ pub decoder_link_within : (code : Code) (demand place : ℕ) (decoder : Decoder)
 decoder_link_within code demand place decoder shape below =
     link_within code.net.links (sink_of_demand code.net demand) (slice_index decoder.links place) (shape.into_sink place 0 (omega (arith, below, shape.link_count)))
 
--- what an operand reads is a row of elements
-operand_row : (code : Code) (pattern link : ℕ) (operand : Operand) → IsRow code.field code.rate (operand_vector code pattern link operand)
-operand_row code pattern link operand =
-    elim (leaves_source code.net link) as (λ b. IsRow code.field code.rate (if b then unit_row code.rate operand.from else vector_in code pattern operand.from)) [
-      | true ↦ unit_row-IsRow code.field code.rate operand.from
-      | false ↦ IsRow-global_vector code.code.draft (failed_links code.net.patterns pattern) operand.from
-    ]
-
--- so are those of all
-pub operand_rows : (code : Code) (pattern link : ℕ) (operands : List Operand) → AreRows code.field code.rate (map (operand_vector code pattern link) operands)
-operand_rows code pattern link [] = tt
-operand_rows code pattern link (operand ∷ operands) = (operand_row code pattern link operand, operand_rows code pattern link operands)
-
--- the vector of a link that doesn't fail is the sum over its operands
-pub vector_of_operands : (code : Code) (pattern link : ℕ) (operands : List Operand) → operands ≡ operands_at code.operands link → is_failed_in code.net.patterns pattern link ≡ false
-    → vector_in code pattern link ≡ combination code.field code.rate (map (λ operand. operand.times) operands) (map (operand_vector code pattern link) operands)
-vector_of_operands code pattern link operands are whole =
-    let Sum : List Operand → List ℕ = λ some. combination code.field code.rate (map (λ operand. operand.times) some) (map (operand_vector code pattern link) some) in
-    let sum : vector_in code pattern link ≡ Sum (operands_at code.operands link) =
-    global_vector-equation code.code.draft (failed_links code.net.patterns pattern) link ∙ rw whole refl in
-    sum ∙ ap Sum (sym are)
-
--- coefficients of operands are elements
-pub operand_times : (code : Code) (link : ℕ) (operands : List Operand) → All (IsOperand code.net code.rate code.field link) operands
-    → AreElements code.field (map (λ operand. operand.times) operands)
-operand_times code link operands are =
-    let P : ℕ → Type 0 = λ element. element < size_of code.field in
-    All-map P (λ (operand : Operand). operand.times) operands
-    (All-weaker (IsOperand code.net code.rate code.field link) (λ operand. operand.times < size_of code.field) (λ operand is. is.coefficient) operands are)
-
--- the row of one more link
-pub vector_rows_more : (code : Code) (pattern links : ℕ) (rows more : List (List ℕ)) (row : List ℕ) → AreVectorRows code pattern links rows
-    → elements_of code.field row ≡ widened code.field (vector_in code pattern links) → more ≡ rows ++ row ∷ [] → AreVectorRows code pattern (links + 1) more
-vector_rows_more code pattern links rows more row are is joined =
-    let Rows : List (List ℕ) → Type 0 = AreVectorRows code pattern (links + 1) in
-    subst Rows (sym joined) (record {
-      count = length_push rows row ∙ ap (λ (n : ℕ). n + 1) are.count;
-      vector = λ e below. elim (cases_lt e links) [
-        | inl earlier ↦ ap (elements_of code.field) (get_or_append_left rows (row ∷ []) [] e (omega (arith, earlier, are.count))) ∙ are.vector e earlier
-        | inr last ↦
-            let this : links ≡ e = omega (arith, below, last) in
-            let At : ℕ → Type 0 = λ n. elements_of code.field (get_or (rows ++ row ∷ []) n []) ≡ widened code.field (vector_in code pattern n) in
-            subst At this (ap (elements_of code.field) (get_or_push rows row [] links are.count) ∙ is)
-      ];
-    })
+-- an entry of a wide unit row, below the rate, is that of a unit row
+pub unit_entry : (field : FieldKind) (width i j : ℕ) (bytes : List ℕ) → width ≤ 32 → j < width → elements_of field bytes ≡ unit_row (wide_width field) i
+    → slice_index (elements_of field bytes) j ≡ slice_index (unit_row width i) j
+unit_entry field width i j bytes few inside is =
+    ap (λ (row : List ℕ). slice_index row j) is
+    ∙ slice_index-unit_row (wide_width field) i j (omega (arith, inside, few, wide_room field)) ∙ sym (slice_index-unit_row width i j inside)
 
 module _ (code : Code) (demand : ℕ) (decoder : Decoder) (at : slice_get code.decoders demand ≡ Some decoder) where
   -- the vectors of a decoder's links

@@ -1,3 +1,2 @@
 pub mod Checking
-pub mod WideRows
 pub mod First

@@ -12,8 +12,6 @@ mod checking;
 mod patterns;
 mod products;
 mod sharing;
-mod vector_rows;
-mod wide_rows;
 
 pub use checked::{CheckRefusal, Checked, Refused};
 pub use checking::check;

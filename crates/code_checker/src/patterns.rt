@@ -2,12 +2,13 @@
 ghost use Rattle.std.specs.Prelude.{◌≡◌, ◌<◌, ◌≤◌, ◌+◌, length, IfOk};
 ghost use Rattle.failure_patterns.specs.UsedField.{pair_demands};
 ghost use Rattle.net_model.specs.Demands.{demand_count};
+ghost use Rattle.code_checker.specs.Checking.{AreVectorsIn};
 ghost use Rattle.code_checker.specs.First.{IsFirstBefore, IsFirstIn, IsFirstOf, limit_of, sinks_below};
 
 use crate::products::{Failure, difference};
-use crate::vector_rows::VectorRows;
 use failure_patterns::number_of;
 use field_rows::RowTables;
+use link_rows::{LinkRows, vector_rows};
 use net_model::Demand;
 use node_program::Code;
 use std::alloc::{AllocError, Global};
@@ -92,7 +93,7 @@ fn first_of_sinks(
     requires sinks { end ≤ length code.now.net.sinks }
     ensures { IfOk result (IsFirstOf code.now pattern begin end) }
 {
-    let vectors = VectorRows::of(alloc, tables, code, pattern)?;
+    let vectors = vectors_of(alloc, tables, code, pattern)?;
     for sink in begin..end {
         let demand = number_of(&code.net, Demand { sink, pattern }) as u32;
         if let Some(failure) = difference(tables, code, demand, &vectors) {
@@ -100,4 +101,18 @@ fn first_of_sinks(
         }
     }
     Ok(None)
+}
+
+// The vectors of the links under a pattern.
+fn vectors_of(
+    alloc: Global,
+    tables: &RowTables,
+    code: &Code,
+    pattern: u32,
+) -> Result<LinkRows<64>, AllocError>
+    requires { pattern < length code.now.net.patterns }
+    ensures { IfOk result (AreVectorsIn code.now pattern) }
+{
+    let failed = code.net.failed_table(alloc, pattern)?;
+    vector_rows(alloc, tables, code.coding(), &failed)
 }

@@ -6,12 +6,11 @@ ghost use Rattle.linear_algebra.specs.Rows.{unit_row};
 ghost use Rattle.net_model.specs.Demands.{demand_count, pattern_of_demand, sink_of_demand};
 ghost use Rattle.net_model.specs.Limits.{highest_rate};
 ghost use Rattle.node_program.specs.Decoding.{IsDecoder};
-ghost use Rattle.code_checker.specs.Checking.{demand_product, DiffersFirst};
-ghost use Rattle.code_checker.specs.WideRows.{AreVectorRows, widened, DiffersAt};
+ghost use Rattle.link_rows.specs.Vectors.{widened};
+ghost use Rattle.code_checker.specs.Checking.{demand_product, AreVectorsIn, DiffersAt, DiffersFirst};
 
-use crate::vector_rows::VectorRows;
-use crate::wide_rows::{element_at, unit_row};
-use field_rows::RowTables;
+use field_rows::{RowTables, element_at, unit_row};
+use link_rows::LinkRows;
 use node_program::{Code, Decoder, FieldKind};
 
 /// Where the product of a demand differs first from the identity.
@@ -32,11 +31,10 @@ pub fn difference(
     tables: &RowTables,
     code: &Code,
     demand: u32,
-    vectors: &VectorRows,
+    vectors: &LinkRows<64>,
 ) -> Option<Failure>
     requires demand { demand < demand_count code.now.net }
-    requires vectors { AreVectorRows code.now (pattern_of_demand code.now.net demand)
-        (length code.now.net.links) vectors.now }
+    requires vectors { AreVectorsIn code.now (pattern_of_demand code.now.net demand) vectors.now }
     ensures none { IfNone result (demand_product code.now demand ≡ identity code.now.rate) }
     ensures some { IfSome result (λ f. (f.demand ≡ demand)
         × DiffersFirst code.now.rate (demand_product code.now demand) f.row f.column f.found) }
@@ -61,12 +59,11 @@ fn product_row(
     code: &Code,
     demand: u32,
     row: u32,
-    vectors: &VectorRows,
+    vectors: &LinkRows<64>,
 ) -> [u8; 64]
     requires demand { demand < demand_count code.now.net }
     requires row { row < code.now.rate }
-    requires vectors { AreVectorRows code.now (pattern_of_demand code.now.net demand)
-        (length code.now.net.links) vectors.now }
+    requires vectors { AreVectorsIn code.now (pattern_of_demand code.now.net demand) vectors.now }
     ensures { elements_of code.now.field result
         ≡ widened code.now.field (slice_index_or (demand_product code.now demand) row []) }
 {
@@ -102,7 +99,7 @@ fn differing(field: FieldKind, rate: u32, row: u32, product: &[u8; 64]) -> Optio
     ensures some { IfSome result
         (λ entry. DiffersAt rate row (elements_of field product.now) entry.0 entry.1) }
 {
-    let unit = unit_row(field, row);
+    let unit: [u8; 64] = unit_row(field, row);
     if *product == unit {
         return None;
     }

@@ -9,9 +9,10 @@ use Rattle.lif_outside.specs.declared.links.Flight.{Flight}
 use Rattle.generation_frame.specs.Blocks.{most_blocks, piece_bytes, piece_of_row, pieces}
 use Rattle.generation_frame.specs.Frames.{frame_of}
 use Rattle.generation_frame.specs.declared.frame.Packet.{Packet}
+use Rattle.net_model.specs.Failed.{failed_links}
 use Rattle.net_model.specs.Walks.{leaves_source}
-use Rattle.node_program.specs.CodeValue.{value_in, is_live_in, reads_live_in}
-use Rattle.node_program.specs.Value.{operands_at}
+use Rattle.node_program.specs.CodeValue.{is_live_in, reads_live_in}
+use Rattle.node_program.specs.Value.{operands_at, value}
 use Rattle.node_program.specs.declared.Operand.{Operand}
 use Rattle.node_program.specs.declared.code.Code.{Code}
 use Rattle.coded_traffic.specs.CodeBlocks.{block_elements, row_of}
@@ -20,10 +21,14 @@ use Rattle.coded_traffic.specs.CodeBlocks.{block_elements, row_of}
 abbrev pub piece_width : FieldKind → ℕ
 piece_width field = piece_bytes / bytes_of_element field
 
--- what a link carries of a piece of a block under a pattern: that piece of its value
+-- what a link carries of a piece of a block where links fail: that piece of its value
+abbrev pub payload_where : Code → List ℕ → List ℕ → ℕ → ℕ → List ℕ
+payload_where code failed block piece link =
+    piece_of_row (bytes_of_row code.field (value code.net code.field code.operands failed (block_elements code block) link)) piece
+
+-- and where those of a pattern do
 abbrev pub payload_in : Code → ℕ → List ℕ → ℕ → ℕ → List ℕ
-payload_in code pattern block piece link =
-    piece_of_row (bytes_of_row code.field (value_in code pattern (block_elements code block) link)) piece
+payload_in code pattern = payload_where code (failed_links code.net.patterns pattern)
 
 -- what stands for an operand of a link, of a piece: at the source that of a row of the block, and else the payload
 -- of the operand's link

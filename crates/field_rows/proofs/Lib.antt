@@ -1,4 +1,5 @@
 pub mod BytesLaws
+pub mod ElementLaws
 pub mod Halves
 pub mod LookUps
 pub mod Added

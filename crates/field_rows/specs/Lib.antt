@@ -1,4 +1,5 @@
 pub mod Bytes
+pub mod Widths
 pub mod Nibbles
 pub mod Halves
 pub mod Parted

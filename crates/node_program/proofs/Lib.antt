@@ -4,6 +4,7 @@ pub mod BlockLaws
 pub mod VectorLaws
 pub mod DecodingLaws
 pub mod LiveLaws
+pub mod LiveTableLaws
 pub mod LinkLaws
 pub mod AdjacentLaws
 pub mod OperandCounts

@@ -1,17 +1,16 @@
 -- Laws of the live links of a code.
-use Rattle.std.specs.Prelude.{◌≡◌, ℕ, suc, ◌+◌, ◌<◌, Bool, true, false, List, [], ◌∷◌, ◌++◌, Some, None, length, slice_get}
+use Rattle.std.specs.Prelude.{◌≡◌, ℕ, suc, ◌<◌, true, false, List, [], ◌∷◌, Some, None, length, slice_get}
 use Rattle.std.specs.List.{All, list_any}
 use Rattle.std.proofs.Common.{refl, sym, ◌∙◌, ap, get_or, arith, inl, inr}
 use Rattle.std.proofs.lemmas.Bool.{and_parts, cases_lt, false≢true}
 use Rattle.std.proofs.lemmas.List.Folds.{list_any_at}
-use Rattle.std.proofs.lemmas.List.FromFn.{length-map-range_with_len, get_or-map-range_with_len, map-range_with_len_more}
-use Rattle.std.proofs.lemmas.Option.{slice_get-get_or, slice_get_past}
+use Rattle.std.proofs.lemmas.Option.{slice_get_past}
 use Rattle.gf_tables.specs.declared.kind.FieldKind.{FieldKind}
 use Rattle.net_model.specs.Failed.{failed_links, is_failed_in}
 use Rattle.net_model.specs.declared.Link.{Link}
 use Rattle.net_model.specs.declared.net.Net.{Net}
 use Rattle.node_program.specs.Code.{IsDraft, are_operands_of}
-use Rattle.node_program.specs.CodeValue.{is_live_in, reads_live_in, live_table}
+use Rattle.node_program.specs.CodeValue.{is_live_in, reads_live_in}
 use Rattle.node_program.proofs.OperandLaws.{operands_of_draft}
 use Rattle.node_program.specs.Operands.{IsOperand}
 use Rattle.node_program.specs.Value.{operands_at}
@@ -63,24 +62,6 @@ pub is_live_in-none : (code : Code) (pattern link : ℕ) (operands : List Operan
     → is_live_in code pattern link ≡ false
 is_live_in-none code pattern link operands whole at none =
     is_live_in-operands code pattern link whole ∙ ap (list_any (reads_live_in code pattern link)) (sym at) ∙ none
-
--- the length of a table of live links
-pub length-live_table : (code : Code) (pattern count : ℕ) → length (live_table code pattern count) ≡ count
-length-live_table code pattern count = length-map-range_with_len (is_live_in code pattern) 0 count
-
--- an entry of a table of live links
-pub get_or-live_table : (code : Code) (pattern count link : ℕ) (d : Bool) → link < count → get_or (live_table code pattern count) link d ≡ is_live_in code pattern link
-get_or-live_table code pattern count link d below = get_or-map-range_with_len (is_live_in code pattern) 0 count link link d below (omega arith)
-
--- a table of live links with one more
-pub live_table-more : (code : Code) (pattern count : ℕ) → live_table code pattern (count + 1) ≡ live_table code pattern count ++ is_live_in code pattern count ∷ []
-live_table-more code pattern count = map-range_with_len_more (is_live_in code pattern) 0 count count (omega arith)
-
--- the same by `get`
-pub slice_get-live_table : (code : Code) (pattern count link : ℕ) → link < count → slice_get (live_table code pattern count) link ≡ Some (is_live_in code pattern link)
-slice_get-live_table code pattern count link below =
-    slice_get-get_or (live_table code pattern count) link false (omega (arith, length-live_table code pattern count))
-    ∙ ap Some (get_or-live_table code pattern count link false below)
 
 -- a live link has an operand that is a source row or a live link
 pub live-reads : (code : Code) (pattern link : ℕ) → is_live_in code pattern link ≡ true

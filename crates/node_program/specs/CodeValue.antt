@@ -1,6 +1,5 @@
 -- What the links of a code carry under the patterns of its network.
-use Rattle.std.specs.Prelude.{ℕ, Bool, ◌||◌, List, map}
-use Rattle.std.specs.List.{range_with_len}
+use Rattle.std.specs.Prelude.{ℕ, Bool, ◌||◌, List}
 use Rattle.net_model.specs.Failed.{failed_links}
 use Rattle.net_model.specs.Walks.{leaves_source}
 use Rattle.node_program.specs.Value.{value, global_vector, is_live}
@@ -23,7 +22,3 @@ is_live_in code pattern link = is_live code.net code.operands (failed_links code
 -- whether an operand of a link is a source row or a live link under a pattern
 abbrev pub reads_live_in : Code → ℕ → ℕ → Operand → Bool
 reads_live_in code pattern link operand = leaves_source code.net link || is_live_in code pattern operand.from
-
--- for each of so many links, from the first on, whether it is live under a pattern
-abbrev pub live_table : Code → ℕ → ℕ → List Bool
-live_table code pattern count = map (is_live_in code pattern) (range_with_len 0 count)

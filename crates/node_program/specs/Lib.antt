@@ -1,6 +1,7 @@
 pub mod Code
 pub mod Value
 pub mod CodeValue
+pub mod LiveTable
 pub mod Decoding
 pub mod Operands
 pub mod Adjacent

@@ -1,7 +1,7 @@
 //! Codes.
 ghost use Rattle.node_program.specs.Code.{IsCode};
 
-use crate::{DecoderTable, OperandTable};
+use crate::{Coding, DecoderTable, OperandTable};
 use gf_tables::FieldKind;
 use net_model::Net;
 
@@ -44,6 +44,20 @@ impl Code {
             field,
             operands,
             decoders,
+        }
+    }
+    /// All that the values of its links follow from.
+    pub fn coding(&self) -> Coding<'_>
+        ensures net { result.net.now ≡ self.now.net }
+        ensures rate { result.rate ≡ self.now.rate }
+        ensures field { result.field ≡ self.now.field }
+        ensures operands { result.operands.now ≡ self.now.operands }
+    {
+        Coding {
+            net: &self.net,
+            rate: self.rate,
+            field: self.field,
+            operands: &self.operands,
         }
     }
 }

@@ -1,14 +1,16 @@
 //! Linear network codes as values, and what their links carry.
 //!
 //! Begin with `Code::of`: every value of `Code` is a code. `vectors` makes the global coding vectors under a
-//! pattern, and `live_links` the table of live links. Read `specs/Code.antt`, `specs/Value.antt`, what a link
-//! carries, `specs/Vectors.antt` and `specs/Decoding.antt`, what an accepted code is. The law that matters is
-//! `accepted-decodes` in proofs/DecodingLaws: every sink of an accepted code gets every block back.
+//! pattern, `live_links` the table of live links, and `live_where` that table by one of the links that fail. Read
+//! `specs/Code.antt`, `specs/Value.antt`, what a link carries, `specs/Vectors.antt`, `specs/LiveTable.antt` and
+//! `specs/Decoding.antt`, what an accepted code is. The law that matters is `accepted-decodes` in
+//! proofs/DecodingLaws: every sink of an accepted code gets every block back.
 #![tactic(auto)]
 
 mod carrying;
 mod choice;
 mod code;
+mod coding;
 mod link_vectors;
 mod lists;
 mod live_table;
@@ -18,10 +20,11 @@ mod sharing;
 pub use carrying::carry;
 pub use choice::choice_of;
 pub use code::Code;
+pub use coding::Coding;
 pub use gf_tables::FieldKind;
 pub use link_vectors::vectors;
 pub use lists::{DecoderTable, Entries, LiveLinks, OperandList, OperandTable};
-pub use live_table::live_links;
+pub use live_table::{live_links, live_where};
 pub use liveness::{live, operands_of};
 use net_model::LinkList;
 

@@ -31,5 +31,5 @@ pub fn operands_of(code: &Code, link: u32) -> &[Operand]
     ensures value { result.now ≡ operands_at code.now.operands link }
     ensures valid { All (IsOperand code.now.net code.now.rate code.now.field link) result.now }
 {
-    code.operands.at(link as usize).as_slice()
+    code.coding().operands_of(link)
 }

@@ -1,5 +1,7 @@
 //! That threads can take values of every type of this crate, and share them: it is shown by being proved.
-use crate::{Code, Decoder, DecoderTable, Entries, LiveLinks, Operand, OperandList, OperandTable};
+use crate::{
+    Code, Coding, Decoder, DecoderTable, Entries, LiveLinks, Operand, OperandList, OperandTable,
+};
 
 fn shared<T: Send + Sync>() {}
 
@@ -12,4 +14,5 @@ fn share_every_type() {
     shared::<DecoderTable>();
     shared::<LiveLinks>();
     shared::<Code>();
+    shared::<Coding<'_>>();
 }

@@ -8,6 +8,7 @@ mod faults;
 mod frames;
 mod gates;
 mod hands;
+mod heads;
 mod links;
 mod many_links;
 mod orders;

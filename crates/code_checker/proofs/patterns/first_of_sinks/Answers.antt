@@ -2,15 +2,14 @@ use Rattle.std.proofs.Common.{◌≡◌, ◌%◌, ℕ, ap, length, subst, sym, �
 use Rattle.std.specs.Prelude.{Option, IfNone, IfSome}
 use Rattle.linear_algebra.specs.Matrices.{identity}
 use Rattle.code_checker.proofs.FirstSteps.{clear_more, pattern_here}
-use Rattle.code_checker.specs.Checking.{demand_product, DiffersFirst}
-use Rattle.code_checker.specs.WideRows.{AreVectorRows}
+use Rattle.code_checker.specs.Checking.{demand_product, AreVectorsIn, DiffersFirst}
 use Rattle.code_checker.specs.declared.products.Failure.{Failure}
 use Rattle.code_checker.proofs.patterns.first_of_sinks.Goals as goal
 
 pub difference-requires-clause-vectors : goal.difference-requires-clause-vectors
 difference-requires-clause-vectors c =
     let code = c.args.code.now in
-    let Vectors : ℕ → Type 0 = λ pattern. AreVectorRows code pattern (length code.net.links) c.in_ok-vectors.vectors in
+    let Vectors : ℕ → Type 0 = λ pattern. AreVectorsIn code pattern c.in_ok-vectors.vectors in
     let here = ap (λ n. n % length code.net.patterns) c.number_of-demand.ensures.value in
     subst Vectors (sym (here ∙ pattern_here code c.args.pattern c.requires.pattern c.loop-sink.sink)) c.in_ok-vectors.ensures
 

@@ -3,7 +3,7 @@ use Rattle.std.specs.Prelude.{Option, IfNone, IfSome}
 use Rattle.linear_algebra.specs.Elements.{elements_of}
 use Rattle.linear_algebra.specs.Rows.{unit_row}
 use Rattle.code_checker.proofs.ProductSteps.{identity_all, identity_differs, identity_more, identity_none}
-use Rattle.code_checker.specs.WideRows.{DiffersAt}
+use Rattle.code_checker.specs.Checking.{DiffersAt}
 use Rattle.code_checker.proofs.products.difference.Goals as goal
 
 pub loop-row-init : goal.loop-row-init

@@ -3,7 +3,7 @@ use Rattle.std.proofs.lemmas.Bool.Decides.{Decides-eqb}
 use Rattle.std.proofs.lemmas.Slice.Eq.{slice_eq-Decides}
 use Rattle.linear_algebra.specs.Elements.{elements_of}
 use Rattle.linear_algebra.specs.Rows.{unit_row}
-use Rattle.code_checker.proofs.WideLaws.{unit_entry}
+use Rattle.code_checker.proofs.ProductSteps.{unit_entry}
 use Rattle.code_checker.proofs.products.differing.Goals as goal
 
 pub returns-then-eq-clause-none : goal.returns-then-eq-clause-none
@@ -19,8 +19,8 @@ returns-then-found-expected-clause-some c =
     let unit = unit_entry c.args.field c.args.rate c.args.row column c.unit_row-unit.result c.requires.rate c.loop-column-test.true c.unit_row-unit.ensures in
     record {
       in_column = c.loop-column-test.true;
-      value = c.element_at-found.ensures;
-      differs = λ same. c.if-found-expected.true (same ∙ sym (c.element_at-expected.ensures ∙ unit));
+      value = c.element_at-found.ensures.value;
+      differs = λ same. c.if-found-expected.true (same ∙ sym (c.element_at-expected.ensures.value ∙ unit));
       before = c.loop-column.invariant;
     }
 
@@ -30,4 +30,4 @@ loop-column-preserved c =
     let unit = unit_entry c.args.field c.args.rate c.args.row column c.unit_row-unit.result c.requires.rate c.loop-column-test.true c.unit_row-unit.ensures in
     let Same : ℕ → Type 0 = λ j. slice_index (elements_of c.args.field c.args.product.now) j ≡ slice_index (unit_row c.args.rate c.args.row) j in
     below_more Same column c.loop-column.invariant
-    (sym c.element_at-found.ensures ∙ c.if-found-expected.false ∙ c.element_at-expected.ensures ∙ unit)
+    (sym c.element_at-found.ensures.value ∙ c.if-found-expected.false ∙ c.element_at-expected.ensures.value ∙ unit)

@@ -1,0 +1,3 @@
+pub mod SumSteps
+pub mod LinkLaws
+pub mod WideLaws

@@ -1,0 +1,9 @@
+pub mod SumLaws
+pub mod ReducedLaws
+pub mod LeadLaws
+pub mod KeptLaws
+pub mod HiddenLaws
+pub mod ClearSteps
+pub mod LeadSteps
+pub mod HiddenSteps
+pub mod SpanSteps

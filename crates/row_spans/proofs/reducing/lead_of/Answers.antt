@@ -1,0 +1,37 @@
+use Rattle.std.proofs.Common.{◌≡◌, ◌≢◌, ap, length, List, ℕ, slice_index, subst, sym, take, ◌∙◌}
+use Rattle.gf_tables.specs.Product.{product}
+use Rattle.linear_algebra.specs.Elements.{elements_of}
+use Rattle.linear_algebra.specs.Rows.{scale_row}
+use Rattle.row_spans.proofs.LeadSteps.{IsNewLead-divided}
+use Rattle.row_spans.proofs.ReducedLaws.{sum_from_nothing}
+use Rattle.row_spans.specs.Reduced.{cleared, IsNewLead}
+use Rattle.field_rows.specs.Widths.{rows_in, width_in}
+use Rattle.row_spans.proofs.reducing.lead_of.Goals as goal
+
+pub returns-in-None-clause-none : goal.returns-in-None-clause-none
+returns-in-None-clause-none g c =
+    let field = c.args.field in
+    let rate = length c.args.marks.now in
+    let rows = rows_in field c.args.rows.now in
+    let row = elements_of field c.args.row.now in
+    sum_from_nothing field (width_in field g.row.W) rate c.args.marks.now rows c.requires.reduced row c.cleared-left.ensures.row
+    (ap (take rate) (sym c.cleared-left.ensures.value) ∙ c.in-None.ensures.none)
+
+pub returns-in-Some-clause-some : goal.returns-in-Some-clause-some
+returns-in-Some-clause-some g c =
+    let field = c.args.field in
+    let width = width_in field g.row.W in
+    let rate = length c.args.marks.now in
+    let rows = rows_in field c.args.rows.now in
+    let row = elements_of field c.args.row.now in
+    let left = cleared field width rate rows row in
+    let column = c.in-Some.column in
+    let by = c.inverse-by.result in
+    let value : elements_of field c.cleared-left.result ≡ left = c.cleared-left.ensures.value in
+    let found = c.in-Some.ensures.some in
+    let nonzero : slice_index left column ≢ 0 = λ none. found.1 (ap (λ xs. slice_index xs column) value ∙ none) in
+    let entry : c.element_at.result ≡ slice_index left column = c.element_at.ensures.value ∙ ap (λ xs. slice_index xs column) value in
+    let divides : product field (slice_index left column) by ≡ 1 = ap (λ x. product field x by) (sym entry) ∙ c.inverse-by.ensures.inverse in
+    let made : elements_of field c.scaled-row.result ≡ scale_row field by left = c.scaled-row.ensures ∙ ap (scale_row field by) value in
+    let P : List ℕ → Type 0 = IsNewLead field width rate c.args.marks.now rows row column in
+    subst P (sym made) (IsNewLead-divided field width rate c.args.marks.now rows c.requires.reduced row c.cleared-left.ensures.row column by found.0 c.inverse-by.ensures.below nonzero divides)

@@ -1,0 +1,5 @@
+pub mod Heads
+pub mod Fabric
+pub mod Rows
+pub mod Held
+pub mod Ranks
