@@ -1,33 +1,35 @@
--- How a stream lies in memory: a row of packets from the first place on, and those behind a gap by their places.
-use Rattle.std.specs.Prelude.{◌≡◌, ◌==◌, ℕ, Bool, true, false, All, List, [], ◌∷◌, ◌++◌, length, map}
-use Rattle.std.specs.List.{range_with_len}
+-- How a stream lies in memory: the packets in the order in which they came, and for each place that came the number of its packet.
+use Rattle.std.specs.Prelude.{◌≡◌, ◌<◌, ℕ, All, Contains, List, [], ◌∷◌, get_or, if◌then◌else◌, length, nat_lt, Option, None, Some}
+use Rattle.std.specs.BTreeMap.{is_at}
+use Rattle.std.specs.Map.{lookup}
+use Rattle.std.specs.Option.{IsSome}
+use Rattle.std.specs.Ordering.{nat_cmp}
 use Rattle.generation_frame.specs.Frames.{Fits}
 use Rattle.generation_frame.specs.declared.frame.Packet.{Packet}
-use Rattle.net_model.specs.Lists.{is_rising}
-use Rattle.link_streams.specs.Streams.{has_place, place_of}
+use Rattle.link_streams.specs.Streams.{generation_count, place_of, put_in}
 
--- packets by their places
-abbrev pub at_places : List Packet → List (ℕ × Packet)
-at_places packets = map (λ packet. (place_of packet, packet)) packets
+-- packets with others put in, one after another
+abbrev pub put_all : List Packet → List Packet → List Packet
+put_all held [] = held
+put_all held (packet ∷ packets) = put_all (put_in packet held) packets
 
--- the packets held, by rising place
-abbrev pub packets_held : List Packet → List (ℕ × Packet) → List Packet
-packets_held row ahead = row ++ map (λ entry. entry.1) ahead
+-- packets that came, by rising place
+abbrev pub packets_held : List Packet → List Packet
+packets_held packets = put_all [] packets
 
--- the first of the packets ahead has the place behind a row
-abbrev pub follows : List Packet → List (ℕ × Packet) → Bool
-follows row [] = false
-follows row (entry ∷ ahead) = entry.0 == length row
+-- the number of the packet of a place, by a table of the early places and a map of the others
+abbrev pub number_at : List (Option ℕ) → List (ℕ × ℕ) → ℕ → Option ℕ
+number_at early late place = if nat_lt place (length early) then get_or early place None else lookup (is_at (nat_cmp place)) late
 
--- a row has the first places, and those ahead stand at later ones
-pub record AreLaidOut (row : List Packet) (ahead : List (ℕ × Packet)) : Type 0 where
-  pub row_places : map place_of row ≡ range_with_len 0 (length row)
-  pub keys : ahead ≡ at_places (map (λ entry. entry.1) ahead)
-  pub rising : is_rising (map place_of (packets_held row ahead)) ≡ true
+-- a number is that of a packet of a place
+abbrev pub IsNumberOf : List Packet → ℕ → ℕ → Type 0
+IsNumberOf packets place number = (number < length packets) × ((d : Packet) → place_of (get_or packets number d) ≡ place)
 
--- packets of a link lie so, and none has the place behind the row
-pub record AreHeld (link : ℕ) (row : List Packet) (ahead : List (ℕ × Packet)) : Type 0 where
-  pub laid_out : AreLaidOut row ahead
-  pub gap : has_place (packets_held row ahead) (length row) ≡ false
-  pub fit : All Fits (packets_held row ahead)
-  pub of_link : All (λ packet. packet.link ≡ link) (packets_held row ahead)
+-- packets of a link came, each place once, with their numbers and how many generations they have
+pub record AreHeld (link : ℕ) (packets : List Packet) (early : List (Option ℕ)) (late : List (ℕ × ℕ)) (generations : ℕ) : Type 0 where
+  pub fit : All Fits packets
+  pub of_link : All (λ packet. packet.link ≡ link) packets
+  pub held : All (Contains (packets_held packets)) packets
+  pub found : All (λ packet. IsSome (number_at early late (place_of packet))) packets
+  pub numbers : (place number : ℕ) → number_at early late place ≡ Some number → IsNumberOf packets place number
+  pub counted : generations ≡ generation_count (packets_held packets)

@@ -1,10 +1,9 @@
 //! Streams of links.
-ghost use Rattle.std.specs.Prelude.{◌≡◌, ◌<◌, ◌≤◌, ◌+◌, ◌*◌, ◌^◌, false, length, Contains, OnOk};
+ghost use Rattle.std.specs.Prelude.{◌≡◌, ◌<◌, ◌≤◌, ◌+◌, ◌*◌, ◌^◌, ◌==◌, ℕ, Some, if◌then◌else◌, length, OnErr, OnOk};
 ghost use Rattle.generation_frame.specs.Blocks.{pieces};
 ghost use Rattle.generation_frame.specs.Frames.{Fits};
-ghost use Rattle.generation_frame.specs.declared.frame.Packet.{Packet};
-ghost use Rattle.link_streams.specs.Held.{AreLaidOut, follows, packets_held};
-ghost use Rattle.link_streams.specs.Streams.{has_place, place_of};
+ghost use Rattle.link_streams.specs.Held.{number_at};
+ghost use Rattle.link_streams.specs.Streams.{place_of};
 
 use generation_frame::{FRAME, PIECES, Packet, StreamWhy, read_frame};
 use item_list::ItemList;
@@ -24,14 +23,16 @@ pub struct Place {
     pub piece: u8,
 }
 
-/// The packets that a link has brought, each place once, which contracts see with their link by rising place. Those from
-/// the first place on without a gap stand in a row, so that frames in order cost one comparison each; the others wait in a
-/// map.
+/// The packets that a link has brought, each place once, which contracts see with their link by rising place. They stand in
+/// the order in which they came. The number of each is noted at its place: in a table for the first places, as many as the
+/// file has frames, and in a map for the others. So a frame costs the same in every order, and a far place one entry.
 #[derive(Drop)]
 pub struct Stream {
     link: u32,
-    row: Vec<Packet>,
-    ahead: BTreeMap<u64, Packet>,
+    packets: Vec<Packet>,
+    early: Vec<Option<u32>>,
+    late: BTreeMap<u64, u32>,
+    generations: u64,
 }
 
 impl Model for Stream {
@@ -41,9 +42,10 @@ impl Model for Stream {
 
     ghost use Rattle.link_streams.specs.Held.{AreHeld, packets_held};
 
-    ghost view = { λ stream. record { link = stream.link; packets = packets_held stream.row.items stream.ahead.entries } };
+    ghost view = { λ stream. record { link = stream.link; packets = packets_held stream.packets.items } };
 
-    ghost invariant = { λ stream. AreHeld stream.link stream.row.items stream.ahead.entries };
+    ghost invariant = { λ stream.
+        AreHeld stream.link stream.packets.items stream.early.items stream.late.entries stream.generations };
 }
 
 // The number of a packet's place.
@@ -66,39 +68,41 @@ fn place_at(number: u64) -> Place
     }
 }
 
-// Moves the packets that follow a row without a gap to its end. Where memory runs out one may be lost.
-fn close_gap(row: &mut Vec<Packet>, ahead: &mut BTreeMap<u64, Packet>) -> Result<(), AllocError>
-    requires { AreLaidOut row.old.items ahead.old.entries }
-    ensures laid_out { AreLaidOut row.new.items ahead.new.entries }
-    ensures gap { has_place (packets_held row.new.items ahead.new.entries) (length row.new.items) ≡ false }
-    ensures packets { OnOk result
-        (packets_held row.new.items ahead.new.entries ≡ packets_held row.old.items ahead.old.entries) }
-    ensures no_new { (packet : Packet) → Contains (packets_held row.new.items ahead.new.entries) packet
-        → Contains (packets_held row.old.items ahead.old.entries) packet }
+// The number of the packet of a place.
+fn number_of(early: &[Option<u32>], late: &BTreeMap<u64, u32>, place: u64) -> Option<u32>
+    ensures { result ≡ number_at early.now late.now.entries place }
 {
-    while follows(row, ahead) {
-        if let Some((_, packet)) = ahead.pop_first() {
-            row.push(packet)?;
-        }
+    if place < early.len() as u64 {
+        return early[place as usize];
     }
+    late.get(&place).copied()
+}
+
+// Notes the number of the packet of a place. Where memory runs out nothing changes.
+fn note_number(
+    early: &mut [Option<u32>],
+    late: &mut BTreeMap<u64, u32>,
+    place: u64,
+    number: u32,
+) -> Result<(), AllocError>
+    ensures noted { OnOk result ((other : ℕ) → number_at early.new late.new.entries other
+        ≡ (if other == place then Some number else number_at early.old late.old.entries other)) }
+    ensures early { OnErr result (early.new ≡ early.old) }
+    ensures late { OnErr result (late.new.entries ≡ late.old.entries) }
+{
+    if place < early.len() as u64 {
+        early[place as usize] = Some(number);
+        return Ok(());
+    }
+    late.insert(place, number)?;
     Ok(())
 }
 
-// Whether the first of the packets ahead follows the row.
-fn follows(row: &[Packet], ahead: &BTreeMap<u64, Packet>) -> bool
-    ensures { result ≡ follows row.now ahead.now.entries }
-{
-    match ahead.first_key_value() {
-        Some((place, _)) => *place == row.len() as u64,
-        None => false,
-    }
-}
-
 impl Stream {
-    ghost use Rattle.std.specs.Prelude.{◌⊎◌, IfErr, IfOk, IfSome, IsNone, Ok, Err, []};
+    ghost use Rattle.std.specs.Prelude.{◌⊎◌, false, Contains, IfErr, IfOk, IfSome, IsNone, Ok, Err, []};
     ghost use Rattle.generation_frame.specs.Frames.{frame_read};
     ghost use Rattle.link_streams.specs.Reading.{frame_bytes, packets_read, taken};
-    ghost use Rattle.link_streams.specs.Streams.{IsFirstMissing, IsStream, IsWhole, generation_count, put_in};
+    ghost use Rattle.link_streams.specs.Streams.{IsFirstMissing, IsStream, IsWhole, generation_count, has_place, put_in};
 
     /// Reads a file as the stream of a link: frames of that link, in any order and with repeats. The length is tried first,
     /// and then frame after frame.
@@ -122,15 +126,17 @@ impl Stream {
         Ok(stream)
     }
 
-    // A stream without packets, with room for some in its row.
+    // A stream without packets, with room for some.
     fn empty(alloc: Global, link: u32, room: usize) -> Result<Stream, AllocError>
         ensures link { IfOk result (λ stream. stream.link ≡ link) }
         ensures packets { IfOk result (λ stream. stream.packets ≡ []) }
     {
         Ok(Stream {
             link,
-            row: Vec::with_capacity(alloc, room)?,
-            ahead: BTreeMap::new(alloc),
+            packets: Vec::with_capacity(alloc, room)?,
+            early: vec![in alloc; None; room]?,
+            late: BTreeMap::new(alloc),
+            generations: 0,
         })
     }
 
@@ -167,12 +173,17 @@ impl Stream {
         ensures packets { OnOk result (self.new.packets ≡ put_in packet self.old.packets) }
     {
         let place = place_of(&packet);
-        if place != self.row.len() as u64 {
-            self.ahead.insert(place, packet)?;
-            return Ok(());
-        }
-        self.row.push(packet)?;
-        close_gap(&mut self.row, &mut self.ahead)
+        let generations = self.generations.max(packet.generation as u64 + 1);
+        let Ok(number) = u32::try_from(self.packets.len()) else {
+            return Err(AllocError);
+        };
+        self.packets.push(packet)?;
+        let Ok(()) = note_number(&mut self.early, &mut self.late, place, number) else {
+            self.packets.pop();
+            return Err(AllocError);
+        };
+        self.generations = generations;
+        Ok(())
     }
 
     /// The packet of a place, if it is there.
@@ -182,20 +193,17 @@ impl Stream {
         ensures place { IfSome result (λ packet. place_of packet.now ≡ place) }
         ensures none { IsNone result → has_place self.now.packets place ≡ false }
     {
-        if place < self.row.len() as u64 {
-            return Some(&self.row[place as usize]);
+        match number_of(&self.early, &self.late, place) {
+            Some(number) => Some(&self.packets[number as usize]),
+            None => None,
         }
-        self.ahead.get(&place)
     }
 
     /// How many generations there are up to the greatest: 0 without packets, else one more than its number.
     pub fn generations(&self) -> u64
         ensures { result ≡ generation_count self.now.packets }
     {
-        match self.ahead.last_key_value() {
-            Some((_, packet)) => packet.generation as u64 + 1,
-            None => (self.row.len() as u64).div_ceil(PIECES as u64),
-        }
+        self.generations
     }
 
     /// The least place below generation `count` that isn't there, if one isn't.
@@ -204,9 +212,10 @@ impl Stream {
         ensures missing { IfSome result (IsFirstMissing count self.now.packets) }
         ensures whole { IsNone result → IsWhole count self.now.packets }
     {
-        let place = self.row.len() as u64;
-        if place < count * PIECES as u64 {
-            return Some(place_at(place));
+        for place in 0..count * PIECES as u64 {
+            if self.at(place).is_none() {
+                return Some(place_at(place));
+            }
         }
         None
     }

@@ -1,8 +1,7 @@
-use Rattle.std.proofs.Common.{◌≡◌, ◌∙◌, map, refl, sym, ap, true, false, Ok}
+use Rattle.std.proofs.Common.{◌≡◌, ◌∙◌, refl, sym, ap, true, false, Ok}
 use Rattle.std.specs.Str.{bytes_eq}
 use Rattle.std.proofs.lemmas.Bool.{not-false}
 use Rattle.generation_frame.specs.Frames.{frame_read}
-use Rattle.net_model.specs.Lists.{is_rising}
 use Rattle.link_streams.specs.Reading.{taken}
 use Rattle.link_streams.specs.Streams.{Stream, has_place, place_of}
 use Rattle.link_streams.proofs.ReadingLaws.{taken-known, taken-new}
@@ -14,10 +13,9 @@ returns-in-Some-2-clause-taken c =
     let packet = c.in-Ok.packet in
     let read : frame_read c.args.frame.now ≡ Ok packet = ap frame_read (sym c.copy_from_slice.ensures.after) ∙ sym c.read_frame.ensures.value ∙ c.in-Ok.is in
     let link : packet.link ≡ now.link = c.if-packet-self.false ∙ ap (λ (stream : Stream). stream.link) c.self.view_is in
-    let rising : is_rising (map place_of now.packets) ≡ true = ap (λ (stream : Stream). is_rising (map place_of stream.packets)) (sym c.self.view_is) ∙ c.self.invariant.laid_out.rising in
     let equal : bytes_eq c.in-Some.one.now.payload packet.payload ≡ true = not-false _ (sym c.ne.ensures ∙ c.if-ne.false) in
     ap (taken now.link c.args.at now.packets) read
-    ∙ taken-known now.link c.args.at now.packets c.in-Some.one.now packet link rising c.in-Some.ensures.found (c.in-Some.ensures.place ∙ c.place_of.ensures) equal
+    ∙ taken-known now.link c.args.at now.packets c.in-Some.one.now packet link c.in-Some.ensures.stream.rising c.in-Some.ensures.found (c.in-Some.ensures.place ∙ c.place_of.ensures) equal
 
 pub returns-in_ok-put-in-None-clause-taken : goal.returns-in_ok-put-in-None-clause-taken
 returns-in_ok-put-in-None-clause-taken c =
