@@ -4,7 +4,7 @@
 
 The program gets the words, standard input and output and the signals, and this ends as it does. Said is how far `send` is,
 where standard error is a terminal; what stands behind a status other than 0, found by looking at the words and the files; and
-which outputs hold only a beginning. What is read of a pipe is gone, so none is read here.
+which outputs hold only a beginning, or the line too. What is read of a pipe is gone, so none is read here.
 """
 from __future__ import annotations
 
@@ -113,15 +113,25 @@ def read_fault(path: str) -> str | None:
     return None
 
 
+def stands(path: str) -> bool:
+    """Whether something stands at a path. That can't be told where a name is too long, which is an error."""
+    try:
+        os.lstat(path)
+    except FileNotFoundError:
+        return False
+    return True
+
+
 def write_fault(path: str) -> str | None:
     """Why a file can't be made or written to, if so. Nothing is made, emptied or written."""
     folder = os.path.dirname(path) or "."
     try:
-        if os.path.lexists(path) and not stat.S_ISFIFO(os.stat(path).st_mode):
+        if stands(path) and not stat.S_ISFIFO(os.stat(path).st_mode):
             os.close(os.open(path, os.O_WRONLY | os.O_NONBLOCK))
         else:
             os.stat(os.path.join(folder, "."))
-            os.statvfs(folder)
+            if os.statvfs(folder).f_flag & os.ST_RDONLY:
+                return "Read-only file system"
             if not os.access(folder, os.W_OK | os.X_OK):
                 return "Permission denied"
     except OSError as error:
@@ -190,6 +200,10 @@ class Call:
         except (Refused, ValueError):
             return [], outputs
 
+    def knows_links(self) -> bool:
+        """Whether it can be seen here which files of links a node reads, where there is one."""
+        return self.command not in NODE_COMMANDS or self.node_files()[0] != []
+
     def is_written(self, path: str) -> bool:
         """Whether a regular file was written to since the program began."""
         try:
@@ -225,8 +239,7 @@ def cause(call: Call, status: int) -> str | None:
     if status == UNKNOWN_PATTERN:
         return pattern_cause(code, given.get("PATTERN", ""))
     if status == READ_FAULT:
-        faults = [f"{path}: {fault}" for path in call.inputs() if (fault := read_fault(path))]
-        return faults[0] if faults else f"{listed(call.inputs())}: reading failed on the way"
+        return input_cause(call)
     if status == WRITE_FAULT:
         return output_cause(call)
     if status == TOO_LONG:
@@ -259,9 +272,20 @@ def usage_cause(call: Call) -> str | None:
         word = call.given[name]
         if name in NUMBERS and not (word.isascii() and word.isdigit() and int(word) < 2**64):
             return f"{name} is {word}, and has to be a number below 2^64"
+        if not is_text(word):
+            return f"{name} is {word}, and has to be text in UTF-8, also where it is a path"
     if call.command == "demo":
         return "N is at most 64, K from 1 to 32 and at most N, and BYTES at most 67,108,864; links and nodes have their limits"
     return None
+
+
+def is_text(word: str) -> bool:
+    """Whether the bytes of a word are text, as the program takes them."""
+    try:
+        os.fsencode(word).decode()
+    except UnicodeDecodeError:
+        return False
+    return True
 
 
 def net_cause(net: str) -> str | None:
@@ -317,6 +341,17 @@ def node_cause(code: str, given: dict[str, str]) -> str:
     return f"{code}: no {kind} is named {name}{more}"
 
 
+def input_cause(call: Call) -> str:
+    inputs = call.inputs()
+    for path in inputs:
+        fault = read_fault(path)
+        if fault:
+            return f"{path}: {fault}"
+    if call.knows_links():
+        return f"{listed(inputs)}: reading failed on the way"
+    return f"the file of a link, or at the source {call.given['IN']}, couldn't be read"
+
+
 def output_cause(call: Call) -> str:
     outputs = call.outputs()
     for place, path in enumerate(outputs):
@@ -333,6 +368,8 @@ def output_cause(call: Call) -> str:
         os.fstat(1)
     except OSError:
         return "standard output is closed, so the line couldn't be said"
+    if not outputs and not call.knows_links():
+        return "the file of a link couldn't be made or written to, or standard output took no more"
     whole = "an output was full, or " if outputs else ""
     return f"{whole}standard output took no more"
 
@@ -347,10 +384,13 @@ def length_cause(call: Call) -> str | None:
             return f"{given[name]}: {size:,} bytes, and at most {most:,} are read"
     if call.command in NODE_COMMANDS:
         inputs = call.node_files()[0]
-        total = sum(size_of(path) or 0 for path in inputs)
+        sizes = [size for path in inputs if (size := size_of(path)) is not None]
+        told = f"{sum(sizes):,} bytes" if len(sizes) == len(inputs) else "more bytes than are read"
         if inputs == [given["IN"]]:
-            return f"{given['IN']}: {total:,} bytes, and at most {MOST_RELAYED_BYTES:,} are relayed"
-        return f"{listed(inputs)}: {total:,} bytes together, and at most {MOST_STREAM_BYTES:,} are read"
+            return f"{given['IN']}: {told}, and at most {MOST_RELAYED_BYTES:,} are relayed"
+        if inputs:
+            return f"{listed(inputs)}: {told} together, and at most {MOST_STREAM_BYTES:,} are read"
+        return f"at most {MOST_STREAM_BYTES:,} bytes are read of the files of links together, and at the source {MOST_RELAYED_BYTES:,}"
     if size_of(given.get("OLD", "")) is not None:
         return f"{given['OLD']}: in version 2 its code has more than {MOST_CODE_BYTES:,} bytes, and a code file at most so many"
     return None
@@ -367,6 +407,22 @@ def beginnings(call: Call) -> str | None:
     # The code is whole where the report was begun.
     begun = written[-1:] if call.command == "compile" else written
     return f"perhaps only a beginning stands in {listed(begun)}" if begun else None
+
+
+def with_line(call: Call) -> str | None:
+    """Which output is standard output too, once the program has said its line there."""
+    names = {"compile": ("CODE", "REPORT"), "migrate": ("NEW",), "sink": ("DST",)}.get(call.command, ())
+    for path in (call.given[name] for name in names if call.given):
+        try:
+            found = os.stat(path)
+            is_said = os.path.samestat(found, os.fstat(1)) and not stat.S_ISCHR(found.st_mode)
+        except OSError:
+            continue
+        if is_said:
+            return f"{path}: it is standard output too, so the line came into it" + (
+                ", over its beginning" if stat.S_ISREG(found.st_mode) else ""
+            )
+    return None
 
 
 # Progress
@@ -471,10 +527,10 @@ def main(program: str, *words: str) -> NoReturn:
     ended = found.si_status if found.si_code == os.CLD_EXITED else -found.si_status
     if progress:
         progress.end()
-    if ended:
-        for line in (cause(call, ended) if ended > 0 else None, beginnings(call)):
-            if line:
-                say(line)
+    lines = (cause(call, ended) if ended > 0 else None, beginnings(call)) if ended else (with_line(call),)
+    for line in lines:
+        if line:
+            say(line)
     end(ended)
 
 
