@@ -390,7 +390,7 @@ def length_cause(call: Call) -> str | None:
             return f"{given['IN']}: {told}, and at most {MOST_RELAYED_BYTES:,} are relayed"
         if inputs:
             return f"{listed(inputs)}: {told} together, and at most {MOST_STREAM_BYTES:,} are read"
-        return f"at most {MOST_STREAM_BYTES:,} bytes are read of the files of links together, and at the source {MOST_RELAYED_BYTES:,}"
+        return f"at most {MOST_STREAM_BYTES:,} bytes of links are read together, and at the source {MOST_RELAYED_BYTES:,}"
     if size_of(given.get("OLD", "")) is not None:
         return f"{given['OLD']}: in version 2 its code has more than {MOST_CODE_BYTES:,} bytes, and a code file at most so many"
     return None
