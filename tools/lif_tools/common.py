@@ -136,7 +136,7 @@ def pattern_number(path: str, network: Network, name: str) -> int:
         if pattern.name == name:
             return number
     names = [pattern.name for pattern in network.patterns]
-    raise ToolError(f"{path}: unknown pattern: {name}; there are {listed(names)}")
+    raise ToolError(f"{path}: unknown pattern: {name}; its patterns: {listed(names)}")
 
 
 def sink_number(path: str, network: Network, name: str) -> int:

@@ -10,7 +10,8 @@
              for the code and its file, where that is more; a decoder is held for each demand, though a file of version 2
              has it once
   nodes      for a source of --bytes, by each node by itself, as `lif relay` and `lif sink` run it: the bytes of the
-             streams that it reads and writes, and about what it holds of them
+             streams that it reads and writes, and about what it holds of them; where it reads more than it may, how
+             much that is
 
 The file is read and refused as by `lif check`, but whether its demands decode isn't looked at.
 """
@@ -24,7 +25,17 @@ from pathlib import Path
 from typing import Sequence
 
 from lif_tools.common import load_code, pattern_number, print_json, words_parser
-from lif_tools.formats import FRAME_BYTES, MOST_SOURCE_BYTES, PIECES, Code, capacity, generations, live_links
+from lif_tools.formats import (
+    FRAME_BYTES,
+    MOST_RELAYED_BYTES,
+    MOST_SOURCE_BYTES,
+    MOST_STREAM_BYTES,
+    PIECES,
+    Code,
+    capacity,
+    generations,
+    live_links,
+)
 from lif_tools.memory import Memory, memory_of
 
 
@@ -72,6 +83,10 @@ class Estimate:
         read = length if node == network.source else each * sum(link.head == node for link in lives)
         return read, each * sum(link.tail == node for link in lives)
 
+    def most_read(self, node: int) -> int:
+        """The most bytes that a node may read as streams, and the source of its file."""
+        return MOST_RELAYED_BYTES if node == self.code.network.source else MOST_STREAM_BYTES
+
     def held(self, node: int, length: int) -> int:
         """About what `lif relay` of a node holds of its streams: all, and the file that is read; at the source what it reads at
         a time."""
@@ -97,9 +112,10 @@ def number_text(number: Fraction) -> str:
 def node_lines(found: Estimate, length: int) -> list[str]:
     """What each node by itself reads, writes and holds."""
     return [
-        f"node {name} reads {read} bytes, writes {written}, holds about {found.held(node, length)}"
+        f"node {name} reads {read} bytes{beyond}, writes {written}, holds about {found.held(node, length)}"
         for node, name in enumerate(found.code.network.nodes)
-        for read, written in [found.streams(node, length)]
+        for (read, written), most in [(found.streams(node, length), found.most_read(node))]
+        for beyond in [f" and may read {most}" if read > most else ""]
     ]
 
 
@@ -175,7 +191,13 @@ def facts_of(found: Estimate, path: str, length: int | None, file_bytes: int) ->
                 {"name": link.name, "bytes": each if live else 0} for link, live in zip(network.links, found.live)
             ],
             "nodes": [
-                {"name": name, "reads": read, "writes": written, "holds": found.held(node, length)}
+                {
+                    "name": name,
+                    "reads": read,
+                    "most": found.most_read(node),
+                    "writes": written,
+                    "holds": found.held(node, length),
+                }
                 for node, name in enumerate(network.nodes)
                 for read, written in [found.streams(node, length)]
             ],

@@ -352,7 +352,7 @@ def test_nothing_that_is_read_is_written_over(tmp_path: Path) -> None:
 def test_misuse_and_unknown_names() -> None:
     assert run_tool("lif-draw", NET).returncode == 2
     for words, said in (
-        (("--pattern", "f"), "unknown pattern: f; there are none"),
+        (("--pattern", "f"), "unknown pattern: f; its patterns: none"),
         (("--sink", "s"), "unknown sink: s; there are t1, t2"),
         (("--sink", ""), "unknown sink: ; there are t1, t2"),
     ):

@@ -60,6 +60,15 @@ def test_the_butterfly() -> None:
     ]
 
 
+def test_what_a_node_may_read_stands_where_it_reads_more() -> None:
+    lines = said(CODE, "--bytes", 67_108_865)
+    assert lines[15].startswith("node s reads 67108865 bytes and may read 67108864, writes ")
+    assert not any("may read" in line for line in lines[16:])
+    lines = said(CODE, "--bytes", 300_000_000)
+    assert lines[16].startswith("node t1 reads 328769280 bytes and may read 268435456, writes ")
+    assert [line.split()[1] for line in lines if "may read" in line] == ["s", "t1", "t2", "c"]
+
+
 def test_names_alone() -> None:
     assert said(CODE, "--nodes") == "s t1 t2 a b c d".split()
     assert said(CODE, "--sinks") == ["t1", "t2"]
@@ -148,7 +157,7 @@ def test_misuse_and_unknown_patterns(tmp_path: Path) -> None:
         done = run_tool("lif-estimate", *words)
         assert done.returncode == 2 and "Traceback" not in done.stderr
     done = run_tool("lif-estimate", CODE, "--pattern", "f")
-    assert done.stderr == f"lif-estimate: {CODE}: unknown pattern: f; there are none\n"
+    assert done.stderr == f"lif-estimate: {CODE}: unknown pattern: f; its patterns: none\n"
     assert run_tool("lif-estimate", tmp_path).stderr == f"lif-estimate: {tmp_path}: Is a directory\n"
 
 

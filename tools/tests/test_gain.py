@@ -138,7 +138,7 @@ def test_misuse_and_unknown_names(tmp_path: Path) -> None:
         done = run_tool("lif-gain", *words)
         assert done.returncode == 2 and "Traceback" not in done.stderr
     done = run_tool("lif-gain", net, "--pattern", "storm")
-    assert (done.returncode, done.stderr) == (1, f"lif-gain: {net}: unknown pattern: storm; there are none, duct-2, ring\n")
+    assert (done.returncode, done.stderr) == (1, f"lif-gain: {net}: unknown pattern: storm; its patterns: none, duct-2, ring\n")
 
 
 def test_the_package_is_named() -> None:

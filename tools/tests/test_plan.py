@@ -211,7 +211,7 @@ def test_places_are_refused(tmp_path: Path, text: str, said: str) -> None:
 
 
 def test_refusals(tmp_path: Path) -> None:
-    assert refused(BUTTERFLY, "--pattern", "f") == f"{BUTTERFLY}: unknown pattern: f; there are none\n"
+    assert refused(BUTTERFLY, "--pattern", "f") == f"{BUTTERFLY}: unknown pattern: f; its patterns: none\n"
     assert refused(BUTTERFLY, "--places", tmp_path / "x") == f"{tmp_path}/x: No such file or directory\n"
     cut = tmp_path / "cut.lif"
     cut.write_bytes(ONE.read_bytes()[:-1])
