@@ -349,6 +349,17 @@ def test_a_node_that_no_folder_can_be_named_after(fly: Run, name: str) -> None:
     assert fly.run("--dry-run") == 1 and f"no folder can have the name {name} of a node" in fly.said()
 
 
+def test_words_and_plans_that_are_missing(fly: Run) -> None:
+    source = fly.config.pop("src")
+    assert fly.run("--dry-run") == 1 and "--config names no src; README.md beside this file has its words" in fly.said()
+    fly.config["src"] = source
+    plan = fly.folder / "plan.json"
+    plan.write_text("")
+    assert fly.run("--dry-run") == 1 and "plan.json is no plan of tools/lif-plan: " in fly.said()
+    plan.unlink()
+    assert fly.run("--dry-run") == 1 and "plan.json is no plan of tools/lif-plan: [Errno 2] No such file" in fly.said()
+
+
 # Slurm
 
 
