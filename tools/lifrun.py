@@ -349,7 +349,7 @@ def input_cause(call: Call) -> str:
             return f"{path}: {fault}"
     if call.knows_links():
         return f"{listed(inputs)}: reading failed on the way"
-    return f"the file of a link, or at the source {call.given['IN']}, couldn't be read"
+    return f"the file of a link, or at the source {call.given.get('IN', '')}, couldn't be read"
 
 
 def output_cause(call: Call) -> str:
