@@ -9,3 +9,4 @@ pub mod PassLaws
 pub mod GiveLaws
 pub mod TakenLaws
 pub mod TrafficLaws
+pub mod FileLaws

@@ -92,7 +92,7 @@ stream-payload code pattern window stream brings key is here =
     ∙ ap (payload_in code pattern (block_at window key.generation) key.piece) here
 
 -- the keys of a live link are of the traffic
-key-is : (code : Code) (pattern : ℕ) (window : Window) (link generation piece : ℕ) → AreNumbered code window → is_live_in code pattern link ≡ true
+pub key-is : (code : Code) (pattern : ℕ) (window : Window) (link generation piece : ℕ) → AreNumbered code window → is_live_in code pattern link ≡ true
     → generation < length window.blocks → piece < pieces → IsKey code pattern window (record { link = link; generation = generation; piece = piece })
 key-is code pattern window link generation piece numbered live below low =
     record {

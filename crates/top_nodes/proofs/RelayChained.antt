@@ -21,12 +21,13 @@ use Rattle.lif_outside.specs.Writes.{WritesFiles}
 use Rattle.lif_outside.specs.declared.links.Links.{Ghosts as LinksGhosts}
 use Rattle.lif_outside.specs.declared.sink.Sink.{Ghosts as SinkGhosts}
 use Rattle.lif_outside.specs.declared.store.Store.{Ghosts as StoreGhosts}
+use Rattle.link_streams.proofs.FileLaws.{traffic-is-stream}
 use Rattle.link_streams.proofs.TrafficLaws.{no-ins-no-outs, sums-traffic}
 use Rattle.link_streams.specs.Chained.{traffic_file}
 use Rattle.link_streams.specs.Filled.{frames_of}
 use Rattle.link_streams.specs.Streams.{Stream}
-use Rattle.net_model.specs.Walks.{head_of}
-use Rattle.node_plans.proofs.PlanLaws.{ins-each}
+use Rattle.net_model.specs.Walks.{head_of, tail_of}
+use Rattle.node_plans.proofs.PlanLaws.{ins-each, outs-each}
 use Rattle.node_program.specs.CodeValue.{is_live_in}
 use Rattle.node_program.specs.declared.code.Code.{Code}
 use Rattle.top_base.proofs.AcceptingLaws.{code_input}
@@ -266,6 +267,13 @@ module _ (given : AtNode) (code : Code) (window : Window) (files : Files) (is : 
       (or_changes declines (relay_at (is_source_in given code) given code) outcome before after is.clear
       (held_changes code_limit IsCodeOf RefusesCode given.code (relay_through given) files code is.code_held code_input.same outcome before after told (ap is_lost done) changes))
 
+-- the links out of a node are live
+outs_live : (given : AtNode) (code : Code) (link : ℕ) → Contains (outs_in given code) link → is_live_in code (pattern_in given code) link ≡ true
+outs_live given code link there =
+    let pattern = pattern_in given code in
+    let node = node_in given code in
+    (All-contains (λ link. (is_live_in code pattern link ≡ true) × (tail_of code.net.links link ≡ node)) (outs_in given code) link (outs-each code pattern node) there).0
+
 -- A node that is given streams for numbered blocks, or a file with these at the source, is done, or there was no memory, and its files
 -- are the frames of its links for them.
 pub node-relays : {S C L : Type 0} {g : StoreGhosts S} {h : SinkGhosts C} {k : LinksGhosts L} (o : Objects g h k) (given : AtNode) (status : Status) → Performs (relay_command given) o status
@@ -276,5 +284,6 @@ node-relays o given status performs code window files told is =
     let leaves = performs.of_content in
     record {
       relayed = λ done. left given code window files is leaves.outcome before after told (done_outcome leaves.outcome status before after done leaves.says) leaves.changes;
+      streams = λ link there. traffic-is-stream code (pattern_in given code) window link is.numbered (outs_live given code link there);
       comes = owed_comes (relay_command given) status before after files told (owed given code window files is) performs.of_inputs;
     }

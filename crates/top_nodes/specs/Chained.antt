@@ -1,5 +1,5 @@
--- What `relay` and `sink` make of streams for the blocks of a file: where each relay runs behind those that write what it reads, and then
--- the sinks, each sink's file is that file.
+-- What one call of `relay` or `sink` makes of streams for numbered blocks: the files that a relay writes are such streams again, and that of a
+-- sink is the file whose blocks they are.
 use Rattle.std.specs.Prelude.{◌≡◌, ◌⊎◌, ◌≤◌, ◌∷◌, ℕ, List, [], Contains, None, Ok, Some, false, length, sum_by, true}
 use Rattle.coded_traffic.specs.Traffic.{Window}
 use Rattle.generation_frame.specs.Blocks.{blocks_of}
@@ -67,6 +67,8 @@ pub record IsNodeGiven (given : AtNode) (code : Code) (window : Window) (files :
 pub record Relays (given : AtNode) (code : Code) (window : Window) (status : Status) (before after : Outside) : Type 0 where
   pub relayed : status ≡ Done → Told after.files (λ files. (link : ℕ) → Contains (outs_in given code) link
       → Holds (traffic_file code (pattern_in given code) window link) (files (stream_path given.output code.net link)))
+  -- each of which is a stream of its link for them
+  pub streams : (link : ℕ) → Contains (outs_in given code) link → IsStreamFor code (pattern_in given code) window link (traffic_file code (pattern_in given code) window link)
   pub comes : Comes (relay_command given) status before after
 
 abbrev pub NodeRelays : AtNode → Status → Outside → Outside → Type 0
