@@ -23,7 +23,7 @@ use Rattle.link_rows.specs.LinkRows.{AreLinkRows}
 use Rattle.link_rows.specs.Vectors.{wide_width, AreVectorRows}
 use Rattle.field_rows.specs.Widths.{rows_in}
 use Rattle.generation_frame.specs.Blocks.{row_bytes}
-use Rattle.coded_traffic.specs.CodeBlocks.{block_elements}
+use Rattle.coded_traffic.specs.CodeBlocks.{block_elements, IsBlockOf}
 use Rattle.vector_headers.specs.Fabric.{AreVectorElements, Carried, IsFabric}
 
 -- so many parts of one width, each the front of a row
@@ -139,21 +139,23 @@ module _ {F : Type 0} (number : F → ℕ) (code : Code) (net : Net) (rate : ℕ
         block_count = high;
         row_count = (rows_of_code of_rows given rows rows_marks are_rows).count;
         link_rows = λ one is. absurd (cc);
+        whole_block = λ one is. absurd (cc);
       })
 
   -- a fabric by which a block was carried
   pub carried-IsFabric : (before : Option Carried) (live : List Bool) (vectors : List F) (old_block old_rows : List (List ℕ))
       → IsFabric number (record { code = code; failed = failed; carried = before }) fails live vectors old_block old_rows
-      → (generation : ℕ) (bytes : List ℕ) (marks : List Bool) (block given rows : List (List ℕ)) → length bytes ≡ code.rate * row_bytes → block ≡ rows_of code.rate row_bytes bytes
+      → (generation : ℕ) (bytes : List ℕ) (marks : List Bool) (block given rows : List (List ℕ)) → IsBlockOf code bytes → block ≡ rows_of code.rate row_bytes bytes
       → marks ≡ fails → given ≡ block
       → ((listed : List ℕ) → IsFailTable listed (length net.links) marks → AreLinkRows net field operands listed (rows_in field given) (length net.links) rows)
       → IsFabric number (record { code = code; failed = failed; carried = Some (record { generation = generation; block = concat block }) }) fails live vectors block rows
-  carried-IsFabric before live vectors old_block old_rows is generation bytes marks block given rows size copied marked same are =
+  carried-IsFabric before live vectors old_block old_rows is generation bytes marks block given rows whole copied marked same are =
       let Made : List (List ℕ) → Type 0 = λ rows_now. AreLinkRows code.net code.field code.operands failed (rows_in code.field rows_now) (length code.net.links) rows in
       let made : AreLinkRows code.net code.field code.operands failed (block_elements code bytes) (length code.net.links) rows =
       subst Made (same ∙ copied) (rows_of_code marks given rows marked are) in
       let Of : List ℕ → Type 0 = λ whole. AreLinkRows code.net code.field code.operands failed (block_elements code whole) (length code.net.links) rows in
-      let of_block : Of (concat block) = subst Of (sym (concat-rows code.rate bytes block size copied)) made in
+      let of_block : Of (concat block) = subst Of (sym (concat-rows code.rate bytes block whole.size copied)) made in
+      let whole_now : IsBlockOf code (concat block) = subst (IsBlockOf code) (sym (concat-rows code.rate bytes block whole.size copied)) whole in
       record {
         fail_count = is.fail_count;
         fail_table = is.fail_table;
@@ -166,4 +168,8 @@ module _ {F : Type 0} (number : F → ℕ) (code : Code) (net : Net) (rate : ℕ
             let now : Carried = record { generation = generation; block = concat block } in
             let there : now ≡ one = cc in
             subst Of (ap (λ (c : Carried). c.block) there) of_block;
+        whole_block = λ one found.
+            let now : Carried = record { generation = generation; block = concat block } in
+            let there : now ≡ one = cc in
+            subst (IsBlockOf code) (ap (λ (c : Carried). c.block) there) whole_now;
       }

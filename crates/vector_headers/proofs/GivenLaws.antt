@@ -38,7 +38,7 @@ block_row (row ∷ block) (suc k) below rows = block_row block k (omega arith) r
 
 module _ (field : FieldKind) (piece : ℕ) (below : piece < 8) where
   -- what a block has of a piece
-  piece_rows : (block : List (List ℕ)) → AllByRecursion IsBlockRow block → AreRows field (payload_width field) (piece_of_block field block piece)
+  pub piece_rows : (block : List (List ℕ)) → AllByRecursion IsBlockRow block → AreRows field (payload_width field) (piece_of_block field block piece)
   piece_rows [] rows = tt
   piece_rows (row ∷ block) rows = (
     elements_of-IsRow field (payload_width field) (piece_of_row row piece) (piece_bytes row piece rows.0.bytes) (length-piece row piece below rows.0.count ∙ piece_whole field),

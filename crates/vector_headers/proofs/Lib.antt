@@ -6,3 +6,4 @@ pub mod HeldLaws
 pub mod TakenLaws
 pub mod GivenLaws
 pub mod RankLaws
+pub mod ReceivingLaws

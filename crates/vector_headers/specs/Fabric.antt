@@ -10,7 +10,7 @@ use Rattle.node_program.specs.declared.Operand.{Operand}
 use Rattle.node_program.specs.declared.code.Code.{Code}
 use Rattle.link_rows.specs.LinkRows.{AreLinkRows}
 use Rattle.generation_frame.specs.declared.frame.Packet.{Packet}
-use Rattle.coded_traffic.specs.CodeBlocks.{block_elements}
+use Rattle.coded_traffic.specs.CodeBlocks.{block_elements, IsBlockOf}
 use Rattle.coded_traffic.specs.Traffic.{payload_where}
 use Rattle.vector_headers.specs.Heads.{headed}
 
@@ -69,3 +69,4 @@ pub record IsFabric {F : Type 0} (number : F → ℕ) (fabric : Carrying) (fails
   pub row_count : length rows ≡ length fabric.code.net.links
   pub link_rows : (one : Carried) → fabric.carried ≡ Some one
       → AreLinkRows fabric.code.net fabric.code.field fabric.code.operands fabric.failed (block_elements fabric.code one.block) (length fabric.code.net.links) rows
+  pub whole_block : (one : Carried) → fabric.carried ≡ Some one → IsBlockOf fabric.code one.block

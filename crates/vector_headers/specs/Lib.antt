@@ -3,3 +3,4 @@ pub mod Fabric
 pub mod Rows
 pub mod Held
 pub mod Ranks
+pub mod Receiving

@@ -1,5 +1,5 @@
 //! A sink that knows no code: it keeps what came of each piece, and eliminates.
-ghost use Rattle.std.specs.Prelude.{◌≡◌, ◌≢◌, ◌<◌, ◌≤◌, ◌+◌, ◌*◌, ◌↔◌, ℕ, List, [], ◌∷◌, length, map, suc, take, drop, slice_index_or, IfOk};
+ghost use Rattle.std.specs.Prelude.{◌≡◌, ◌≢◌, ◌<◌, ◌≤◌, ◌+◌, ◌*◌, ◌↔◌, ℕ, List, [], ◌∷◌, length, map, suc, take, drop, slice_index_or, IfOk, IsTrue};
 ghost use Rattle.std.specs.List.{concat};
 ghost use Rattle.generation_frame.specs.Blocks.{piece_bytes, piece_of_row, pieces, row_bytes};
 ghost use Rattle.gf_tables.specs.Kind.{IsOfKind};
@@ -117,6 +117,18 @@ impl<F: Field> Blind<F> {
         ensures most { result ≤ self.now.rate }
     {
         self.spans[piece as usize].rank()
+    }
+
+    /// Whether as many rows are kept of each piece as the rate.
+    pub fn is_whole(&self) -> bool
+        ensures { IsTrue result ↔ IsWhole self.now }
+    {
+        for piece in 0..PIECES {
+            if self.rank(piece as u8) != self.rate {
+                return false;
+            }
+        }
+        true
     }
 
     /// Writes the bytes of the block that the rows kept of all pieces admit, once as many are kept of each as the rate.

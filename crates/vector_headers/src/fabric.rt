@@ -1,5 +1,6 @@
 //! Fabrics: what the links of a code carry of one block where links fail, as headed frames.
-ghost use Rattle.std.specs.Prelude.{◌≡◌, ◌<◌, ◌+◌, ◌*◌, All, IfOk, IsSome, None, Some, true, false, length};
+ghost use Rattle.std.specs.Prelude.{◌≡◌, ◌<◌, ◌+◌, ◌*◌, All, IfOk, IsSome, None, Some, Ok, true, false, length};
+ghost use Rattle.coded_traffic.specs.CodeBlocks.{IsBlockOf};
 ghost use Rattle.generation_frame.specs.Blocks.{pieces, row_bytes};
 ghost use Rattle.gf_tables.specs.Kind.{IsOfKind};
 ghost use Rattle.linear_algebra.specs.Elements.{numbers};
@@ -51,7 +52,8 @@ impl<'c, F: Field> Model for Fabric<'c, F> {
 }
 
 impl<'c, F: Field> Fabric<'c, F> {
-    ghost use Rattle.vector_headers.specs.Fabric.{Carried, frame_at, is_live_at, vector_at};
+    ghost use Rattle.vector_headers.specs.Fabric.{Carried, frame_at, is_live_at, packet_at, vector_at};
+    ghost use Rattle.vector_headers.specs.Heads.{head_read, vector_in};
 
     /// A fabric of a code whose listed links fail, by which nothing was carried. `F` is the code's field. It takes all
     /// memory that the work needs.
@@ -112,6 +114,14 @@ impl<'c, F: Field> Fabric<'c, F> {
             → (one : Carried) → self.now.carried ≡ Some one
             → into.new ≡ frame_at F.BYTES self.now one link piece }
         ensures same { result ≡ false → into.new ≡ into.old }
+        ensures back { result ≡ true
+            → (one : Carried) → self.now.carried ≡ Some one
+            → head_read F.BYTES self.now.code.rate into.new
+            ≡ Ok (packet_at self.now one link piece) }
+        ensures vector_back { result ≡ true
+            → vector_in F.BYTES self.now.code.rate into.new ≡ vector_at self.now link }
+        ensures block { (one : Carried) → self.now.carried ≡ Some one
+            → IsBlockOf self.now.code one.block }
     {
         if !*self.live.at(link as usize) {
             return false;
@@ -124,6 +134,21 @@ impl<'c, F: Field> Fabric<'c, F> {
         };
         write_head(self.vector(link), &packet, into);
         true
+    }
+
+    /// The code.
+    pub fn code(&self) -> &'c Code
+        ensures { result.now ≡ self.now.code }
+    {
+        self.code
+    }
+
+    /// Whether a link is live where the listed links fail.
+    pub fn is_live(&self, link: u32) -> bool
+        requires { link < length self.now.code.net.links }
+        ensures { result ≡ is_live_at self.now link }
+    {
+        *self.live.at(link as usize)
     }
 
     /// The global coding vector of a link where the listed links fail.

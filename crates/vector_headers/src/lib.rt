@@ -12,8 +12,10 @@ mod elements;
 mod fabric;
 mod fabric_parts;
 mod heads;
+mod receiving;
 mod sharing;
 
 pub use blind::{Blind, Gain};
 pub use fabric::Fabric;
 pub use heads::{HEAD, HeadRefusal, read_head, write_head};
+pub use receiving::{ins_where, rank_into, receive};

@@ -1,5 +1,7 @@
-use Rattle.std.proofs.Common.{◌≡◌, ◌*◌, ℕ, Option, Some, List, ap, drop, length, sym, take, ◌∙◌, ◌++◌}
+use Rattle.std.proofs.Common.{◌≡◌, ◌*◌, ◌<◌, ℕ, Option, Some, List, ap, drop, length, sym, take, ◌∙◌, ◌++◌}
 use Rattle.std.proofs.lemmas.List.{take_at}
+use Rattle.std.proofs.lemmas.List.Elements.{All-from_get_or}
+use Rattle.coded_traffic.specs.CodeBlocks.{IsBlockOf}
 use Rattle.generation_frame.specs.Blocks.{row_bytes}
 use Rattle.linear_algebra.specs.Matrices.{rows_of}
 use Rattle.vector_headers.specs.Fabric.{Carried, Carrying, carried_in}
@@ -30,10 +32,14 @@ invariant_of-self g c =
     let inside = c.self.inside in
     let coding = c.coding.result in
     let same = c.coding.ensures in
+    let whole : IsBlockOf inside.code.now c.args.block.now = record {
+      size = sized g at;
+      bytes = All-from_get_or (λ byte. byte < 256) c.args.block.now 0 (λ k _. (c.type_inv.block k).fits);
+    } in
     carried-IsFabric g.F.Field.number inside.code.now coding.net.now coding.rate coding.field coding.operands.now same.net same.rate same.field same.operands
     inside.failed.items inside.fails.items c.self.invariant.fail_table
     (carried_in inside.generation inside.block.items) inside.live inside.vectors.items inside.block.items inside.rows c.self.invariant
-    c.args.generation c.args.block.now c.deref.result.now _ c.deref-2.result.now c.fill.new.self (sized g at) (copied g at)
+    c.args.generation c.args.block.now c.deref.result.now _ c.deref-2.result.now c.fill.new.self whole (copied g at)
     c.deref.ensures.value c.deref-2.ensures.value c.fill.ensures.rows
 
 pub returns-clause-carried : goal.returns-clause-carried
