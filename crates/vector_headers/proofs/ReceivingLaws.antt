@@ -124,9 +124,9 @@ module _ (code : Code) (failed : List ℕ) (one : Carried) where
       (IsKept-accepted code.field code.rate (vectors_over code failed (reverse ins)) (rows_of_piece holding piece) (are piece low).accepted).count ∙ full ∙ sym rate
 
   -- the block admits all that is kept
-  pub IsAdmitted-received : IsBlockOf code one.block → (ins : List ℕ) (holding : Holding) → holding.field ≡ code.field → holding.rate ≡ code.rate
-      → ((piece : ℕ) → piece < 8 → IsReceived code failed one (reverse ins) piece holding) → IsAdmitted holding (rows_carried code one)
-  IsAdmitted-received block ins holding field rate are = record {
+  pub IsAdmitted-received : IsBlockOf code one.block → (links : List ℕ) (holding : Holding) → holding.field ≡ code.field → holding.rate ≡ code.rate
+      → ((piece : ℕ) → piece < 8 → IsReceived code failed one links piece holding) → IsAdmitted holding (rows_carried code one)
+  IsAdmitted-received block links holding field rate are = record {
     count = length-rows_of code.rate row_bytes one.block ∙ sym rate;
     rows = block_rows code one.block block;
     admitted = λ piece low.

@@ -1,11 +1,11 @@
 //! A block received from the live links into a node, by their vectors alone.
-ghost use Rattle.std.specs.Prelude.{◌≡◌, ◌≤◌, ◌<◌, ◌+◌, ◌*◌, ◌&&◌, ◌==◌, ◌∷◌, ◌≢◌, ℕ, List, All, IfOk, IsSome, Some, true, length};
+ghost use Rattle.std.specs.Prelude.{◌≡◌, ◌≤◌, ◌<◌, ◌+◌, ◌*◌, ◌&&◌, ◌==◌, ◌∷◌, ◌≢◌, ℕ, List, [], All, IfOk, IsSome, Some, true, length};
 ghost use Rattle.coded_traffic.specs.CodeBlocks.{IsBlockOf};
 ghost use Rattle.generation_frame.specs.Blocks.{pieces, row_bytes};
 ghost use Rattle.net_model.specs.Walks.{head_of};
 ghost use Rattle.vector_headers.specs.Fabric.{Carried, is_live_at};
-ghost use Rattle.vector_headers.specs.Receiving.{IsLiveLink, IsReceived, ins_where, rank_into, rank_over};
-ghost use Rattle.vector_headers.specs.Rows.{rows_of_piece};
+ghost use Rattle.vector_headers.specs.Receiving.{IsLiveLink, IsReceived, ins_where, rank_into, rank_over, rows_carried};
+ghost use Rattle.vector_headers.specs.Rows.{IsAdmitted, IsWhole, rows_of_piece};
 
 use crate::{Blind, Fabric, read_head};
 use generation_frame::{PIECES, Packet};
@@ -90,10 +90,40 @@ pub fn receive<F: Field>(
     ensures rate { blind.new.rate ≡ blind.old.rate }
 {
     blind.clear();
+    take_links(fabric, blind, ins, frame, vector);
+    blind.block(into);
+}
+
+// Takes in what live links of full rank bring, until as many rows are kept of each piece as the rate.
+fn take_links<F: Field>(
+    fabric: &Fabric<'_, F>,
+    blind: &mut Blind<F>,
+    ins: &[u32],
+    frame: &mut [u8],
+    vector: &mut [F],
+)
+    requires carried { IsSome fabric.now.carried }
+    requires field { blind.old.field ≡ fabric.now.code.field }
+    requires rate { blind.old.rate ≡ fabric.now.code.rate }
+    requires none { (piece : ℕ) → rows_of_piece blind.old piece ≡ [] }
+    requires ins { All (IsLiveLink fabric.now) ins.now }
+    requires full { rank_over fabric.now.code fabric.now.failed ins.now ≡ fabric.now.code.rate }
+    requires frame { length frame.old ≡ 140 + fabric.now.code.rate * F.BYTES }
+    requires vector { length vector.old ≡ fabric.now.code.rate }
+    ensures whole { IsWhole blind.new }
+    ensures admitted { (one : Carried) → fabric.now.carried ≡ Some one
+        → IsAdmitted blind.new (rows_carried fabric.now.code one) }
+    ensures block { (one : Carried) → fabric.now.carried ≡ Some one
+        → IsBlockOf fabric.now.code one.block }
+    ensures field { blind.new.field ≡ blind.old.field }
+    ensures rate { blind.new.rate ≡ blind.old.rate }
+{
     for link in ins {
         take_link(fabric, blind, *link, frame, vector);
+        if blind.is_whole() {
+            return;
+        }
     }
-    blind.block(into);
 }
 
 // Takes in what a live link brings of each piece.

@@ -3,7 +3,7 @@ use Rattle.std.specs.Prelude.{reverse}
 use Rattle.coded_traffic.specs.CodeBlocks.{IsBlockOf}
 use Rattle.vector_headers.specs.Fabric.{Carried}
 use Rattle.vector_headers.specs.Receiving.{IsReceived}
-use Rattle.vector_headers.proofs.receiving.receive.Given as goal
+use Rattle.vector_headers.proofs.receiving.take_links.Given as goal
 
 -- the links so far brought all pieces
 abbrev pub invariant-loop-link : goal.invariant-loop-link
