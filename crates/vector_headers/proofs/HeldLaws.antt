@@ -1,16 +1,15 @@
 -- The rows of a piece, in the spans of all pieces.
-use Rattle.std.specs.Prelude.{◌≡◌, ◌<◌, ◌≢◌, ℕ, zero, suc, List, [], ◌∷◌, All, length, map, get_or, set, slice_index_or}
+use Rattle.std.specs.Prelude.{◌≡◌, ◌<◌, ◌≢◌, ℕ, zero, suc, List, [], ◌∷◌, length, map, get_or, set}
 use Rattle.std.proofs.Common.{arith, refl, sym, ap, subst, ◌∙◌}
 use Rattle.std.proofs.Math.Path.{ap₂}
 use Rattle.std.proofs.lemmas.List.{get_or-map, map-set, length-map, get_or-set_other, get_or-set_same, length-set}
-use Rattle.std.proofs.lemmas.Simd.{map-map}
 use Rattle.std.proofs.lemmas.List.Elements.{All-map}
 use Rattle.gf_tables.specs.declared.kind.FieldKind.{FieldKind}
 use Rattle.linear_algebra.specs.Rows.{AreRows}
-use Rattle.row_spans.specs.Spans.{Span, vectors}
+use Rattle.row_spans.specs.Spans.{Span}
 use Rattle.field_rows.specs.Widths.{width_in}
 use Rattle.vector_headers.specs.Held.{coded, coded_rows, emptied, holding_of, held_bytes, AreHeldSpans, IsHeldSpan, IsTaken, Shows}
-use Rattle.vector_headers.specs.Rows.{CodedRow, Holding, row_of_bytes, rows_of_piece, vectors_of}
+use Rattle.vector_headers.specs.Rows.{CodedRow, Holding, row_of_bytes, rows_of_piece}
 use Rattle.vector_headers.specs.declared.blind.Gain.{Gain}
 
 -- emptied spans have no rows

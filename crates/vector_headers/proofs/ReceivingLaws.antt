@@ -1,5 +1,5 @@
 -- What live links bring of a block is admitted by the block.
-use Rattle.std.specs.Prelude.{◌≡◌, ◌≢◌, ◌<◌, ◌≤◌, ◌+◌, ◌*◌, ◌∷◌, ◌++◌, ◌&&◌, ◌==◌, ℕ, suc, Bool, true, false, cond, filter, Option, Some, None, IsSome, List, [], get_or, length, map, reverse, take, drop}
+use Rattle.std.specs.Prelude.{◌≡◌, ◌<◌, ◌+◌, ◌*◌, ◌∷◌, ◌++◌, ◌&&◌, ◌==◌, ℕ, suc, Bool, true, false, cond, filter, Option, Some, None, IsSome, List, [], get_or, length, map, reverse, take, drop}
 use Rattle.std.specs.List.{All, AllByRecursion, range_with_len}
 use Rattle.std.proofs.Common.{arith, refl, sym, ap, subst, ◌∙◌}
 use Rattle.std.proofs.lemmas.Bool.{and_parts}
@@ -10,7 +10,7 @@ use Rattle.item_list.proofs.Ranges.{filter-range_more}
 use Rattle.coded_traffic.proofs.BlockLaws.{AreRows-block_elements, IsBlock-block_elements, width_of-block_elements}
 use Rattle.coded_traffic.proofs.PieceLaws.{elements_in, elements_in-combination, elements_of-piece, elements_of-piece_of_row}
 use Rattle.coded_traffic.proofs.RowLaws.{length-row_of, row_lies_within, row_of-bytes}
-use Rattle.coded_traffic.specs.CodeBlocks.{block_elements, IsBlockOf, row_of, row_width}
+use Rattle.coded_traffic.specs.CodeBlocks.{block_elements, IsBlockOf, row_width}
 use Rattle.coded_traffic.specs.Traffic.{payload_where, piece_width}
 use Rattle.generation_frame.specs.Blocks.{row_bytes}
 use Rattle.generation_frame.specs.declared.frame.Packet.{Packet}
@@ -28,9 +28,9 @@ use Rattle.row_spans.proofs.SumLaws.{all_by_places}
 use Rattle.vector_headers.proofs.GivenLaws.{piece_rows}
 use Rattle.vector_headers.proofs.RankLaws.{IsKept-accepted}
 use Rattle.vector_headers.specs.Fabric.{Carried, Carrying, packet_at, vector_at}
-use Rattle.vector_headers.specs.Ranks.{AreAccepted, IsAccepted, rank_of}
+use Rattle.vector_headers.specs.Ranks.{AreAccepted, IsAccepted}
 use Rattle.vector_headers.specs.Receiving.{IsLiveLink, IsReceived, ins_where, rank_over, rows_carried, vectors_over}
-use Rattle.vector_headers.specs.Rows.{AdmitTheSame, Admits, CodedRow, Holding, IsAdmitted, IsBlockRow, IsPieceOfBlock, IsWhole, payload_width, piece_of_block, row_of_bytes, rows_of_piece}
+use Rattle.vector_headers.specs.Rows.{AdmitTheSame, Admits, CodedRow, Holding, IsAdmitted, IsBlockRow, IsPieceOfBlock, IsWhole, piece_of_block, row_of_bytes, rows_of_piece}
 use Rattle.vector_headers.specs.declared.blind.Gain.{Gain}
 use Rattle.vector_headers.specs.declared.blind.Gain.TheVariants.{Raised, Same}
 

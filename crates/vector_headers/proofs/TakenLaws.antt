@@ -1,5 +1,5 @@
 -- What becomes of the rows of a piece when one comes.
-use Rattle.std.specs.Prelude.{◌≡◌, ◌↔◌, ◌≤◌, ◌*◌, ◌-◌, ◌/◌, ◌+◌, ℕ, suc, Bool, true, false, List, [], ◌∷◌, ◌++◌, length, map, take, drop, replicate}
+use Rattle.std.specs.Prelude.{◌≡◌, ◌↔◌, ◌≤◌, ◌*◌, ◌-◌, ◌/◌, ℕ, suc, Bool, true, false, List, ◌∷◌, ◌++◌, length, map, take, drop, replicate}
 use Rattle.std.proofs.Common.{arith, refl, sym, ap, subst, ◌∙◌, inl, inr}
 use Rattle.std.proofs.Math.Nat.{mul-le-mul_left}
 use Rattle.std.proofs.Math.Path.{ap₂}
@@ -17,7 +17,7 @@ use Rattle.vector_headers.proofs.AdmitLaws.{AdmitTheSame-sums, vector_in_row, ve
 use Rattle.vector_headers.specs.Heads.{width_of_bytes}
 use Rattle.vector_headers.specs.Held.{IsTaken, coded, gain_of, held_bytes, held_row, vector_bytes}
 use Rattle.vector_headers.specs.Ranks.{IsSum-decided}
-use Rattle.vector_headers.specs.Rows.{CodedRow, row_of_bytes, vectors_of}
+use Rattle.vector_headers.specs.Rows.{CodedRow, row_of_bytes}
 use Rattle.vector_headers.specs.declared.blind.Gain.TheVariants.{Raised, Same}
 
 -- the width of a field's elements

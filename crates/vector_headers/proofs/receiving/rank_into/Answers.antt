@@ -1,9 +1,8 @@
-use Rattle.std.proofs.Common.{◌≡◌, ◌<◌, ◌≤◌, ℕ, List, ap, arith, get_or, length, subst, sym, take, ◌∙◌}
+use Rattle.std.proofs.Common.{◌≡◌, ◌<◌, ℕ, List, ap, get_or, length, subst, sym, take, ◌∙◌}
 use Rattle.std.specs.Prelude.{reverse}
 use Rattle.std.proofs.lemmas.List.{take_all}
 use Rattle.linear_algebra.specs.Elements.{numbers}
-use Rattle.vector_headers.specs.Fabric.{Carrying, vector_at}
-use Rattle.vector_headers.specs.Ranks.{AreAccepted, rank_of}
+use Rattle.vector_headers.specs.Ranks.{AreAccepted}
 use Rattle.vector_headers.specs.Receiving.{rank_over, vectors_over}
 use Rattle.vector_headers.specs.Rows.{Holding, rows_of_piece}
 use Rattle.vector_headers.proofs.RankLaws.{IsKept-accepted}

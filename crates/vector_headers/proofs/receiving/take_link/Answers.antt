@@ -1,5 +1,4 @@
-use Rattle.std.proofs.Common.{◌≡◌, ◌≢◌, ◌<◌, ◌≤◌, ◌∷◌, ℕ, List, Some, arith, below_more, ◌∙◌, sym}
-use Rattle.vector_headers.specs.Fabric.{Carried}
+use Rattle.std.proofs.Common.{◌≢◌, ◌<◌, ◌∷◌, ℕ, arith, below_more, ◌∙◌}
 use Rattle.vector_headers.specs.Receiving.{IsReceived}
 use Rattle.vector_headers.proofs.ReceivingLaws.{IsReceived-same}
 use Rattle.vector_headers.proofs.receiving.take_link.Goals as goal

@@ -1,11 +1,10 @@
-use Rattle.std.proofs.Common.{◌≡◌, ℕ, Some, Ok, ap, sym, ◌∙◌}
-use Rattle.std.specs.Prelude.{Result, true}
+use Rattle.std.proofs.Common.{◌≡◌, ℕ, Some, Ok, ap, ◌∙◌}
+use Rattle.std.specs.Prelude.{true}
 use Rattle.generation_frame.specs.declared.frame.Packet.{Packet}
 use Rattle.linear_algebra.specs.Elements.{numbers}
 use Rattle.vector_headers.specs.Fabric.{Carried, packet_at, vector_at}
 use Rattle.vector_headers.specs.Heads.{head_read, vector_in}
 use Rattle.vector_headers.specs.Rows.{Holding, rows_of_piece}
-use Rattle.vector_headers.specs.declared.heads.HeadRefusal.{HeadRefusal}
 use Rattle.vector_headers.proofs.ReceivingLaws.{IsReceived-came, some_carried}
 use Rattle.vector_headers.proofs.receiving.take_piece.Goals as goal
 use Rattle.vector_headers.proofs.receiving.take_piece.Goals.{After-read_head}

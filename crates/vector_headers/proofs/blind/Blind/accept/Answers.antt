@@ -1,7 +1,6 @@
-use Rattle.std.proofs.Common.{◌≡◌, ◌∙◌, List, ℕ, ap, sym, subst, set}
+use Rattle.std.proofs.Common.{◌∙◌, ap, subst, set}
 use Rattle.std.proofs.lemmas.List.{set-get_or}
 use Rattle.linear_algebra.specs.Elements.{numbers}
-use Rattle.row_spans.specs.Spans.{Span}
 use Rattle.vector_headers.proofs.HeldLaws.{IsTaken-piece, rows_of_piece-others}
 use Rattle.vector_headers.specs.Held.{IsTaken, holding_of}
 use Rattle.vector_headers.specs.Rows.{Holding, row_of_bytes, rows_of_piece}

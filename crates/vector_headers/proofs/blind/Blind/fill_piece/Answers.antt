@@ -1,10 +1,10 @@
-use Rattle.std.proofs.Common.{◌≡◌, ◌∙◌, ◌<◌, List, ℕ, ap, sym, subst, length, take, drop, lit<, arith}
+use Rattle.std.proofs.Common.{◌≡◌, ◌∙◌, ◌<◌, List, ap, sym, subst, length, lit<, arith}
 use Rattle.std.specs.List.{AllByRecursion}
-use Rattle.std.proofs.lemmas.List.{length-drop, length-map, take_all}
+use Rattle.std.proofs.lemmas.List.{length-map}
 use Rattle.gf_tables.specs.declared.kind.FieldKind.{FieldKind}
 use Rattle.vector_headers.proofs.GivenLaws.{piece_given}
 use Rattle.vector_headers.proofs.HeldLaws.{Shows-here}
-use Rattle.vector_headers.specs.Held.{Shows, coded, coded_rows}
+use Rattle.vector_headers.specs.Held.{coded, coded_rows}
 use Rattle.vector_headers.specs.Rows.{Admits, CodedRow, piece_of_block, rows_of_piece}
 use Rattle.vector_headers.proofs.blind.Blind.fill_piece.Goals as goal
 

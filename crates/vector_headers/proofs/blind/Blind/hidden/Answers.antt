@@ -1,4 +1,4 @@
-use Rattle.std.proofs.Common.{◌≡◌, ◌∙◌, ◌*◌, List, ℕ, ap, sym, subst, length, take, arith}
+use Rattle.std.proofs.Common.{◌≡◌, ◌∙◌, ◌*◌, List, ℕ, ap, sym, subst, length, take}
 use Rattle.std.proofs.Math.Path.{ap₂}
 use Rattle.std.proofs.Math.Nat.{mul_comm}
 use Rattle.gf_tables.specs.declared.kind.Width.{Width}
@@ -11,8 +11,7 @@ use Rattle.vector_headers.proofs.AdmitLaws.{vectors_of-coded}
 use Rattle.vector_headers.proofs.HeldLaws.{Shows-here}
 use Rattle.vector_headers.proofs.TakenLaws.{width_of_field}
 use Rattle.vector_headers.specs.Heads.{width_of_bytes}
-use Rattle.vector_headers.specs.Held.{Shows, coded, coded_rows}
-use Rattle.vector_headers.specs.Rows.{CodedRow, Holding, rows_of_piece, vectors_of}
+use Rattle.vector_headers.specs.Rows.{Holding, rows_of_piece, vectors_of}
 use Rattle.vector_headers.proofs.blind.Blind.hidden.Goals as goal
 
 pub returns : goal.returns
