@@ -1,5 +1,6 @@
 //! Frames, rows and sums; nodes and sinks that are fed by hand, with no runner: what they give, and what comes of it; and
 //! blocks that go over links, code by code.
+mod blind;
 mod carrying;
 mod codes;
 mod counts;
