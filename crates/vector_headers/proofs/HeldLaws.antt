@@ -1,6 +1,6 @@
 -- The rows of a piece, in the spans of all pieces.
-use Rattle.std.specs.Prelude.{◌≡◌, ◌<◌, ◌≢◌, ℕ, zero, suc, List, [], ◌∷◌, length, map, get_or, set}
-use Rattle.std.proofs.Common.{arith, refl, sym, ap, subst, ◌∙◌}
+use Rattle.std.specs.Prelude.{◌≡◌, ◌<◌, ◌≢◌, ℕ, List, [], length, map, get_or, set}
+use Rattle.std.proofs.Common.{arith, sym, ap, subst, ◌∙◌}
 use Rattle.std.proofs.Math.Path.{ap₂}
 use Rattle.std.proofs.lemmas.List.{get_or-map, map-set, length-map, get_or-set_other, get_or-set_same, length-set}
 use Rattle.std.proofs.lemmas.List.Elements.{All-map}
@@ -11,12 +11,6 @@ use Rattle.field_rows.specs.Widths.{width_in}
 use Rattle.vector_headers.specs.Held.{coded, coded_rows, emptied, holding_of, held_bytes, AreHeldSpans, IsHeldSpan, IsTaken, Shows}
 use Rattle.vector_headers.specs.Rows.{CodedRow, Holding, row_of_bytes, rows_of_piece}
 use Rattle.vector_headers.specs.declared.blind.Gain.{Gain}
-
--- emptied spans have no rows
-pub rows_of_piece-emptied : (field : FieldKind) (rate : ℕ) (spans : List Span) (piece : ℕ) → rows_of_piece (holding_of field rate (map emptied spans)) piece ≡ []
-rows_of_piece-emptied field rate [] piece = refl
-rows_of_piece-emptied field rate (span ∷ spans) zero = refl
-rows_of_piece-emptied field rate (span ∷ spans) (suc piece) = rows_of_piece-emptied field rate spans piece
 
 -- emptied spans are held as before
 pub AreHeldSpans-emptied : (bytes : ℕ) (field : FieldKind) (rate : ℕ) (spans : List Span) → AreHeldSpans bytes field rate spans → AreHeldSpans bytes field rate (map emptied spans)
