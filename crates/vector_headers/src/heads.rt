@@ -57,6 +57,7 @@ pub fn write_head<F: Field>(vector: &[F], packet: &Packet, into: &mut [u8])
 /// the mark (`BadMark`), else where the number of the piece is above 7 (`BadPiece`). Then `vector` stays as it was.
 pub fn read_head<F: Field>(bytes: &[u8], vector: &mut [F]) -> Result<Packet, HeadRefusal>
     ensures value { result ≡ head_read F.BYTES (length vector.old) bytes.now }
+    ensures piece { IfOk result (λ packet. packet.piece < pieces) }
     ensures vector { MatchResult result
         (λ _. numbers F.number vector.new ≡ vector_in F.BYTES (length vector.old) bytes.now)
         (λ _. vector.new ≡ vector.old) }
