@@ -4,6 +4,7 @@ mod blind;
 mod carrying;
 mod codes;
 mod counts;
+mod fabrics;
 mod failed_links;
 mod faults;
 mod frames;
