@@ -158,23 +158,22 @@ pub fails_more : (test : ℕ → Bool) (number : ℕ) (passed : List ℕ) → te
 fails_more test number passed fails are =
     are ∙ sym (append-nil (filter test (range_with_len 0 number))) ∙ ap (λ (b : Bool). filter test (range_with_len 0 number) ++ cond b (number ∷ []) []) (sym fails) ∙ sym (filter-range_more test number)
 
-module _ (fabric : Carrying) where
-  -- live links into a node are live links
-  pub AreLiveLinks-into : (node : ℕ) → All (IsLiveLink fabric) (ins_where fabric.code fabric.failed node)
-  AreLiveLinks-into node = λ k d below.
-      let links = length fabric.code.net.links in
-      let test : ℕ → Bool = λ link. is_live fabric.code.net fabric.code.operands fabric.failed link && (head_of fabric.code.net.links link == node) in
-      let lower : All (λ link. link < links) (range_with_len 0 links) = λ i d inside.
-      let low : i < links = omega (arith, inside, length-range_with_len 0 links) in
-      let Low : ℕ → Type 0 = λ link. link < links in
-      subst Low (sym (get_or-range_with_len 0 links i d low)) (omega (arith, low))
-      in
-      let passes = filter_passes test (range_with_len 0 links) k d below in
-      record {
-        within = All-filter test (λ link. link < links) (range_with_len 0 links) lower k d below;
-        live = (and_parts _ _ passes).0;
-      }
+-- live links into a node are live links
+pub AreLiveLinks-into : (code : Code) (failed : List ℕ) (node : ℕ) → All (IsLiveLink code failed) (ins_where code failed node)
+AreLiveLinks-into code failed node = λ k d below.
+    let links = length code.net.links in
+    let test : ℕ → Bool = λ link. is_live code.net code.operands failed link && (head_of code.net.links link == node) in
+    let Low : ℕ → Type 0 = λ link. link < links in
+    let lower : All Low (range_with_len 0 links) = λ i d inside.
+    let low : i < links = omega (arith, inside, length-range_with_len 0 links) in
+    subst Low (sym (get_or-range_with_len 0 links i d low)) (omega (arith, low))
+    in
+    record {
+      within = All-filter test Low (range_with_len 0 links) lower k d below;
+      live = (and_parts _ _ (filter_passes test (range_with_len 0 links) k d below)).0;
+    }
 
+module _ (fabric : Carrying) where
   -- the vector of a link was accepted
   pub AreAccepted-came : (links : List ℕ) (link piece : ℕ) (old new : Holding) (gain : Gain) (vector : List ℕ) → old.field ≡ fabric.code.field → old.rate ≡ fabric.code.rate → vector ≡ vector_at fabric link
       → IsAccepted old.field old.rate (rows_of_piece old piece) (rows_of_piece new piece) vector gain

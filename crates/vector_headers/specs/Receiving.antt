@@ -6,7 +6,7 @@ use Rattle.linear_algebra.specs.Matrices.{rows_of}
 use Rattle.net_model.specs.Walks.{head_of}
 use Rattle.node_program.specs.Value.{global_vector, is_live}
 use Rattle.node_program.specs.declared.code.Code.{Code}
-use Rattle.vector_headers.specs.Fabric.{Carried, Carrying}
+use Rattle.vector_headers.specs.Fabric.{Carried}
 use Rattle.vector_headers.specs.Ranks.{AreAccepted, rank_of}
 use Rattle.vector_headers.specs.Rows.{Admits, Holding, piece_of_block, rows_of_piece}
 
@@ -30,10 +30,10 @@ vectors_into code failed node = vectors_over code failed (ins_where code failed 
 abbrev pub rank_into : Code → List ℕ → ℕ → ℕ
 rank_into code failed node = rank_over code failed (ins_where code failed node)
 
--- a live link of a code
-pub record IsLiveLink (fabric : Carrying) (link : ℕ) : Type 0 where
-  pub within : link < length fabric.code.net.links
-  pub live : is_live fabric.code.net fabric.code.operands fabric.failed link ≡ true
+-- a link of a code that is live where links fail
+pub record IsLiveLink (code : Code) (failed : List ℕ) (link : ℕ) : Type 0 where
+  pub within : link < length code.net.links
+  pub live : is_live code.net code.operands failed link ≡ true
 
 -- the rows of a block
 abbrev pub rows_carried : Code → Carried → List (List ℕ)

@@ -20,7 +20,8 @@ pub fn ins_where<F: Field>(
 ) -> Result<Vec<u32>, AllocError>
     ensures ins { IfOk result (λ ins. ins.items
         ≡ ins_where fabric.now.code fabric.now.failed node) }
-    ensures live { IfOk result (λ ins. All (IsLiveLink fabric.now) ins.items) }
+    ensures live { IfOk result (λ ins. All (IsLiveLink fabric.now.code fabric.now.failed)
+        ins.items) }
 {
     let mut ins = Vec::new(alloc);
     for link in 0..fabric.code().net.links.len() as u32 {
@@ -45,7 +46,7 @@ fn leads_into<F: Field>(fabric: &Fabric<'_, F>, link: u32, node: u32) -> bool
 pub fn rank_into<F: Field>(fabric: &Fabric<'_, F>, blind: &mut Blind<F>, ins: &[u32]) -> u32
     requires field { blind.old.field ≡ fabric.now.code.field }
     requires rate { blind.old.rate ≡ fabric.now.code.rate }
-    requires ins { All (IsLiveLink fabric.now) ins.now }
+    requires ins { All (IsLiveLink fabric.now.code fabric.now.failed) ins.now }
     ensures over { result ≡ rank_over fabric.now.code fabric.now.failed ins.now }
     ensures into { (node : ℕ) → ins.now ≡ ins_where fabric.now.code fabric.now.failed node
         → result ≡ rank_into fabric.now.code fabric.now.failed node }
@@ -80,7 +81,7 @@ pub fn receive<F: Field>(
     requires carried { IsSome fabric.now.carried }
     requires field { blind.old.field ≡ fabric.now.code.field }
     requires rate { blind.old.rate ≡ fabric.now.code.rate }
-    requires ins { All (IsLiveLink fabric.now) ins.now }
+    requires ins { All (IsLiveLink fabric.now.code fabric.now.failed) ins.now }
     requires full { rank_over fabric.now.code fabric.now.failed ins.now ≡ fabric.now.code.rate }
     requires frame { length frame.old ≡ 140 + fabric.now.code.rate * F.BYTES }
     requires vector { length vector.old ≡ fabric.now.code.rate }
@@ -106,7 +107,7 @@ fn take_links<F: Field>(
     requires field { blind.old.field ≡ fabric.now.code.field }
     requires rate { blind.old.rate ≡ fabric.now.code.rate }
     requires none { (piece : ℕ) → rows_of_piece blind.old piece ≡ [] }
-    requires ins { All (IsLiveLink fabric.now) ins.now }
+    requires ins { All (IsLiveLink fabric.now.code fabric.now.failed) ins.now }
     requires full { rank_over fabric.now.code fabric.now.failed ins.now ≡ fabric.now.code.rate }
     requires frame { length frame.old ≡ 140 + fabric.now.code.rate * F.BYTES }
     requires vector { length vector.old ≡ fabric.now.code.rate }
@@ -137,7 +138,7 @@ fn take_link<F: Field>(
     requires carried { IsSome fabric.now.carried }
     requires field { blind.old.field ≡ fabric.now.code.field }
     requires rate { blind.old.rate ≡ fabric.now.code.rate }
-    requires link { IsLiveLink fabric.now link }
+    requires link { IsLiveLink fabric.now.code fabric.now.failed link }
     requires frame { length frame.old ≡ 140 + fabric.now.code.rate * F.BYTES }
     requires vector { length vector.old ≡ fabric.now.code.rate }
     ensures received { (one : Carried) → fabric.now.carried ≡ Some one
@@ -166,7 +167,7 @@ fn take_piece<F: Field>(
     requires carried { IsSome fabric.now.carried }
     requires field { blind.old.field ≡ fabric.now.code.field }
     requires rate { blind.old.rate ≡ fabric.now.code.rate }
-    requires link { IsLiveLink fabric.now link }
+    requires link { IsLiveLink fabric.now.code fabric.now.failed link }
     requires piece { piece < pieces }
     requires frame { length frame.old ≡ 140 + fabric.now.code.rate * F.BYTES }
     requires vector { length vector.old ≡ fabric.now.code.rate }

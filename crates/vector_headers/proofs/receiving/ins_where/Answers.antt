@@ -26,4 +26,4 @@ pub returns-clause-live : goal.returns-clause-live
 returns-clause-live g c =
     let fabric = c.args.fabric.now in
     let are : c.loop-link.ins.items ≡ ins_where fabric.code fabric.failed c.args.node = search rules in
-    All-same (IsLiveLink fabric) c.loop-link.ins.items (ins_where fabric.code fabric.failed c.args.node) are (AreLiveLinks-into fabric c.args.node)
+    All-same (IsLiveLink fabric.code fabric.failed) c.loop-link.ins.items (ins_where fabric.code fabric.failed c.args.node) are (AreLiveLinks-into fabric.code fabric.failed c.args.node)
