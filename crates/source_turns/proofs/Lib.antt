@@ -1,0 +1,3 @@
+pub mod AppendLaws
+pub mod FedLaws
+pub mod RunLaws

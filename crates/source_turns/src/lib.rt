@@ -1,0 +1,13 @@
+//! A source that is streamed into turns: its file is read from a store, and of each of its blocks files get appends.
+//!
+//! Begin with the trait `BlockTurns`, what the blocks become, and `Feeding`, which holds such a value and reads the source.
+//! Read `specs/Turns.antt`, the turns that bytes of a source bring, and `specs/Feeding.antt`, the calls of a source that is
+//! fed. The law that matters is `runs_feeding` in proofs/RunLaws: what a command does that feeds a source is told by the words
+//! of `feeds`.
+#![tactic(auto)]
+
+mod feeding;
+mod turns;
+
+pub use feeding::{FeedFault, Feeding};
+pub use turns::BlockTurns;
