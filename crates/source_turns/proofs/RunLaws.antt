@@ -1,15 +1,18 @@
 -- A source that is fed, told by the words of `feeds`: what a command does that feeds one.
-use Rattle.std.specs.Prelude.{◌≡◌, ◌≤◌, ◌+◌, ◌*◌, ◌/◌, ℕ, Bool, true, false, List, ◌++◌, length, Result, Ok, Err}
+use Rattle.std.specs.Prelude.{◌≡◌, ◌≤◌, ◌+◌, ◌*◌, ◌/◌, ℕ, Bool, true, false, List, Contains, ◌++◌, length, Result, Ok, Err}
 use Rattle.std.specs.List.{range_with_len}
-use Rattle.std.proofs.Common.{refl, sym, ap, subst, arith, inl, inr}
+use Rattle.std.proofs.Common.{refl, sym, ap, subst, subst₂, arith, inl, inr}
 use Rattle.std.proofs.Math.Nat.{div-mul-le_self, mul-le-mul_right}
 use Rattle.std.proofs.lemmas.List.{length-append}
 use Rattle.std.proofs.lemmas.Nat.{le-div}
-use Rattle.command_steps.specs.Feeding.{RunsFeeding, brought}
+use Rattle.command_steps.proofs.FeedingLaws.{feeds_step}
+use Rattle.command_steps.proofs.StepLaws.{IsStep}
+use Rattle.command_steps.specs.Feeding.{RunsFeeding, brought, feeds}
 use Rattle.command_steps.specs.Filling.{Fills, StopsFilling}
 use Rattle.generation_frame.specs.Blocks.{block_count, piece_of}
 use Rattle.lif_outside.specs.Events.{Event}
 use Rattle.lif_outside.specs.FileCalls.{AreAppendsTo, Written, appends_of, bytes_read}
+use Rattle.lif_outside.specs.Files.{AreDistinct}
 use Rattle.lif_outside.specs.Sequences.{IsFrontOf}
 use Rattle.lif_outside.specs.Streams.{Streams, have_ended}
 use Rattle.source_turns.proofs.AppendLaws.{TurnAppends, turns_append, turns_front}
@@ -76,3 +79,10 @@ module _ (job : Job) (path : List ℕ) (limit : ℕ) (turns : Bool → List ℕ 
       subst (λ status. RunsFeeding path limit job.paths turns line status outcome.line calls) (sym ends.0)
       (record { source = over.0; line_is = ends.1 over.0 over.1; fed = told _ _ calls over.2 })
   runs_feeding (Err why) outcome calls ends fills = subst (λ outcome. Runs outcome calls) (sym ends) (by_fault why calls fills)
+
+  -- it is a step: where the paths are distinct and none is the source's, and where each turn appends to them alone
+  pub feeding_step : AreDistinct job.paths → ¬ Contains job.paths path → ((generation : ℕ) (piece : List ℕ) → TurnAppends job.paths (job.turn generation piece)) → IsStep (feeds path limit job.paths turns line)
+  feeding_step distinct apart each =
+      feeds_step path limit job.paths turns line distinct apart
+      (λ ended bytes. subst (λ turns. AreAppendsTo job.paths (appends_of turns)) (same ended bytes) (feed_appends job each ended bytes))
+      (λ front more. subst₂ (λ all few. IsFrontOf (appends_of all) (appends_of few)) (same true (front ++ more)) (same false front) (feed_grows job front more))

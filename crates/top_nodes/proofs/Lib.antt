@@ -5,7 +5,6 @@ pub mod SinkChained
 pub mod RelayChained
 pub mod DeclinedLaws
 pub mod WantedLaws
-pub mod AppendLaws
 pub mod SinkLaws
 pub mod RelayLaws
 pub mod NamingLaws

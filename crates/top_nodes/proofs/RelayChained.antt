@@ -41,7 +41,7 @@ use Rattle.top_base.specs.Words.{AtNode, demo_limit}
 use Rattle.top_base.specs.declared.outcome.Outcome.{Outcome}
 use Rattle.top_base.specs.declared.status.Status.{Status}
 use Rattle.top_base.specs.declared.status.Status.TheVariants.{Done}
-use Rattle.top_nodes.proofs.AppendLaws.{made_there, part-added, turns-add}
+use Rattle.source_turns.proofs.AppendLaws.{made_there, part-added, turns-add}
 use Rattle.top_nodes.proofs.BlocksLaws.{block_at-file, file_window, length-file_window}
 use Rattle.top_nodes.proofs.ChainedLaws.{done_outcome, left_told, or_changes, or_owed, owed_comes}
 use Rattle.top_nodes.proofs.DeclinedLaws.{declined_clear}

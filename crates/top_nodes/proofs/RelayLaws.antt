@@ -1,25 +1,20 @@
 -- What has to be known of the command `relay`.
-use Rattle.std.specs.Prelude.{◌≡◌, ◌≢◌, ◌≤◌, ◌+◌, ◌*◌, ◌/◌, ℕ, Bool, true, false, List, [], ◌∷◌, ◌++◌, drop, if◌then◌else◌, length, map, take, None}
+use Rattle.std.specs.Prelude.{◌≡◌, ◌≢◌, ℕ, Bool, true, false, List, [], ◌∷◌, if◌then◌else◌, None}
 use Rattle.std.specs.List.{list_any, range_with_len}
 use Rattle.std.specs.Str.{bytes_eq}
-use Rattle.std.proofs.Common.{refl, ap, ◌∙◌, arith}
-use Rattle.std.proofs.Math.Nat.{add-mul, div-mul-le_self, mul-le-mul_right}
+use Rattle.std.proofs.Common.{refl}
 use Rattle.std.proofs.lemmas.Bool.{or_left, or_right}
-use Rattle.std.proofs.lemmas.List.{drop-append-le, length-append, length-drop, take-append-le}
-use Rattle.std.proofs.lemmas.Nat.{le-div}
 use Rattle.std.proofs.lemmas.Slice.Eq.{bytes_eq-Decides}
 use Rattle.code_file.specs.Limits.{code_limit}
-use Rattle.coded_traffic.specs.Traffic.{payload_in}
-use Rattle.command_steps.proofs.FeedingLaws.{feeds_step}
 use Rattle.command_steps.proofs.FillingLaws.{fills_step}
 use Rattle.command_steps.proofs.ListedLaws.{reads_each_step}
 use Rattle.command_steps.proofs.StepLaws.{IsStep, reads_then_step, step_known}
 use Rattle.command_steps.specs.Filling.{fills}
-use Rattle.generation_frame.specs.Blocks.{block_count, block_of, capacity, piece_of}
+use Rattle.generation_frame.specs.Blocks.{block_count, block_of}
 use Rattle.lif_outside.specs.Calls.{Calls}
-use Rattle.lif_outside.specs.FileCalls.{AreAppendsTo, Written, appends_of}
-use Rattle.lif_outside.specs.Sequences.{IsFrontOf}
+use Rattle.lif_outside.specs.FileCalls.{AreAppendsTo, appends_of}
 use Rattle.link_streams.specs.Filled.{frames_of}
+use Rattle.link_streams.specs.Relaying.{originated}
 use Rattle.link_streams.specs.Streams.{Stream}
 use Rattle.node_program.specs.declared.code.Code.{Code}
 use Rattle.top_base.proofs.AcceptingLaws.{code_input}
@@ -31,24 +26,15 @@ use Rattle.top_base.specs.Paths.{shared_path}
 use Rattle.top_base.specs.Words.{AtNode, demo_limit}
 use Rattle.top_base.specs.declared.outcome.Outcome.{Outcome}
 use Rattle.top_base.specs.declared.status.Status.TheVariants.{Usage}
-use Rattle.top_nodes.proofs.AppendLaws.{TurnAppends, parts_append, turns_append, turns_front}
+use Rattle.source_turns.proofs.AppendLaws.{TurnAppends, parts_append, turns_append}
+use Rattle.source_turns.proofs.RunLaws.{feeding_step}
 use Rattle.top_nodes.proofs.DeclinedLaws.{declined_clear, declined_refuses, or_refuses_step}
+use Rattle.top_nodes.proofs.SourcingLaws.{job_in, parts_within, turns_in}
 use Rattle.top_nodes.proofs.WantedLaws.{lacking_refuses, streams_refuse}
 use Rattle.top_nodes.specs.Declined.{declined}
 use Rattle.top_nodes.specs.Files.{first_lacking, stream_limit, stream_path, stream_paths, streams_of, streams_wanted}
-use Rattle.top_nodes.specs.Relay.{blocks_by, frames_turn, frames_turns, generations_in, inputs_in, ins_in, is_source_in, line_in, originated_in, outputs_in, outs_in, relay_at, relay_command, relay_node, relay_passes, relay_source, relay_through, relay_writes, relayed_in, source_turns}
+use Rattle.top_nodes.specs.Relay.{frames_turn, frames_turns, generations_in, inputs_in, ins_in, is_source_in, line_in, node_in, outputs_in, outs_in, relay_at, relay_command, relay_node, relay_passes, relay_source, relay_through, relay_writes, relayed_in, source_turns}
 use Rattle.top_nodes.specs.Sink.{pattern_in}
-
--- ---- the blocks of a source that grows
-
--- a whole block of the bytes that came doesn't change by those that follow
-pub piece_front : (front more : List ℕ) (rate generation : ℕ) → (generation + 1) * capacity rate ≤ length front → piece_of (front ++ more) rate generation ≡ piece_of front rate generation
-piece_front front more rate generation whole =
-    let size = capacity rate in
-    let next : (generation + 1) * size ≡ generation * size + 1 * size = add-mul generation 1 size in
-    let start : generation * size ≤ length front = omega arith in
-    let room : size ≤ length (drop (generation * size) front) = omega (arith, length-drop (generation * size) front) in
-    ap (take size) (drop-append-le (generation * size) front more start) ∙ take-append-le size (drop (generation * size) front) more room
 
 module _ (given : AtNode) (code : Code) where
   -- ---- the frames of a generation
@@ -78,38 +64,16 @@ module _ (given : AtNode) (code : Code) where
 
   -- ---- the source
 
-  abbrev size : ℕ
-  size = capacity code.rate
-
-  -- what the files get of a block of these bytes
-  abbrev turn_of : ℕ → List ℕ → List Written
-  turn_of generation piece =
-      let block = block_of code.rate piece in
-      map (λ link. (stream_path given.output code.net link, frames_of link generation (λ part. payload_in code (pattern_in given code) block part link))) (outs_in given code)
-
-  -- more of the source brings no less
-  grows : (front more : List ℕ) → IsFrontOf (appends_of (source_turns given code true (front ++ more))) (appends_of (source_turns given code false front))
-  grows front more =
-      let some_rate : 1 ≤ code.rate = code.code.draft.some_rate in
-      let few = length front / size in
-      let all = block_count (front ++ more) code.rate in
-      let full : few * size ≤ length front = div-mul-le_self (length front) size in
-      let least : few ≤ length (front ++ more) / size = le-div few (length (front ++ more)) size (omega (arith, some_rate)) (omega (arith, full, length-append front more)) in
-      turns_front (frames_turn given code (originated_in given code (front ++ more))) (frames_turn given code (originated_in given code front)) few all (omega (arith, least))
-      (λ generation below.
-      let among : (generation + 1) * size ≤ few * size = mul-le-mul_right size (omega (arith, below)) in
-      ap (turn_of generation) (piece_front front more code.rate generation (omega (arith, among, full))))
-
   source_step : shared_path (given.code ∷ given.input ∷ []) (outputs_in given code) ≡ None → IsStep (relay_source given code)
   source_step clear =
       let inputs = given.code ∷ given.input ∷ [] in
       let outputs = outputs_in given code in
       let same : bytes_eq given.input given.input ≡ true = (bytes_eq-Decides given.input given.input).1 refl in
       let among : list_any (bytes_eq given.input) inputs ≡ true = or_right (bytes_eq given.input given.code) _ (or_left _ false same) in
-      feeds_step given.input demo_limit outputs (source_turns given code) (λ source. line_in given code (block_count source code.rate))
+      let job = job_in given code in
+      feeding_step job given.input demo_limit (source_turns given code) (λ source. line_in given code (block_count source code.rate)) (turns_in given code)
       (clear_distinct inputs outputs clear) (clear_apart inputs outputs clear given.input among)
-      (λ ended bytes. frames_append (originated_in given code bytes) (blocks_by ended bytes code.rate))
-      grows
+      (λ generation piece. parts_within outputs outputs (originated code (pattern_in given code) (node_in given code) (block_of code.rate piece) generation).bytes (λ place there. there))
 
   -- ---- either
 

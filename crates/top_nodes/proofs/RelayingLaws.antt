@@ -20,7 +20,7 @@ use Rattle.node_plans.specs.Plans.{ins_of, outs_of, plan_of}
 use Rattle.node_plans.specs.declared.plan.Plan.{Plan}
 use Rattle.node_program.specs.CodeValue.{is_live_in}
 use Rattle.node_program.specs.declared.code.Code.{Code}
-use Rattle.top_nodes.proofs.AppendLaws.{made_there, part_call, turns_more, turns_stopped}
+use Rattle.source_turns.proofs.AppendLaws.{made_there, part_call, turns_more, turns_stopped}
 use Rattle.top_nodes.specs.Working.{parts_of, paths_of}
 use Rattle.top_nodes.specs.declared.working.Relaying.{Relaying}
 

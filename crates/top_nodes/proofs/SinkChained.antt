@@ -50,7 +50,7 @@ use Rattle.top_base.specs.Words.{AtNode}
 use Rattle.top_base.specs.declared.outcome.Outcome.{Outcome}
 use Rattle.top_base.specs.declared.status.Status.{Status}
 use Rattle.top_base.specs.declared.status.Status.TheVariants.{Done}
-use Rattle.top_nodes.proofs.AppendLaws.{part_call, turns-add}
+use Rattle.source_turns.proofs.AppendLaws.{part_call, turns-add}
 use Rattle.top_nodes.proofs.BlocksLaws.{block_at-file, count_is-good, count_of-file, counted-file, file_window, length-file_window, pieces-file}
 use Rattle.top_nodes.proofs.ChainedLaws.{declined_named, done_outcome, left_told, or_changes, or_owed, owed_comes}
 use Rattle.top_nodes.proofs.StreamsLaws.{HasCount, generations-count, none_lacking, streams_bring, streams_count, streams_held, streams_links, streams_read}

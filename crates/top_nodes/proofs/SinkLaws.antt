@@ -21,7 +21,7 @@ use Rattle.top_base.specs.Named.{pattern_named, sink_named}
 use Rattle.top_base.specs.Words.{AtNode}
 use Rattle.top_base.specs.declared.outcome.Outcome.{Outcome}
 use Rattle.top_base.specs.declared.status.Status.TheVariants.{Usage}
-use Rattle.top_nodes.proofs.AppendLaws.{TurnAppends, turns_append}
+use Rattle.source_turns.proofs.AppendLaws.{TurnAppends, turns_append}
 use Rattle.top_nodes.proofs.DeclinedLaws.{IsRefusal, declined_refuses, either_refuses, or_refuses_step}
 use Rattle.top_nodes.proofs.WantedLaws.{lacking_refuses, streams_refuse}
 use Rattle.top_nodes.specs.Declined.{declined}

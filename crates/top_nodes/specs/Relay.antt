@@ -1,6 +1,6 @@
 -- The command `relay`: the streams of the live links into a node are read, at the source a file, and those of the live links out of it are
 -- written.
-use Rattle.std.specs.Prelude.{◌*◌, ◌/◌, ◌==◌, ◌∷◌, ℕ, Bool, false, true, List, [], if◌then◌else◌, length, map, unwrap_or}
+use Rattle.std.specs.Prelude.{◌*◌, ◌==◌, ◌∷◌, ℕ, Bool, false, true, List, [], if◌then◌else◌, length, map, unwrap_or}
 use Rattle.std.specs.List.{range_with_len}
 use Rattle.code_file.specs.Limits.{code_limit}
 use Rattle.coded_traffic.specs.Traffic.{payload_in}
@@ -8,13 +8,14 @@ use Rattle.command_steps.specs.Feeding.{feeds}
 use Rattle.command_steps.specs.Filling.{fills}
 use Rattle.command_steps.specs.Listed.{reads_each}
 use Rattle.command_steps.specs.Steps.{reads_then}
-use Rattle.generation_frame.specs.Blocks.{block_count, block_of, capacity, piece_of, pieces}
+use Rattle.generation_frame.specs.Blocks.{block_count, block_of, piece_of, pieces}
 use Rattle.lif_outside.specs.FileCalls.{Written}
 use Rattle.link_streams.specs.Filled.{frames_of}
 use Rattle.link_streams.specs.Relaying.{sums_in}
 use Rattle.link_streams.specs.Streams.{Stream, all_packets}
 use Rattle.node_plans.specs.Plans.{ins_of, outs_of}
 use Rattle.node_program.specs.declared.code.Code.{Code}
+use Rattle.source_turns.specs.Turns.{blocks_by}
 use Rattle.top_base.specs.Accepting.{IsCodeOf, RefusesCode}
 use Rattle.top_base.specs.Lines.{relayed_line}
 use Rattle.top_base.specs.Named.{node_named, pattern_named}
@@ -84,10 +85,6 @@ relay_node given code =
     (λ files. relay_passes given code (streams_of (ins_in given code) files))
 
 -- ---- the source
-
--- how many blocks some bytes of a source bring: whole ones, and where it ended the last
-abbrev pub blocks_by : Bool → List ℕ → ℕ → ℕ
-blocks_by ended bytes rate = if ended then block_count bytes rate else length bytes / capacity rate
 
 abbrev pub source_turns : AtNode → Code → Bool → List ℕ → List (List Written)
 source_turns given code ended bytes = frames_turns given code (originated_in given code bytes) (blocks_by ended bytes code.rate)

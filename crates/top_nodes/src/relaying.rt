@@ -21,12 +21,12 @@ ghost use Rattle.top_nodes.specs.Declined.{declined};
 ghost use Rattle.top_nodes.specs.Files.{first_lacking, stream_paths};
 ghost use Rattle.top_nodes.specs.Relay.{generations_in, inputs_in, ins_in, is_source_in, node_in, outputs_in, relay_command, relay_node, relay_source, relay_through};
 ghost use Rattle.top_nodes.specs.Sink.{pattern_in};
-ghost use Rattle.top_nodes.specs.Sourcing.{job_of};
+ghost use Rattle.top_nodes.specs.Sourcing.{job_of, source_job};
 ghost use Rattle.top_nodes.specs.Working.{parts_of, paths_of, turn_of};
 
 use crate::naming::{one_path, see_apart, stream_paths, unknown_node, unknown_pattern};
 use crate::reading::{generations_of, read_streams, see_whole};
-use crate::sourcing::{FeedFault, Sourcing};
+use crate::sourcing::Sourcing;
 use crate::working::Relaying;
 use code_checker::Checked;
 use generation_frame::PIECES;
@@ -35,11 +35,13 @@ use lif_outside::{Failed, Gate, Store};
 use link_streams::{Frames, Relay, StreamList};
 use net_model::Net;
 use node_plans::LiveWiring;
+use source_turns::Feeding;
 use std::alloc::{AllocError, Global};
 use std::thread::Threads;
-use top_base::{
-    FileRefusal, Line, NodeWords, Outcome, Status, node_named, pattern_named, read_accepted,
-};
+use top_base::{Line, NodeWords, Outcome, Status, node_named, pattern_named, read_accepted};
+
+/// The greatest length of a source that is relayed, in bytes.
+const RELAY_LIMIT: u64 = 67_108_864;
 
 impl<'c, F: Field> Relaying<'c, F> {
     /// Creates each link's file, in order.
@@ -343,43 +345,35 @@ fn relay_source<'a, F: Field, S: Store>(
     ensures { MakesCalls S.Store store.old store.new
         (RunsOrForgets (relay_source (node_given_in words.now) code.now) result) }
 {
-    let Ok(mut sourcing) = open_sourcing::<F>(alloc, code, found) else {
+    let Ok(mut feeding) = open_feeding::<F>(alloc, code, found) else {
         return Outcome::out_of_memory();
     };
-    match sourcing.feed(store, words.input) {
+    match feeding.feed(store, words.input, RELAY_LIMIT) {
         Ok(generations) => Outcome {
             status: Status::Done,
-            line: sourcing.line(generations),
+            line: feeding.turns.relaying.line(generations),
         },
-        Err(FeedFault::Read) => FileRefusal::Fault.into(),
-        Err(FeedFault::TooLong) => Outcome::too_long(),
-        Err(FeedFault::Write) => Outcome::write_fault(),
+        Err(fault) => fault.into(),
     }
 }
 
 // Takes all memory that the source's work needs.
-fn open_sourcing<F: Field>(
+fn open_feeding<F: Field>(
     alloc: Global,
     code: &Checked,
     found: NodeLinks,
-) -> Result<Sourcing<'_, F>, AllocError>
+) -> Result<Feeding<Sourcing<'_, F>>, AllocError>
     requires field { IsOfKind code.now.field F.SIZE F.BYTES F.MARK F.product }
     requires pattern { found.pattern < length code.now.net.patterns }
     requires node { found.node < length code.now.net.nodes }
     requires source { (found.node == code.now.net.source) ≡ true }
     requires each { vec_len found.outputs
         ≡ length (outs_of code.now found.pattern found.node) }
-    ensures job { IfOk result (λ sourcing. job_of sourcing.relaying ≡ record {
-      code = code.now;
-      pattern = found.pattern;
-      node = found.node;
-      paths = map string_bytes found.outputs.items;
-    }) }
-    ensures filled { IfOk result (λ sourcing. sourcing.filled ≡ 0) }
-    ensures next { IfOk result (λ sourcing. sourcing.next ≡ 0) }
+    ensures { IfOk result (λ feeding. job_of feeding.turns.relaying ≡ source_job
+        code.now found.pattern found.node (map string_bytes found.outputs.items)) }
 {
     let relaying = open_relaying(alloc, code, found.pattern, found.node, found.outputs)?;
-    Sourcing::new(alloc, relaying)
+    Feeding::new(alloc, Sourcing { relaying })
 }
 
 // Relays at a node, or at the source. `F` is the code's field.

@@ -9,7 +9,7 @@ use Rattle.lif_outside.specs.Events.{create_failed, created}
 use Rattle.lif_outside.specs.FileCalls.{StopsWithin, appends_of}
 use Rattle.lif_outside.specs.Sequences.{Are}
 use Rattle.top_base.specs.Given.{node_given_in}
-use Rattle.top_nodes.proofs.AppendLaws.{turns_more, turns_stopped}
+use Rattle.source_turns.proofs.AppendLaws.{turns_more, turns_stopped}
 use Rattle.top_nodes.proofs.SinkingLaws.{still_here, still_then, turn_still}
 use Rattle.top_nodes.specs.Sink.{sink_turn, sink_turns}
 use Rattle.top_nodes.proofs.sinking.Sinking.write.Goals as goal
