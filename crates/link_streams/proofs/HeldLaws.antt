@@ -72,24 +72,6 @@ generation_count-put_in packet (first ∷ rest) lacks =
       ]
     ]
 
--- where no number is noted, no packet came
-pub AreHeld-empty : (link room : ℕ) → AreHeld link [] (replicate room None) [] 0
-AreHeld-empty link room =
-    record {
-      fit = All-nil Fits;
-      of_link = All-nil (λ packet. packet.link ≡ link);
-      held = All-nil (Contains []);
-      found = All-nil (λ packet. IsSome (number_at (replicate room None) [] (place_of packet)));
-      numbers = λ place number is. let none = lacks place in cc;
-      counted = refl;
-    }
-  where
-    lacks : (place : ℕ) → number_at (replicate room None) [] place ≡ None
-    lacks place = elim (cases_lt place (length (replicate {A = Option ℕ} room None))) [
-      | inl early ↦ cond-true _ _ _ (lt-ltb _ _ early) ∙ get_or-replicate room place None None (omega (arith, early, length-replicate {A = Option ℕ} room None))
-      | inr late ↦ cond-false _ _ _ (le-ltb _ _ late)
-    ]
-
 module _ (link : ℕ) (packets : List Packet) (early : List (Option ℕ)) (late : List (ℕ × ℕ)) (generations : ℕ) (held : AreHeld link packets early late generations) where
   -- packets held are a stream
   pub IsStream-held : IsStream (record { link = link; packets = packets_held packets })

@@ -59,12 +59,6 @@ reads-stopped link number packets why bytes within is =
     ap (reads link (number * frame_bytes) packets) (drop-frames_in bytes number within)
     ∙ reads-refused link (number * frame_bytes) packets why (take frame_bytes (drop (number * frame_bytes) bytes)) (drop (number + 1) (frames_in bytes)) is
 
--- a packet of the same place with another payload conflicts
-pub is_conflict-found : (packets : List Packet) (one packet : Packet) → Contains packets one → place_of one ≡ place_of packet → bytes_eq one.payload packet.payload ≡ false → is_conflict packets packet ≡ true
-is_conflict-found packets one packet has same other =
-    let test : Packet → Bool = λ one. (place_of one == place_of packet) && not (bytes_eq one.payload packet.payload) in
-    list_any_at test packets has.0 one has.1 (ap test has.2 ∙ and_from _ _ (eq-eqb _ _ same) (not_from_false _ other))
-
 -- with the same payload it doesn't, since each place stands once
 pub is_conflict-known : (packets : List Packet) (one packet : Packet) → is_rising (map place_of packets) ≡ true → Contains packets one → place_of one ≡ place_of packet → bytes_eq one.payload packet.payload ≡ true
     → is_conflict packets packet ≡ false

@@ -144,28 +144,3 @@ put_in-known packet (one ∷ rest) rising has =
         ]
       ]
     ]
-
--- a packet behind all of some stands behind them
-pub put_in-behind : (packet : Packet) (front back : List Packet) → All (λ one. place_of one < place_of packet) front → put_in packet (front ++ back) ≡ front ++ put_in packet back
-put_in-behind packet [] back earlier = refl
-put_in-behind packet (one ∷ front) back earlier =
-    put_in-later packet one (front ++ back) (All-head (λ one. place_of one < place_of packet) one front earlier)
-    ∙ ap (λ packets. one ∷ packets) (put_in-behind packet front back (All-tail (λ one. place_of one < place_of packet) one front earlier))
-
--- and one before all before them
-pub put_in-before : (packet : Packet) (back : List Packet) → All (λ one. place_of packet < place_of one) back → put_in packet back ≡ packet ∷ back
-put_in-before packet [] later = refl
-put_in-before packet (one ∷ back) later = put_in-earlier packet one back (All-head (λ one. place_of packet < place_of one) one back later)
-
--- the last of rising packets has the greatest generation
-pub generation_count-last : (packets : List Packet) (i : ℕ) (d : Packet) → is_rising (map place_of packets) ≡ true → All Fits packets → i + 1 ≡ length packets → generation_count packets ≡ (get_or packets i d).generation + 1
-generation_count-last [] i d rising fit last = absurd (omega arith)
-generation_count-last (one ∷ []) zero d rising fit last = omega arith
-generation_count-last (one ∷ []) (suc i) d rising fit last = absurd (omega arith)
-generation_count-last (one ∷ other ∷ rest) zero d rising fit last = absurd (omega arith)
-generation_count-last (one ∷ other ∷ rest) (suc i) d rising fit last =
-    let later : one.generation * 8 + one.piece < (get_or (other ∷ rest) i d).generation * 8 + (get_or (other ∷ rest) i d).piece = (rising_parts one (other ∷ rest) rising).0 i d (omega arith) in
-    let piece : (get_or (other ∷ rest) i d).piece < 8 = (fit (suc i) d (omega arith)).piece in
-    let rest_of : generation_count (other ∷ rest) ≡ (get_or (other ∷ rest) i d).generation + 1 =
-    generation_count-last (other ∷ rest) i d (rising_parts one (other ∷ rest) rising).1 (All-tail Fits one (other ∷ rest) fit) (omega arith) in
-    omega (arith, later, piece, rest_of)

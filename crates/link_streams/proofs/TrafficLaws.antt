@@ -83,14 +83,6 @@ brings-is code pattern window stream brings =
     All-weaker (IsOfLink code pattern window stream.link) (λ packet. packet ≡ packet_of code pattern window (key_of packet)) (λ packet is. is.is)
     stream.packets brings.of_traffic
 
--- the payload of each key is that of the traffic
-pub stream-payload : (code : Code) (pattern : ℕ) (window : Window) (stream : Stream) → BringsTraffic code pattern window stream
-    → (key : Key) → IsKey code pattern window key → key.link ≡ stream.link
-    → payload_of stream.packets key ≡ payload_in code pattern (block_at window key.generation) key.piece stream.link
-stream-payload code pattern window stream brings key is here =
-    known-payload code pattern window stream.packets key (brings-is code pattern window stream brings) (brings.all key is here)
-    ∙ ap (payload_in code pattern (block_at window key.generation) key.piece) here
-
 -- the keys of a live link are of the traffic
 pub key-is : (code : Code) (pattern : ℕ) (window : Window) (link generation piece : ℕ) → AreNumbered code window → is_live_in code pattern link ≡ true
     → generation < length window.blocks → piece < pieces → IsKey code pattern window (record { link = link; generation = generation; piece = piece })
@@ -112,11 +104,6 @@ stream-whole code pattern window stream numbered brings live place below =
     key-is code pattern window stream.link (place / pieces) (place % pieces) numbered live (omega (arith, below)) (omega arith) in
     let at : place / pieces * pieces + place % pieces ≡ place = omega arith in
     ap (has_place stream.packets) (sym at) ∙ has_place-key stream.packets key (brings.all key is refl)
-
-pub stream-generation : (code : Code) (pattern : ℕ) (window : Window) (stream : Stream) → AreNumbered code window → BringsTraffic code pattern window stream
-    → is_live_in code pattern stream.link ≡ true → (generation : ℕ) → generation < length window.blocks → HasGeneration generation stream
-stream-generation code pattern window stream numbered brings live generation below piece low =
-    stream-whole code pattern window stream numbered brings live (generation * pieces + piece) (omega (arith, below, low))
 
 -- generations are numbered below their count, which is no more than a bound of all
 generation_count-above : (packets : List Packet) (packet : Packet) → Contains packets packet → packet.generation < generation_count packets

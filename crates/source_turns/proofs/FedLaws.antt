@@ -43,10 +43,6 @@ left-none size bytes =
     let none : 0 * size ≡ 0 = omega arith in
     record { whole = omega (arith, none); left_is = sym (ap (λ n. drop n bytes) none) }
 
--- where all were sent, nothing is
-pub left-all : (size blocks : ℕ) (bytes : List ℕ) → blocks * size ≡ length bytes → IsLeft size blocks bytes []
-left-all size blocks bytes all = record { whole = omega (arith, all); left_is = sym (drop_all (blocks * size) bytes (omega (arith, all))) }
-
 -- bytes that come are left too
 left-more : (size blocks : ℕ) (bytes left more : List ℕ) → IsLeft size blocks bytes left → IsLeft size blocks (bytes ++ more) (left ++ more)
 left-more size blocks bytes left more is = record {
