@@ -24,8 +24,9 @@ pub struct Place {
 }
 
 /// The packets that a link has brought, each place once, which contracts see with their link by rising place. They stand in
-/// the order in which they came. The number of each is noted at its place: in a table for the first places, as many as the
-/// file has frames, and in a map for the others. So a frame costs the same in every order, and a far place one entry.
+/// the order in which they came, numbered from 0, and the number of each is noted at its place: in a table for the first
+/// places, as many as the file has frames, and in a map for the others. So a frame costs the same in every order, and one of
+/// a far place one entry.
 #[derive(Drop)]
 pub struct Stream {
     link: u32,
@@ -68,7 +69,7 @@ fn place_at(number: u64) -> Place
     }
 }
 
-// The number of the packet of a place.
+// The number of the packet of a place, if it is there.
 fn number_of(early: &[Option<u32>], late: &BTreeMap<u64, u32>, place: u64) -> Option<u32>
     ensures { result ≡ number_at early.now late.now.entries place }
 {
@@ -78,7 +79,7 @@ fn number_of(early: &[Option<u32>], late: &BTreeMap<u64, u32>, place: u64) -> Op
     late.get(&place).copied()
 }
 
-// Notes the number of the packet of a place. Where memory runs out nothing changes.
+// Notes the number of the packet of a place. Where memory runs out nothing is noted.
 fn note_number(
     early: &mut [Option<u32>],
     late: &mut BTreeMap<u64, u32>,
@@ -105,7 +106,7 @@ impl Stream {
     ghost use Rattle.link_streams.specs.Streams.{IsFirstMissing, IsStream, IsWhole, generation_count, has_place, put_in};
 
     /// Reads a file as the stream of a link: frames of that link, in any order and with repeats. The length is tried first,
-    /// and then frame after frame.
+    /// and then frame after frame. More packets than a `u32` counts are refused as want of memory.
     pub fn read(alloc: Global, link: u32, bytes: &[u8]) -> Result<Stream, StreamWhy>
         ensures link { IfOk result (λ stream. stream.link ≡ link) }
         ensures packets { IfOk result (λ stream. packets_read link bytes.now ≡ Ok stream.packets) }
@@ -164,7 +165,7 @@ impl Stream {
         }
     }
 
-    // Puts a packet in whose place isn't there.
+    // Puts a packet in whose place isn't there. Where memory runs out nothing changes.
     fn put(&mut self, packet: Packet) -> Result<(), AllocError>
         requires link { packet.link ≡ self.old.link }
         requires fits { Fits packet }
