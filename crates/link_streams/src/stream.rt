@@ -172,6 +172,7 @@ impl Stream {
         requires new { has_place self.old.packets (place_of packet) ≡ false }
         ensures link { self.new.link ≡ self.old.link }
         ensures packets { OnOk result (self.new.packets ≡ put_in packet self.old.packets) }
+        ensures same { OnErr result (self.new.packets ≡ self.old.packets) }
     {
         let place = place_of(&packet);
         let generations = self.generations.max(packet.generation as u64 + 1);
