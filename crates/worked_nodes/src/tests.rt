@@ -14,6 +14,7 @@ mod heads;
 mod links;
 mod many_links;
 mod orders;
+mod received;
 mod repeats;
 mod rows;
 mod runs;
