@@ -1,3 +1,4 @@
 pub mod AppendLaws
+pub mod CreateLaws
 pub mod FedLaws
 pub mod RunLaws

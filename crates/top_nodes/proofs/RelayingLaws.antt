@@ -1,14 +1,13 @@
 -- What has to be known of a node at work on its streams.
-use Rattle.std.specs.Prelude.{◌≡◌, ◌<◌, ◌≤◌, ◌+◌, ◌∷◌, ◌++◌, ◌&&◌, ◌==◌, [], ℕ, zero, suc, map, Contains, List, Some, drop, get_or, length, slice_get, string_bytes, take}
+use Rattle.std.specs.Prelude.{◌≡◌, ◌<◌, ◌≤◌, ◌+◌, ◌∷◌, ◌++◌, ◌&&◌, ◌==◌, [], ℕ, zero, suc, map, List, Some, drop, get_or, length, slice_get, string_bytes, take}
 use Rattle.std.specs.List.{range_with_len}
-use Rattle.std.proofs.Common.{refl, sym, ap, subst, ◌∙◌, arith, drop-cons, inr}
-use Rattle.std.proofs.lemmas.List.{append-nil, append_assoc, map-append, take_all, take_more, take-append-drop}
+use Rattle.std.proofs.Common.{refl, sym, ap, subst, ◌∙◌, arith, inr}
+use Rattle.std.proofs.lemmas.List.{append-nil, append_assoc, map-append, take_all, take-append-drop}
 use Rattle.std.proofs.lemmas.List.FromFn.{length-range_with_len}
 use Rattle.command_steps.specs.Filling.{Fills, StopsFilling}
 use Rattle.generation_frame.specs.declared.frame.Packet.{Packet}
 use Rattle.lif_outside.proofs.SequenceLaws.{stops_behind, stops_first, stops_here}
-use Rattle.lif_outside.proofs.TurnLaws.{creates_of-append, creates_of-stops}
-use Rattle.lif_outside.specs.Events.{Event, append_failed, create_failed, created}
+use Rattle.lif_outside.specs.Events.{Event, append_failed}
 use Rattle.lif_outside.specs.FileCalls.{StopsWithin, Written, appends_of, creates_of}
 use Rattle.lif_outside.specs.Sequences.{Are}
 use Rattle.link_streams.specs.Relaying.{relayed}
@@ -20,28 +19,9 @@ use Rattle.node_plans.specs.Plans.{ins_of, outs_of, plan_of}
 use Rattle.node_plans.specs.declared.plan.Plan.{Plan}
 use Rattle.node_program.specs.CodeValue.{is_live_in}
 use Rattle.node_program.specs.declared.code.Code.{Code}
-use Rattle.source_turns.proofs.AppendLaws.{made_there, part_call, turns_more, turns_stopped}
+use Rattle.source_turns.proofs.AppendLaws.{part_call, turns_more, turns_stopped}
 use Rattle.top_nodes.specs.Working.{parts_of, paths_of}
 use Rattle.top_nodes.specs.declared.working.Relaying.{Relaying}
-
--- ---- files that are created in order
-
-module _ (paths : List (List ℕ)) (n : ℕ) (within : n < length paths) where
-  abbrev next : List ℕ
-  next = get_or paths n []
-
-  pub created_more : creates_of (take n paths) ++ created next ∷ [] ≡ creates_of (take (n + 1) paths)
-  created_more = sym (ap creates_of (take_more paths n [] within) ∙ creates_of-append (take n paths) (next ∷ []))
-
-  pub create_stops : StopsWithin (creates_of paths) (creates_of (take n paths) ++ create_failed next ∷ [])
-  create_stops =
-      let rest = drop (suc n) paths in
-      let around : paths ≡ take n paths ++ next ∷ rest = sym (take-append-drop n paths) ∙ ap (λ behind. take n paths ++ behind) (drop-cons paths n [] within) in
-      subst (λ all. StopsWithin (creates_of all) (creates_of (take n paths) ++ create_failed next ∷ [])) (sym around) (creates_of-stops (take n paths) next rest)
-
--- each of the paths is created
-pub created_there : (paths : List (List ℕ)) (place : List ℕ) → Contains paths place → Contains (creates_of paths) (created place)
-created_there paths place there = made_there created paths place there
 
 -- ---- what each path gets of a generation
 

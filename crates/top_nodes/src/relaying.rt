@@ -35,7 +35,7 @@ use lif_outside::{Failed, Gate, Store};
 use link_streams::{Frames, Relay, StreamList};
 use net_model::Net;
 use node_plans::LiveWiring;
-use source_turns::Feeding;
+use source_turns::{Feeding, create_each};
 use std::alloc::{AllocError, Global};
 use std::thread::Threads;
 use top_base::{Line, NodeWords, Outcome, Status, node_named, pattern_named, read_accepted};
@@ -53,10 +53,7 @@ impl<'c, F: Field> Relaying<'c, F> {
         ensures failed { OnErr result (MakesCalls S.Store store.old store.new
             (StopsWithin (creates_of (paths_of self.now)))) }
     {
-        for output in &self.outputs {
-            store.create(output.as_str())?;
-        }
-        Ok(())
+        create_each(store, &self.outputs)
     }
 
     /// Adds the frames of a generation to each link's file, in order.
