@@ -223,14 +223,24 @@ static void take_decoders(const struct code *code, struct bytes *rest) {
     free(decoders);
 }
 
-static void take_code(struct code *code, struct bytes rest, const char *pattern) {
-    take_front(code, &rest);
-    take_links(code, &rest);
-    take_sinks(code, &rest);
-    take_patterns(code, &rest, pattern);
-    for (unsigned link = 0; link < code->link_count; link++) take_operands(code, &rest, &code->links[link]);
-    take_decoders(code, &rest);
-    if (rest.length != 0) fail("the code file is too long");
+// Takes what stands before the operands. The links of the pattern that is named fail then.
+static void take_named(struct code *code, struct bytes *rest, const char *pattern) {
+    take_front(code, rest);
+    take_links(code, rest);
+    take_sinks(code, rest);
+    take_patterns(code, rest, pattern);
+}
+
+// Takes the operands and the decoders, which are the end.
+static void take_sums(struct code *code, struct bytes *rest) {
+    for (unsigned link = 0; link < code->link_count; link++) take_operands(code, rest, &code->links[link]);
+    take_decoders(code, rest);
+    if (rest->length != 0) fail("the code file is too long");
+}
+
+static inline void take_code(struct code *code, struct bytes rest, const char *pattern) {
+    take_named(code, &rest, pattern);
+    take_sums(code, &rest);
 }
 
 #endif

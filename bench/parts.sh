@@ -24,6 +24,11 @@ node_rounds=5
 node_generations=239674
 node_appends=204800
 
+# How often a sink that knows no code is fed with headed frames, of how many rows, and how many frames there are about each time.
+head_rounds=20
+head_rates="2 8 32"
+heads_each=500000
+
 # How often each network text is gone through by the program and by C++, and how often each size is taken where there are many.
 net_rounds=15
 size_rounds=5
@@ -62,6 +67,7 @@ size_bytes="1024 4096 16384 65536 262144 1048576 4194304 16777216 67108864"
 be_quick() {
     copy_rounds=1 row_rounds=1 code_rounds=1 read_rounds=1 check_rounds=1 migrate_rounds=1 frame_rounds=1 net_rounds=1
     size_rounds=1 alone_rounds=1 node_rounds=1 node_generations=4000 node_appends=10240
+    head_rounds=1 heads_each=50000
     frames_each=50000 source_bytes=4194304 layer_bytes=65536
     alone_links=250 size_layers="2 4 8" size_patterns="0 3 15" size_bytes="1024 16384 262144"
 }
@@ -140,6 +146,16 @@ build_frames() {
     mv "$folder/rattle/crates/frames/out/frames" "$folder/rattle-frames"
 }
 
+# Proves and builds the program that feeds a sink that knows no code, for the processor's level.
+build_heads() {
+    make_crate heads gf_tables generation_frame vector_headers
+    build c-blind
+    "$folder/c-blind" heads 8 2 >"$files/heads"
+    (cd "$folder/rattle/crates/heads" && rt run --cpu "$own_level" -- 8 2 1) <"$files/heads" >"$folder/log" 2>&1 ||
+        fail "$(cat "$folder/log")"
+    mv "$folder/rattle/crates/heads/out/heads" "$folder/rattle-heads"
+}
+
 # Proves and builds the program that reads and writes code files, for the processor's level.
 build_files() {
     make_crate files gf_tables net_model node_program code_items code_file
@@ -159,6 +175,7 @@ build() {
         codes) cc -O2 -o "$folder/codes" "$top/bench/codes.c" ;;
         c-rows) cc -O2 -o "$folder/c-rows" "$top/bench/rows.c" -lisal ;;
         c-frames) cc -O3 -march="$own_level" -o "$folder/c-frames" "$top/bench/frames.c" -lisal ;;
+        c-blind) cc -O3 -march="$own_level" -o "$folder/c-blind" "$top/bench/blind.c" -lisal ;;
         c-nodes) cc -O3 -o "$folder/c-nodes" "$top/bench/nodes.c" -lisal ;;
         c-send) cc -O3 -o "$folder/c-send" "$top/bench/send_frames.c" -lisal ;;
         c-check) cc -O3 -march="$own_level" -o "$folder/c-check" "$top/bench/check.c" ;;
@@ -251,6 +268,86 @@ measure_codes() {
     measure_code "the layers of which all links carry" 64 layers 8 64 16
     measure_compiled "the layers that were compiled" 64 layers 8 64 16 0
     rm "$files/source"
+}
+
+# Runs a command that sends the source through the code to so many sinks where no link fails, and keeps under a name the least of its
+# times and what it said last.
+run_blind() {
+    local name=$1 sinks=$2
+    shift 2
+    time_command "$@" "$files/code" "$files/source" "$files/out"
+    send_time[$name]=$(least "${send_time[$name]:-}" "$elapsed")
+    mv "$folder/log" "$files/said-$name"
+    compare_outputs "$sinks"
+}
+
+# Sets `memory` to the bytes that `blind` holds as it sends the source through the code to so many sinks.
+memory_of_blind() {
+    /usr/bin/time -q -f %M -o "$folder/memory" "$program" blind "$files/code" "$files/source" "$files/out" >"$folder/log"
+    memory=$(($(cat "$folder/memory") * 1024))
+    compare_outputs "$1"
+}
+
+# Sends the source to the sinks of a code by the frames' vectors alone, and beside that by `send` on one processor, in turn. C has
+# fields of octets alone. Then the program's memory is noted beside that for one byte.
+measure_blind_code() {
+    local title=$1 sinks=$2 field=$3 round long
+    shift 3
+    "$folder/codes" "$@" >"$files/code"
+    send_time=()
+    for ((round = 0; round < code_rounds; round++)); do
+        pin "$one_processor"
+        run_blind lif "$sinks" "$program" blind
+        if [ "$field" != 16 ]; then
+            run_blind isal "$sinks" "$folder/c-blind" blind
+            cmp "$files/said-lif" "$files/said-isal"
+        fi
+        run_send one "$sinks" "$program" send
+        pin "$all_processors"
+    done
+    if [ "$field" != 16 ]; then note "\`blind\` through $title" "" ms 1000000 "${send_time[lif]}" "${send_time[isal]}" "C with ISA-L"; fi
+    note "\`blind\` through $title, beside \`send\`" "" ms 1000000 "${send_time[lif]}" "${send_time[one]}" "\`send\` on one processor"
+    memory_of_blind "$sinks"
+    long=$memory
+    mv "$files/source" "$files/whole"
+    printf x >"$files/source"
+    memory_of_blind "$sinks"
+    mv "$files/whole" "$files/source"
+    note "memory for \`blind\` through $title" "" MB 1000000 "$long" "$memory" "one byte"
+}
+
+measure_blind() {
+    build codes c-blind
+    make_source
+    cp "$folder/source" "$files/source"
+    measure_blind_code "the butterfly" 2 8 butterfly
+    measure_blind_code "the fan of field 8" 16 8 fan 8 8 16 16 8 0
+    measure_blind_code "the fan of field 9" 16 9 -2 fan 9 8 16 16 8 0
+    measure_blind_code "the fan of field 16" 16 16 fan 16 8 16 16 8 0
+    head -c "$layer_bytes" "$folder/source" >"$files/source"
+    measure_blind_code "the layers of which all links carry" 64 8 layers 8 64 16
+    rm "$files/source"
+}
+
+# Feeds a sink with the headed frames of as many links as rows, by the program and by C in turn, and compares what they counted.
+feed_heads() {
+    local field=$1 rate=$2 round rounds=$((heads_each / ($2 * 8)))
+    "$folder/c-blind" heads "$field" "$rate" >"$files/code"
+    frame_time=()
+    for ((round = 0; round < head_rounds; round++)); do
+        run_frames rattle "$folder/rattle-heads" "$field" "$rate" "$rounds"
+        run_frames isal "$folder/c-blind" feed "$field" "$rate" "$rounds"
+        [ "${frame_count[rattle]}" = "${frame_count[isal]}" ] || fail "C counts ${frame_count[isal]} and not ${frame_count[rattle]}"
+    done
+    note "\`Blind\` of rate $rate, field $field" "" "ns a frame" "$((rounds * rate * 8))" "${frame_time[rattle]}" "${frame_time[isal]}" \
+        "C with ISA-L"
+}
+
+measure_heads() {
+    local field rate
+    for field in 8 9; do
+        for rate in $head_rates; do feed_heads "$field" "$rate"; done
+    done
 }
 
 # So many bytes of the source of `demo`.

@@ -1,4 +1,4 @@
-# Completion of bash for lif and its tools: words, files, and the patterns and sinks of networks and codes. To use it in a shell:
+# Completion of bash for lif and its tools: words, files, and the patterns, sinks and links of networks and codes. To use it in a shell:
 #
 #     . tools/lif-completion.bash
 
@@ -33,7 +33,7 @@ _lif_patterns() {
     _lif_words "$1" "$("$_lif_estimate" "$(_lif_path "$2")" --patterns 2>/dev/null)"
 }
 
-# Offers the nodes, or the sinks, of a code file; nothing where it is none.
+# Offers the nodes, the sinks, or the links, of a code file; nothing where it is none.
 _lif_nodes() {
     _lif_words "$1" "$("$_lif_estimate" "$(_lif_path "$2")" "$3" 2>/dev/null)"
 }
@@ -42,17 +42,18 @@ _lif() {
     local word=${COMP_WORDS[COMP_CWORD]}
     COMPREPLY=()
     if ((COMP_CWORD == 1)); then
-        _lif_words "$word" "order cuts compile check send demo migrate relay sink"
+        _lif_words "$word" "order cuts compile check send demo migrate relay sink blind"
         return
     fi
     case ${COMP_WORDS[1]},$COMP_CWORD in
     order,2 | cuts,2 | compile,2) _lif_files "$word" .net ;;
-    compile,3 | check,2 | send,2 | migrate,2 | migrate,3 | relay,2 | sink,2) _lif_files "$word" .lif ;;
+    compile,3 | check,2 | send,2 | migrate,2 | migrate,3 | relay,2 | sink,2 | blind,2) _lif_files "$word" .lif ;;
     compile,4) _lif_files "$word" .txt ;;
     send,3 | relay,3 | sink,3) _lif_patterns "$word" "${COMP_WORDS[2]}" ;;
     relay,4) _lif_nodes "$word" "${COMP_WORDS[2]}" --nodes ;;
     sink,4) _lif_nodes "$word" "${COMP_WORDS[2]}" --sinks ;;
-    send,5 | send,6 | relay,5 | relay,6 | sink,5 | sink,6) _lif_files "$word" "" ;;
+    send,5 | send,6 | relay,5 | relay,6 | sink,5 | sink,6 | blind,3 | blind,4) _lif_files "$word" "" ;;
+    blind,*) _lif_nodes "$word" "${COMP_WORDS[2]}" --links ;;
     esac
 }
 
@@ -74,6 +75,16 @@ _lif_names() {
     if [[ -f $net ]]; then awk -v kind="$1" '$1 == kind { print $2 }' "$net"; fi
 }
 
+# The links in the network text of the command line, those of bundles by their own names.
+_lif_links() {
+    local net
+    net=$(_lif_given .net)
+    if [[ -f $net ]]; then
+        awk '$1 == "link" && $5 ~ /^x[0-9]+/ { for (at = 1; at <= substr($5, 2) + 0; at++) print $2 "." at; next }
+            $1 == "link" { print $2 }' "$net"
+    fi
+}
+
 # The tools: their options and what these take, by their help text, and files.
 _lif_tool() {
     local tool=${COMP_WORDS[0]##*/} word=${COMP_WORDS[COMP_CWORD]} before=${COMP_WORDS[COMP_CWORD - 1]} told value
@@ -82,6 +93,11 @@ _lif_tool() {
     lif-estimate,--pattern | lif-plan,--pattern) _lif_patterns "$word" "$(_lif_given .lif)" ;;
     *,--pattern) _lif_words "$word" "none $(_lif_names pattern)" ;;
     lif-draw,--sink) _lif_words "$word" "$(_lif_names sink)" ;;
+    lif-draw,--failed)
+        # Names with a comma between each two: the last one is completed.
+        value=${word%"${word##*,}"}
+        mapfile -t COMPREPLY < <(compgen -P "$value" -W "$(_lif_links)" -- "${word##*,}")
+        ;;
     lif-draw,--report) _lif_files "$word" .txt ;;
     lif-draw,--code) _lif_files "$word" .lif ;;
     lif-draw,-o) _lif_files "$word" .svg .png .pdf ;;

@@ -1,5 +1,5 @@
 #compdef lif lif-draw lif-estimate lif-gain lif-import lif-plan
-# Completion of zsh for lif and its tools: words, files, and the patterns and sinks of networks and codes. It goes as _lif to a
+# Completion of zsh for lif and its tools: words, files, and the patterns, sinks and links of networks and codes. It goes as _lif to a
 # folder of fpath; the patterns of codes need lif-estimate on the path.
 
 # Offers the patterns of a code file; nothing where it is none.
@@ -9,7 +9,7 @@ _lif_patterns() {
     compadd -a patterns
 }
 
-# Offers the nodes, or the sinks, of a code file; nothing where it is none.
+# Offers the nodes, the sinks, or the links, of a code file; nothing where it is none.
 _lif_nodes() {
     local -a names
     names=(${(f)"$(lif-estimate ${~${(Q)1}} $2 2>/dev/null)"})
@@ -18,17 +18,18 @@ _lif_nodes() {
 
 _lif_program() {
     if ((CURRENT == 2)); then
-        compadd order cuts compile check send demo migrate relay sink
+        compadd order cuts compile check send demo migrate relay sink blind
         return
     fi
     case $words[2],$CURRENT in
     order,3 | cuts,3 | compile,3) _files -g '*.net' ;;
-    compile,4 | check,3 | send,3 | migrate,3 | migrate,4 | relay,3 | sink,3) _files -g '*.lif' ;;
+    compile,4 | check,3 | send,3 | migrate,3 | migrate,4 | relay,3 | sink,3 | blind,3) _files -g '*.lif' ;;
     compile,5) _files -g '*.txt' ;;
     send,4 | relay,4 | sink,4) _lif_patterns $words[3] ;;
     relay,5) _lif_nodes $words[3] --nodes ;;
     sink,5) _lif_nodes $words[3] --sinks ;;
-    send,6 | send,7 | relay,6 | relay,7 | sink,6 | sink,7) _files ;;
+    send,6 | send,7 | relay,6 | relay,7 | sink,6 | sink,7 | blind,4 | blind,5) _files ;;
+    blind,*) _lif_nodes $words[3] --links ;;
     esac
 }
 
@@ -38,6 +39,18 @@ _lif_names() {
     nets=(${(M)words:#*.net})
     names=(${(f)"$(awk -v kind=$1 '$1 == kind { print $2 }' ${~${(Q)nets[1]}} 2>/dev/null)"})
     compadd -- "${@:2}" $names
+}
+
+# Offers the links in the network text of the command line, those of bundles by their own names, behind what stands before the
+# last comma of the word.
+_lif_links() {
+    local -a names nets
+    local begin=${(M)words[CURRENT]##*,}
+    nets=(${(M)words:#*.net})
+    names=(${(f)"$(awk '$1 == "link" && $5 ~ /^x[0-9]+/ { for (at = 1; at <= substr($5, 2) + 0; at++) print $2 "." at; next }
+        $1 == "link" { print $2 }' ${~${(Q)nets[1]}} 2>/dev/null)"})
+    names=($begin${^names})
+    compadd -a names
 }
 
 # The tools: their options and what these take, by their help text, and files.
@@ -51,6 +64,7 @@ _lif_tool() {
         ;;
     *,--pattern) _lif_names pattern none ;;
     lif-draw,--sink) _lif_names sink ;;
+    lif-draw,--failed) _lif_links ;;
     lif-draw,--report) _files -g '*.txt' ;;
     lif-draw,--code) _files -g '*.lif' ;;
     lif-draw,-o) _files -g '*.(svg|png|pdf)' ;;

@@ -31,13 +31,24 @@ say_forms() {
 call() {
     modules=$1 program=$2
     shift 2
-    # `send` empties the sinks' files before it reads SRC. So where SRC can't be read, those files are others, which are thrown
-    # away; what is said and the status are the same.
-    if [ "${1-}/$#" = send/6 ] && { [ ! -r "$5" ] || [ -d "$5" ] || [ -S "$5" ]; } && room=$(mktemp -d); then
-        if [ "${LIF_QUIET-}" != 1 ]; then LC_ALL=C cat -- "$5" 2>&1 >/dev/null | sed 's/^cat: /lif: /' >&2; fi
+    case ${1-}/$# in
+    send/6) sends=yes sent=$5 ;;
+    blind/[4-9] | blind/[1-9][0-9]*) sends=yes sent=$3 ;;
+    *) sends='' sent='' ;;
+    esac
+    # `send` and `blind` empty the sinks' files before they read SRC. So where SRC can't be read, those files are others, which
+    # are thrown away; what is said and the status are the same.
+    if [ -n "$sends" ] && { [ ! -r "$sent" ] || [ -d "$sent" ] || [ -S "$sent" ]; } && room=$(mktemp -d); then
+        if [ "${LIF_QUIET-}" != 1 ]; then LC_ALL=C cat -- "$sent" 2>&1 >/dev/null | sed 's/^cat: /lif: /' >&2; fi
         trap 'rm -rf -- "$room"' EXIT
         trap 'exit 1' HUP INT TERM
-        "$program" send "$2" "$3" "$4" "$room/source" "$room/out"
+        if [ "$1" = send ]; then
+            "$program" send "$2" "$3" "$4" "$room/source" "$room/out"
+        else
+            code=$2
+            shift 4
+            "$program" blind "$code" "$room/source" "$room/out" "$@"
+        fi
         exit
     fi
     if [ "${LIF_QUIET-}" = 1 ] || ! command -v python3 >/dev/null; then exec "$program" "$@"; fi

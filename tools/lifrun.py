@@ -2,9 +2,9 @@
 
     python3 tools/lifrun.py PROGRAM WORD ..
 
-The program gets the words, standard input and output and the signals, and this ends as it does. Said is how far `send` is,
-where standard error is a terminal; what stands behind a status other than 0, found by looking at the words and the files; and
-which outputs hold only a beginning, or the line too. What is read of a pipe is gone, so none is read here.
+The program gets the words, standard input and output and the signals, and this ends as it does. Said is how far `send` or
+`blind` is, where standard error is a terminal; what stands behind a status other than 0, found by looking at the words and the
+files; and which outputs hold only a beginning, or the line too. What is read of a pipe is gone, so none is read here.
 """
 from __future__ import annotations
 
@@ -31,15 +31,20 @@ FORMS = {
     "migrate": ("OLD", "NEW"),
     "relay": ("CODE", "PATTERN", "NODE", "IN", "OUT"),
     "sink": ("CODE", "PATTERN", "SINK", "IN", "DST"),
+    "blind": ("CODE", "SRC", "PREFIX"),
 }
+# What a command takes behind the words of its form, as many as there are.
+MORE = {"blind": "LINK"}
 INPUTS = ("NET", "CODE", "SRC", "OLD")
 NODE_COMMANDS = ("relay", "sink")
+# Those that carry a source to the files of sinks.
+SENDING = ("send", "blind")
 NUMBERS = ("SEED", "N", "K", "BYTES")
 
 # The statuses, as docs/FORMATS.md has them.
 USAGE, NET_REFUSED, ZERO_RATE, TOO_MANY_DEMANDS, RATE_OVER, CODE_REFUSED, CHECK_FAILED, UNKNOWN_PATTERN = range(2, 10)
 READ_FAULT, WRITE_FAULT, TOO_LONG, OUT_OF_MEMORY, SAME_PATH, LINK_FAULT, RATE_UNMET = range(10, 17)
-STREAM_REFUSED, UNKNOWN_NODE, BAD_BLOCKS = range(17, 20)
+STREAM_REFUSED, UNKNOWN_NODE, BAD_BLOCKS, UNKNOWN_LINK = range(17, 21)
 
 # Signals that are passed on to the program.
 PASSED = (signal.SIGHUP, signal.SIGINT, signal.SIGQUIT, signal.SIGTERM, signal.SIGUSR1, signal.SIGUSR2)
@@ -154,14 +159,20 @@ class Call:
     def given(self) -> dict[str, str]:
         """The words by their names in the form; none where they are no form."""
         form = FORMS.get(self.command, ())
-        return dict(zip(form, self.words[1:])) if len(form) == len(self.words) - 1 else {}
+        more = len(self.words) - 1 - len(form)
+        return dict(zip(form, self.words[1:])) if more == 0 or (more > 0 and self.command in MORE) else {}
+
+    @property
+    def failed(self) -> Sequence[str]:
+        """The names of the links that fail, which `blind` is given."""
+        return self.words[1 + len(FORMS[self.command]) :] if self.command in MORE else ()
 
     def inputs(self) -> list[str]:
         named = INPUTS[:1] if self.command == "compile" else INPUTS
         return [self.given[name] for name in named if name in self.given] + self.node_files()[0]
 
     def outputs(self) -> list[str]:
-        """The files that are made, in order. Of `send` there are none where its code can't be read here."""
+        """The files that are made, in order. Of `send` and `blind` there are none where the code can't be read here."""
         from lif_tools.formats import Refused, read_sinks
 
         given = self.given
@@ -171,13 +182,29 @@ class Call:
             return [given["NEW"]]
         if self.command in NODE_COMMANDS and given:
             return self.node_files()[1]
-        if self.command != "send" or not given:
+        if self.command not in SENDING or not given:
             return []
+        if self.command == "blind":
+            return [f"{given['PREFIX']}.{sink}" for sink in self.whole_sinks() or []]
         try:
             sinks = read_sinks(content_of(given["CODE"], FRONT_BYTES))
         except Refused:
             return []
         return [f"{given['PREFIX']}.{sink}" for sink in sinks]
+
+    def whole_sinks(self) -> list[str] | None:
+        """The sinks that `blind` serves, in order, where its code can be read here."""
+        from lif_tools.formats import Refused, read_code, whole_sinks
+
+        content = content_of(self.given["CODE"], MOST_READ_AGAIN + 1)
+        try:
+            if len(content) > MOST_READ_AGAIN:
+                return None
+            code = read_code(content)
+            numbers = {link.name: number for number, link in enumerate(code.network.links)}
+            return whole_sinks(code, [numbers[name] for name in self.failed])
+        except (Refused, KeyError):
+            return None
 
     def node_files(self) -> tuple[list[str], list[str]]:
         """What `relay` or `sink` reads beside CODE, and what it makes, in order, where its code can be read here."""
@@ -203,6 +230,12 @@ class Call:
     def knows_links(self) -> bool:
         """Whether it can be seen here which files of links a node reads, where there is one."""
         return self.command not in NODE_COMMANDS or self.node_files()[0] != []
+
+    def unknown_outputs(self) -> str | None:
+        """What is made, where it can't be seen here which files these are."""
+        if not self.knows_links():
+            return "the file of a link"
+        return "a sink's file" if self.command == "blind" and self.given and self.whole_sinks() is None else None
 
     def is_written(self, path: str) -> bool:
         """Whether a regular file was written to since the program began."""
@@ -237,7 +270,7 @@ def cause(call: Call, status: int) -> str | None:
     if status == CHECK_FAILED:
         return f"{code}: the sink that the line names doesn't get the source back under that pattern"
     if status == UNKNOWN_PATTERN:
-        return pattern_cause(code, given.get("PATTERN", ""))
+        return name_cause(code, "pattern", given.get("PATTERN", ""))
     if status == READ_FAULT:
         return input_cause(call)
     if status == WRITE_FAULT:
@@ -253,9 +286,11 @@ def cause(call: Call, status: int) -> str | None:
     if status == STREAM_REFUSED:
         return "the file of that link isn't the frames of the link, each of them: see what wrote it"
     if status == UNKNOWN_NODE:
-        return node_cause(code, given)
+        return name_cause(code, *(("sink", given["SINK"]) if "SINK" in given else ("node", given.get("NODE", ""))))
     if status == BAD_BLOCKS:
         return "the streams end too early, or aren't those of one file, code and pattern"
+    if status == UNKNOWN_LINK:
+        return link_cause(code, call.failed)
     return None
 
 
@@ -267,9 +302,9 @@ def usage_cause(call: Call) -> str | None:
         return f"there is no command {call.command}: {from_help}"
     form = FORMS[call.command]
     if not call.given:
-        return f"{call.command} takes {' '.join(form)}; {len(call.words) - 1} of {len(form)} words were given"
-    for name in form:
-        word = call.given[name]
+        more = f", and any number of {MORE[call.command]}" if call.command in MORE else ""
+        return f"{call.command} takes {' '.join(form)}{more}; {len(call.words) - 1} of {len(form)} words were given"
+    for name, word in [*call.given.items(), *((MORE[call.command], link) for link in call.failed)]:
         if name in NUMBERS and not (word.isascii() and word.isdigit() and int(word) < 2**64):
             return f"{name} is {word}, and has to be a number below 2^64"
         if not is_text(word):
@@ -316,29 +351,36 @@ def code_cause(code: str) -> str | None:
     return None
 
 
-def pattern_cause(code: str, pattern: str) -> str:
+def names_in(code: str, kind: str) -> list[str]:
+    """The names of a kind in a code file: its patterns, nodes, sinks or links. None where it can't be read here."""
     from lif_tools.formats import Refused, read_code
 
-    content = content_of(code, MOST_READ_AGAIN + 1)
-    try:
-        names = [it.name for it in read_code(content).network.patterns] if len(content) <= MOST_READ_AGAIN else []
-    except Refused:
-        names = []
-    return f"{code}: no pattern is named {pattern}" + (f"; its patterns: {', '.join(names[:MOST_LISTED])}" if names else "")
-
-
-def node_cause(code: str, given: dict[str, str]) -> str:
-    from lif_tools.formats import Refused, read_code
-
-    kind, name = ("sink", given["SINK"]) if "SINK" in given else ("node", given.get("NODE", ""))
     content = content_of(code, MOST_READ_AGAIN + 1)
     try:
         network = read_code(content).network if len(content) <= MOST_READ_AGAIN else None
     except Refused:
         network = None
-    names = [] if network is None else [network.nodes[it] for it in network.sinks] if kind == "sink" else list(network.nodes)
-    more = f"; its {kind}s: {', '.join(names[:MOST_LISTED])}" if names else ""
-    return f"{code}: no {kind} is named {name}{more}"
+    if network is None:
+        return []
+    named = {
+        "pattern": [it.name for it in network.patterns],
+        "node": list(network.nodes),
+        "sink": [network.nodes[it] for it in network.sinks],
+        "link": [it.name for it in network.links],
+    }
+    return named[kind]
+
+
+def name_cause(code: str, kind: str, word: str) -> str:
+    """That a code has no such name, and which it has."""
+    names = names_in(code, kind)
+    return f"{code}: no {kind} is named {word}" + (f"; its {kind}s: {', '.join(names[:MOST_LISTED])}" if names else "")
+
+
+def link_cause(code: str, failed: Sequence[str]) -> str:
+    known = set(names_in(code, "link"))
+    unknown = next((word for word in failed if word not in known), "") if known else ""
+    return name_cause(code, "link", unknown) if unknown else f"{code}: no link has the name that the line has"
 
 
 def input_cause(call: Call) -> str:
@@ -368,8 +410,9 @@ def output_cause(call: Call) -> str:
         os.fstat(1)
     except OSError:
         return "standard output is closed, so the line couldn't be said"
-    if not outputs and not call.knows_links():
-        return "the file of a link couldn't be made or written to, or standard output took no more"
+    unknown = call.unknown_outputs() if not outputs else None
+    if unknown is not None:
+        return f"{unknown} couldn't be made or written to, or standard output took no more"
     whole = "an output was full, or " if outputs else ""
     return f"{whole}standard output took no more"
 
@@ -399,7 +442,7 @@ def length_cause(call: Call) -> str | None:
 def beginnings(call: Call) -> str | None:
     """Which outputs hold only a beginning, once the program has ended early."""
     written = [path for path in call.outputs() if call.is_written(path)]
-    if call.command == "send":
+    if call.command in SENDING:
         length = size_of(call.given["SRC"]) if call.given else None
         short = [path for path in written if length is None or (size_of(path) or 0) < length]
         what = "only a beginning" if length is not None else "perhaps only a beginning"
@@ -429,8 +472,8 @@ def with_line(call: Call) -> str | None:
 
 
 class Progress(threading.Thread):
-    """Says on the terminal how far `send` is, until `ended` is set: in the line below the cursor, so that what the program
-    says comes before it, in its own line.
+    """Says on the terminal how far `send` or `blind` is, until `ended` is set: in the line below the cursor, so that what the
+    program says comes before it, in its own line.
     """
 
     def __init__(self, call: Call) -> None:
@@ -519,7 +562,7 @@ def end(ended: int) -> NoReturn:
 def main(program: str, *words: str) -> NoReturn:
     call = Call(words)
     child = start(program, words)
-    progress = Progress(call) if call.command == "send" and call.given and shows_progress() else None
+    progress = Progress(call) if call.command in SENDING and call.given and shows_progress() else None
     if progress:
         progress.start()
     # It is left as it is, so that signals that come meanwhile still have somewhere to go.

@@ -10,6 +10,9 @@ other paths.
   dashed         links that fail (red), and links that carry nothing then (grey)
   x0 + 29 x1     what a link carries of the source's rows, with coefficients in the code's field
 
+By --failed any links fail, which needs no pattern, and no demand is drawn. Each sink is filled by the rank of what comes
+to it: those are whole whose rank is the code's rate, and `lif blind` writes their files alone. The code may decode or not.
+
 A legend below the drawing says so too. The drawing is SVG, PNG or PDF, by the ending of FILE. A drawing of more than
 some hundred links can't be read: --live draws the links alone that carry something, by the code, or else those of the
 flow.
@@ -28,6 +31,7 @@ from typing import Collection, Iterable, Iterator, Sequence
 
 from lif_tools.common import (
     ToolError,
+    listed,
     load_code,
     load_network,
     notice,
@@ -40,11 +44,23 @@ from lif_tools.common import (
     write_bytes,
 )
 from lif_tools.flows import Certificate, certificate, fault_of
-from lif_tools.formats import Code, Network, Vector, check_failure, live_links, vectors_of
+from lif_tools.formats import (
+    NONE,
+    Code,
+    Network,
+    Vector,
+    check_failure,
+    live_links,
+    live_where,
+    ranks_where,
+    vectors_of,
+    vectors_where,
+)
 
 PATH_COLOURS = ("#1f6fb4", "#c2610c", "#2e8540", "#6b3fa0", "#a3195b", "#0f7b7b", "#7a6a00", "#444444")
 FAILED_COLOUR, DEAD_COLOUR, PLAIN_COLOUR = "#c0272d", "#9a9a9a", "#555555"
 SIDE_FILL, NODE_FILL = "#fde9c9", "#ffffff"
+WHOLE_FILL, OTHER_FILL = "#cde6cd", "#f2c9c9"
 
 # A sum of more terms than this, and the decoder of a higher rate, are told by their size alone.
 MOST_TERMS, MOST_DECODED = 6, 4
@@ -92,15 +108,22 @@ def read_report(path: str, network: Network, sink: int, pattern: int) -> Certifi
 
 @dataclass(frozen=True)
 class Carried:
-    """What a code does under a pattern, by the names of links: what each carries, and which carry nothing."""
+    """What a code does where links fail, by the names of links: what each carries, and which carry nothing. There is the number
+    of the pattern by which they fail, or else there are the ranks of the sinks, in order."""
 
     code: Code
-    pattern: int
     vectors: dict[str, Vector]
     live: dict[str, bool]
+    pattern: int | None = None
+    ranks: tuple[int, ...] = ()
 
-    def decoded(self, sink: int) -> list[str]:
-        """What the sink of a number decodes: a line for each row of the source."""
+    def is_whole(self, sink: int) -> bool:
+        return self.ranks[sink] == self.code.rate
+
+    def told(self, sink: int) -> list[str]:
+        """What is said of the sink of a number: its rank, or a line for each row of the source that it decodes."""
+        if self.pattern is None:
+            return [f"rank {self.ranks[sink]}{' whole' if self.is_whole(sink) else ''}"]
         decoder = self.code.decoders[self.code.network.demand(sink, self.pattern)]
         names = [self.code.network.links[link].name for link in decoder.links]
         rate = self.code.rate
@@ -118,7 +141,17 @@ def carried_by(path: str, network: Network, pattern: str) -> Carried:
         raise ToolError(f"{path}: check failed: {failure}")
     number = pattern_number(path, code.network, pattern)
     names = [link.name for link in code.network.links]
-    return Carried(code, number, dict(zip(names, vectors_of(code, number))), dict(zip(names, live_links(code, number))))
+    return Carried(code, dict(zip(names, vectors_of(code, number))), dict(zip(names, live_links(code, number))), number)
+
+
+def carried_where(path: str, network: Network, failing: Collection[str]) -> Carried:
+    """What the code of a file does where these links fail; the file is that of a code of the network, accepted or not."""
+    code = load_code(path)
+    refuse_other(path, code.network, network)
+    names = [link.name for link in code.network.links]
+    failed = [number for number, name in enumerate(names) if name in failing]
+    vectors, live = vectors_where(code, failed), live_where(code, failed)
+    return Carried(code, dict(zip(names, vectors)), dict(zip(names, live)), ranks=tuple(ranks_where(code, failed)))
 
 
 def parts_of(network: Network) -> dict[str, set[str]]:
@@ -158,25 +191,40 @@ def sum_text(coefficients: Iterable[int], names: Sequence[str]) -> str:
 
 
 @dataclass(frozen=True)
-class Drawing:
-    """All that is drawn; of the network these links and nodes alone."""
+class Demand:
+    """A sink with a pattern, by their numbers, and its flow and cut."""
 
-    network: Network
     sink: int
     pattern: int
     certificate: Certificate
+
+
+@dataclass(frozen=True)
+class Drawing:
+    """All that is drawn; of the network these links and nodes alone. Without a demand the sinks are filled by their ranks."""
+
+    network: Network
+    demand: Demand | None
+    failing: tuple[int, ...]
     carried: Carried | None
     links: tuple[int, ...]
     nodes: tuple[int, ...]
 
     def title(self) -> str:
-        demand = f"{self.network.nodes[self.network.sinks[self.sink]]} {self.network.patterns[self.pattern].name}"
-        return f"demand {demand} cut {self.certificate.value}{some_drawn(self, range(len(self.network.links)))}"
+        network, drawn = self.network, some_drawn(self, range(len(self.network.links)))
+        if self.demand is not None:
+            demand = f"{network.nodes[network.sinks[self.demand.sink]]} {network.patterns[self.demand.pattern].name}"
+            return f"demand {demand} cut {self.demand.certificate.value}{drawn}"
+        failing = listed([network.links[link].name for link in self.failing]) or "no link"
+        return f"{failing} failed: {self.whole_count()} of {counted(len(network.sinks), 'sink')} whole{drawn}"
+
+    def whole_count(self) -> int:
+        return sum(rank == self.carried.code.rate for rank in self.carried.ranks) if self.carried else 0
 
     @functools.cached_property
     def failed(self) -> frozenset[int]:
         """The links drawn that fail."""
-        return frozenset(self.network.patterns[self.pattern].links).intersection(self.links)
+        return frozenset(self.failing).intersection(self.links)
 
     @functools.cached_property
     def dead(self) -> frozenset[int]:
@@ -187,9 +235,10 @@ class Drawing:
         return frozenset(link for link in self.links if not live[self.network.links[link].name]) - self.failed
 
 
-def live_of(network: Network, found: Certificate, carried: Carried | None) -> tuple[int, ...]:
+def live_of(network: Network, found: Certificate | None, carried: Carried | None) -> tuple[int, ...]:
     """The links that carry something: those of the flow, or by a code its live ones."""
     if carried is None:
+        assert found is not None
         return tuple(sorted(link for path in found.paths for link in path))
     return tuple(number for number, link in enumerate(network.links) if carried.live[link.name])
 
@@ -210,18 +259,20 @@ def attributes(values: dict[str, str]) -> str:
 
 
 def node_line(drawing: Drawing, node: int) -> str:
-    """A node, with what it decodes where it is a sink."""
-    network = drawing.network
+    """A node, with what it decodes, or its rank, where it is a sink."""
+    network, demand = drawing.network, drawing.demand
     lines = [network.nodes[node]]
-    values = {"fillcolor": quoted(SIDE_FILL if node in drawing.certificate.side else NODE_FILL)}
+    values = {"fillcolor": quoted(SIDE_FILL if demand and node in demand.certificate.side else NODE_FILL)}
     if node == network.source:
         values["shape"] = "house"
     if node in network.sinks:
-        sink = network.sinks.index(node)
         values["shape"] = "box"
-        values["penwidth"] = "2.5" if sink == drawing.sink else "1"
+        values["penwidth"] = "2.5" if demand and node == network.sinks[demand.sink] else "1"
         if drawing.carried:
-            lines += drawing.carried.decoded(code_sink(drawing, node))
+            sink = code_sink(drawing, node)
+            lines += drawing.carried.told(sink)
+            if demand is None:
+                values["fillcolor"] = quoted(WHOLE_FILL if drawing.carried.is_whole(sink) else OTHER_FILL)
     values["label"] = quoted("\n".join(lines)).replace("\n", "\\n")
     return quoted(network.nodes[node]) + attributes(values)
 
@@ -246,10 +297,11 @@ def link_line(drawing: Drawing, link: int) -> str:
     """A link, by what it is for the demand."""
     network, name = drawing.network, drawing.network.links[link].name
     values = {"label": quoted(link_label(drawing, link)), "color": quoted(PLAIN_COLOUR)}
-    for number, path in enumerate(drawing.certificate.paths):
+    found = drawing.demand.certificate if drawing.demand else Certificate((), (), ())
+    for number, path in enumerate(found.paths):
         if link in path:
             values |= {"color": quoted(PATH_COLOURS[number % len(PATH_COLOURS)]), "penwidth": "2"}
-    if link in drawing.certificate.cross:
+    if link in found.cross:
         values |= {"penwidth": "4", "arrowhead": "normalnormal"}
     if link in drawing.failed:
         values |= {"label": quoted(f"{name}: fails"), "style": "dashed", "color": quoted(FAILED_COLOUR)}
@@ -272,9 +324,8 @@ def dashes(colour: str) -> str:
     return f'<td width="24" height="3" fixedsize="true" border="1" sides="b" style="dashed" color="{colour}"></td>'
 
 
-def legend_rows(drawing: Drawing) -> Iterator[tuple[list[str], str]]:
-    """What the drawing has of each kind: cells that show it, and what it is."""
-    found = drawing.certificate
+def demand_rows(drawing: Drawing, found: Certificate) -> Iterator[tuple[list[str], str]]:
+    """What the drawing has of a demand."""
     if found.paths:
         paths, used = len(found.paths), PATH_COLOURS[: len(found.paths)]
         again = f"; there are {len(used)} colours, which come again" if paths > len(used) else ""
@@ -284,11 +335,29 @@ def legend_rows(drawing: Drawing) -> Iterator[tuple[list[str], str]]:
     if found.cross:
         cut = f"{counted(len(found.cross), 'link')}{some_drawn(drawing, found.cross)}"
         yield [swatch(PLAIN_COLOUR, 5)], f"thick, with two heads: the cut, {cut}"
+
+
+def rank_rows(drawing: Drawing, carried: Carried) -> Iterator[tuple[list[str], str]]:
+    """What the drawing has of sinks by their ranks."""
+    whole = drawing.whole_count()
+    if whole:
+        yield [swatch(WHOLE_FILL, 12)], f"whole sinks: their rank is the code's rate, {carried.code.rate}"
+    if whole < len(carried.ranks):
+        yield [swatch(OTHER_FILL, 12)], f"other sinks: their rank is below the code's rate, {carried.code.rate}"
+
+
+def legend_rows(drawing: Drawing) -> Iterator[tuple[list[str], str]]:
+    """What the drawing has of each kind: cells that show it, and what it is."""
+    if drawing.demand:
+        yield from demand_rows(drawing, drawing.demand.certificate)
+    elif drawing.carried:
+        yield from rank_rows(drawing, drawing.carried)
     if drawing.failed:
         yield [dashes(FAILED_COLOUR)], "links that fail"
     if drawing.dead:
         yield [dashes(DEAD_COLOUR)], "links that carry nothing"
-    yield ['<td width="24" height="12" fixedsize="true" border="2"></td>'], "the sink of the demand; the source has a roof"
+    if drawing.demand:
+        yield ['<td width="24" height="12" fixedsize="true" border="2"></td>'], "the sink of the demand; the source has a roof"
     if drawing.carried:
         yield ["<td>x0 ..</td>"], "rows of the source, with coefficients of the code's field"
 
@@ -365,25 +434,33 @@ def warn(path: str, drawing: Drawing, live: int) -> None:
 
 def facts_of(drawing: Drawing, path: str, output: str | None) -> dict[str, object]:
     """The facts of the drawing, for JSON."""
-    network, found = drawing.network, drawing.certificate
-    names = [link.name for link in network.links]
-    facts: dict[str, object] = {
-        "network": path,
-        "drawing": output,
-        "sink": network.nodes[network.sinks[drawing.sink]],
-        "pattern": network.patterns[drawing.pattern].name,
-        "cut": found.value,
-        "side": [network.nodes[node] for node in found.side],
-        "cross": [names[link] for link in found.cross],
-        "paths": [[names[link] for link in path] for path in found.paths],
-        "failed": [names[link] for link in network.patterns[drawing.pattern].links],
+    network, names = drawing.network, [link.name for link in drawing.network.links]
+    facts: dict[str, object] = {"network": path, "drawing": output}
+    if drawing.demand:
+        facts |= demand_facts(network, drawing.demand)
+    facts |= {
+        "failed": [names[link] for link in drawing.failing],
         "all_links": len(names),
         "links": [link_facts(drawing, link) for link in drawing.links],
     }
     if drawing.carried:
         facts["rate"], facts["field"] = drawing.carried.code.rate, drawing.carried.code.field
-        facts["decoders"] = {network.nodes[sink]: decoder_facts(drawing, sink) for sink in network.sinks}
+        kind, of_sink = ("decoders", decoder_facts) if drawing.demand else ("sinks", rank_facts)
+        facts[kind] = {network.nodes[sink]: of_sink(drawing, sink) for sink in network.sinks}
     return facts
+
+
+def demand_facts(network: Network, demand: Demand) -> dict[str, object]:
+    """A demand, with its flow and its cut."""
+    names, found = [link.name for link in network.links], demand.certificate
+    return {
+        "sink": network.nodes[network.sinks[demand.sink]],
+        "pattern": network.patterns[demand.pattern].name,
+        "cut": found.value,
+        "side": [network.nodes[node] for node in found.side],
+        "cross": [names[link] for link in found.cross],
+        "paths": [[names[link] for link in path] for path in found.paths],
+    }
 
 
 def link_facts(drawing: Drawing, number: int) -> dict[str, object]:
@@ -397,7 +474,7 @@ def link_facts(drawing: Drawing, number: int) -> dict[str, object]:
 
 def decoder_facts(drawing: Drawing, node: int) -> dict[str, object]:
     """Of which links a sink decodes, and for each row of the source their coefficients."""
-    assert drawing.carried is not None
+    assert drawing.carried is not None and drawing.carried.pattern is not None
     code = drawing.carried.code
     decoder = code.decoders[code.network.demand(code_sink(drawing, node), drawing.carried.pattern)]
     starts = range(0, len(decoder.entries), code.rate)
@@ -407,19 +484,29 @@ def decoder_facts(drawing: Drawing, node: int) -> dict[str, object]:
     }
 
 
+def rank_facts(drawing: Drawing, node: int) -> dict[str, object]:
+    """The rank of a sink, and whether it is whole."""
+    assert drawing.carried is not None
+    sink = code_sink(drawing, node)
+    return {"rank": drawing.carried.ranks[sink], "whole": drawing.carried.is_whole(sink)}
+
+
 def words_of(arguments: Sequence[str]) -> argparse.Namespace:
     parser = words_parser("lif-draw", __doc__)
     add = parser.add_argument
     add("network", metavar="NET", help="a network text")
     add("--report", metavar="R", help="a report of the network")
     add("--code", metavar="C", help="a code file of the network")
-    add("--pattern", metavar="P", default="none", help="the pattern of failed links, else none")
+    add("--pattern", metavar="P", help="the pattern of failed links, else none")
     add("--sink", metavar="T", help="the sink of the demand, else the first")
+    add("--failed", metavar="A,B", help="links that fail, in place of a demand: sinks are filled by what they get by the code")
     add("--live", action="store_true", help="draw the links alone that carry something, by the code, or else those of the flow")
     add("-o", dest="output", metavar="FILE", help="the drawing, by its ending .svg, .png or .pdf; - for SVG on standard output")
     words = parser.parse_args(arguments)
     if words.output is None and not words.json:
         parser.error("-o FILE or --json is needed")
+    if words.failed is not None and (words.code is None or words.pattern is not None or words.sink is not None or words.report):
+        parser.error("--failed takes --code, and no --pattern, --sink or --report")
     if words.output == "-" and words.json:
         parser.error("-o - and --json both write to standard output")
     words.kind = FORMATS.get(Path(words.output or "-").suffix.lower())
@@ -431,18 +518,36 @@ def words_of(arguments: Sequence[str]) -> argparse.Namespace:
 def drawing_of(words: argparse.Namespace) -> tuple[Drawing, int]:
     """What is to be drawn, and how many links carry something."""
     network = load_network(words.network)
-    pattern = pattern_number(words.network, network, words.pattern)
+    if words.failed is not None:
+        return failure_of(words, network)
+    name = words.pattern if words.pattern is not None else NONE
+    pattern = pattern_number(words.network, network, name)
     sink = sink_number(words.network, network, words.sink) if words.sink is not None else 0
     if words.report:
         found = read_report(words.report, network, sink, pattern)
     else:
         found = certificate(network, network.sinks[sink], network.patterns[pattern].links)
-    carried = carried_by(words.code, network, words.pattern) if words.code else None
+    carried = carried_by(words.code, network, name) if words.code else None
     live = live_of(network, found, carried)
     links, nodes = tuple(range(len(network.links))), tuple(range(len(network.nodes)))
     if words.live:
         links, nodes = live, ends_of(network, live, network.source, network.sinks[sink])
-    return Drawing(network, sink, pattern, found, carried, links, nodes), len(live)
+    return Drawing(network, Demand(sink, pattern, found), network.patterns[pattern].links, carried, links, nodes), len(live)
+
+
+def failure_of(words: argparse.Namespace, network: Network) -> tuple[Drawing, int]:
+    """What is to be drawn where any links fail, and how many carry something."""
+    numbers = {link.name: number for number, link in enumerate(network.links)}
+    names = words.failed.split(",") if words.failed else []
+    for name in names:
+        if name not in numbers:
+            raise ToolError(f"{words.network}: unknown link: {name}; its links: {listed(list(numbers))}")
+    carried = carried_where(words.code, network, names)
+    live = live_of(network, None, carried)
+    links, nodes = tuple(range(len(network.links))), tuple(range(len(network.nodes)))
+    if words.live:
+        links, nodes = live, ends_of(network, live, network.source, *network.sinks)
+    return Drawing(network, None, tuple(sorted({numbers[name] for name in names})), carried, links, nodes), len(live)
 
 
 def main(arguments: Sequence[str]) -> None:

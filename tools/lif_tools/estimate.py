@@ -217,7 +217,7 @@ def words_of(arguments: Sequence[str]) -> argparse.Namespace:
     add("code", metavar="CODE", help="a code file")
     add("--pattern", metavar="P", default="none", help="the pattern of failed links, else none")
     add("--bytes", type=length_of, metavar="N", help="the length of the source")
-    for kind in ("patterns", "nodes", "sinks"):
+    for kind in ("patterns", "nodes", "sinks", "links"):
         add(f"--{kind}", action="store_true", help=f"say the names of the code's {kind} and nothing else")
     return parser.parse_args(arguments)
 
@@ -230,6 +230,7 @@ def main(arguments: Sequence[str]) -> None:
         "patterns": [pattern.name for pattern in network.patterns],
         "nodes": list(network.nodes),
         "sinks": [network.nodes[sink] for sink in network.sinks],
+        "links": [link.name for link in network.links],
     }
     asked = {kind: names for kind, names in kinds.items() if getattr(words, kind)}
     if asked:

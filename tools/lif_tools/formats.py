@@ -12,7 +12,7 @@ import re
 import sys
 from array import array
 from dataclasses import dataclass
-from typing import Callable, Iterable, Iterator, Sequence
+from typing import Callable, Collection, Iterable, Iterator, Sequence
 
 MOST_NODES = 4096
 MOST_LINKS = 8192
@@ -712,20 +712,25 @@ def combination(field: int, rate: int, terms: Iterable[tuple[int, Vector]]) -> V
     return tuple(total)
 
 
-def live_links(code: Code, pattern: int) -> list[bool]:
-    """For each link whether it is live where the pattern's links fail.
+def live_where(code: Code, failed: Collection[int]) -> list[bool]:
+    """For each link whether it is live where these links fail.
 
     It is where it doesn't fail itself, and some operand is a row of the source or a live link.
     """
     network = code.network
     live: list[bool] = []
-    failed = set(network.patterns[pattern].links)
+    failing = frozenset(failed)
     for number, link in enumerate(network.links):
         live.append(
-            number not in failed
+            number not in failing
             and any(link.tail == network.source or live[operand.origin] for operand in code.operands[number])
         )
     return live
+
+
+def live_links(code: Code, pattern: int) -> list[bool]:
+    """The same where the pattern's links fail."""
+    return live_where(code, code.network.patterns[pattern].links)
 
 
 def _pattern_named(network: Network, name: str) -> int:
@@ -748,13 +753,13 @@ def links_written(code: Code, pattern: str, node: str) -> list[str]:
     return [link.name for place, link in enumerate(code.network.links) if link.tail == number and live[place]]
 
 
-def vectors_of(code: Code, pattern: int) -> list[Vector]:
-    """For each link the coefficients of the source's rows in what it carries where the pattern's links fail."""
+def vectors_where(code: Code, failed: Collection[int]) -> list[Vector]:
+    """For each link the coefficients of the source's rows in what it carries where these links fail."""
     network = code.network
     vectors: list[Vector] = []
-    failed = set(network.patterns[pattern].links)
+    failing = frozenset(failed)
     for number, link in enumerate(network.links):
-        operands = () if number in failed else code.operands[number]
+        operands = () if number in failing else code.operands[number]
         vectors.append(
             combination(
                 code.field,
@@ -771,6 +776,36 @@ def vectors_of(code: Code, pattern: int) -> list[Vector]:
             )
         )
     return vectors
+
+
+def vectors_of(code: Code, pattern: int) -> list[Vector]:
+    """The same where the pattern's links fail."""
+    return vectors_where(code, code.network.patterns[pattern].links)
+
+
+def rank_of(field: int, vectors: Iterable[Vector]) -> int:
+    """How many of the vectors aren't sums of multiples of those before them."""
+    # Those that are, each with the place of an element that is 0 in all behind it.
+    kept: list[tuple[int, Vector]] = []
+    for vector in vectors:
+        for place, other in kept:
+            if vector[place]:
+                vector = combination(field, len(vector), ((other[place], vector), (vector[place], other)))
+        if any(vector):
+            kept.append((next(place for place, element in enumerate(vector) if element), vector))
+    return len(kept)
+
+
+def ranks_where(code: Code, failed: Collection[int]) -> list[int]:
+    """For each sink the rank of the vectors of the links into it where these links fail, as `lif blind` says it."""
+    vectors, into = vectors_where(code, failed), code.network.links_by(lambda link: link.head)
+    return [rank_of(code.field, (vectors[link] for link in into[node])) for node in code.network.sinks]
+
+
+def whole_sinks(code: Code, failed: Collection[int]) -> list[str]:
+    """The names of the sinks that `lif blind` serves where these links fail: those whose rank is the code's rate."""
+    network, ranks = code.network, ranks_where(code, failed)
+    return [network.nodes[node] for node, rank in zip(network.sinks, ranks) if rank == code.rate]
 
 
 def first_wrong_entry(code: Code, decoder: Decoder, vectors: Sequence[Vector]) -> tuple[int, int, int] | None:

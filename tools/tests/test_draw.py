@@ -153,6 +153,71 @@ def test_live_draws_what_carries_alone(tmp_path: Path) -> None:
     assert "thick, with two heads: the cut, 2 links; 1 of 2 links drawn" in texts(svg)
 
 
+def fills(svg: str) -> dict[str, str]:
+    """How each node is filled."""
+    found = {}
+    for group in ElementTree.fromstring(svg).iter(f"{SVG}g"):
+        if group.get("class") == "node":
+            found[group.findtext(f"{SVG}title", "")] = next(part.get("fill", "") for part in group if part.get("fill"))
+    return found
+
+
+WHOLE, OTHER = "#cde6cd", "#f2c9c9"
+WHOLE_ROW = "whole sinks: their rank is the code's rate, 2"
+OTHER_ROW = "other sinks: their rank is below the code's rate, 2"
+
+
+@pytest.mark.parametrize(
+    "failed, title, dead, ranks",
+    [
+        ("", "no link failed: 2 of 2 sinks whole", set(), ("rank 2 whole", "rank 2 whole")),
+        ("a-t1", "a-t1 failed: 1 of 2 sinks whole", set(), ("rank 1", "rank 2 whole")),
+        ("a-t1,a-t1", "a-t1 failed: 1 of 2 sinks whole", set(), ("rank 1", "rank 2 whole")),
+        ("s-a", "s-a failed: 0 of 2 sinks whole", {"a-t1", "a-c"}, ("rank 1", "rank 1")),
+        ("b-c,s-a", "s-a, b-c failed: 0 of 2 sinks whole", {"a-t1", "a-c", "c-d", "d-t1", "d-t2"}, ("rank 0", "rank 1")),
+    ],
+)
+def test_sinks_are_filled_by_what_they_get_of_any_failures(
+    failed: str, title: str, dead: set[str], ranks: tuple[str, str]
+) -> None:
+    svg = drawn(NET, "--code", CODE, "--failed", failed)
+    said, names = texts(svg), set(failed.split(",")) - {""}
+    assert title in said and all(said.count(rank) == ranks.count(rank) for rank in ranks)
+    filled_by = {True: WHOLE, False: OTHER}
+    wanted = {f"t{sink}": filled_by[rank.endswith("whole")] for sink, rank in enumerate(ranks, start=1)}
+    assert fills(svg) == {**dict.fromkeys("sabcd", "#ffffff"), **wanted}
+    dashed = {line["label"] for line in strokes(svg).values() if "stroke-dasharray" in line}
+    assert dashed == {f"{name}: fails" for name in names} | {f"{name}: nothing" for name in dead}
+    # Nothing is drawn of a demand.
+    assert {line["stroke"] for line in strokes(svg).values()} <= {"#555555", "#c0272d", "#9a9a9a"}
+    assert not any(line.get("stroke-width") for line in strokes(svg).values())
+    rows = {row for row, has in ((WHOLE_ROW, WHOLE in wanted.values()), (OTHER_ROW, OTHER in wanted.values())) if has}
+    assert rows == {text for text in said if text.startswith(("whole sinks", "other sinks"))}
+    assert not any(text.startswith(("the ", "thick")) for text in said)
+
+
+def test_failed_takes_a_code_that_does_not_decode_and_no_demand(tmp_path: Path) -> None:
+    path = tmp_path / "wrong.lif"
+    path.write_bytes(CODE.read_bytes()[:-1] + b"\1")
+    facts = json.loads(run_tool("lif-draw", NET, "--code", path, "--failed", "b-t2,a-t1", "--json").stdout)
+    assert (facts["failed"], facts["rate"], facts["sinks"]["t1"]) == (["a-t1", "b-t2"], 2, {"rank": 1, "whole": False})
+    assert set(facts["sinks"]) == {"t1", "t2"} and not facts.keys() & {"sink", "pattern", "cut", "paths", "decoders"}
+    assert {link["name"] for link in facts["links"] if not link["live"]} == {"a-t1", "b-t2"}
+    done = run_tool("lif-draw", NET, "--code", path, "--failed", "a-t1,storm", "--json")
+    assert done.stderr.startswith(f"lif-draw: {NET}: unknown link: storm; its links: s-a, s-b, ")
+    for more in ((), ("--code", path, "--sink", "t1"), ("--code", path, "--pattern", "f"), ("--code", path, "--report", NET)):
+        done = run_tool("lif-draw", NET, "--failed", "a-t1", "--json", *more)
+        assert done.returncode == 2 and done.stderr.endswith("--failed takes --code, and no --pattern, --sink or --report\n")
+    done = run_tool("lif-draw", REGIONAL, "--code", CODE, "--failed", "trunk", "--json")
+    assert done.stderr == f"lif-draw: {CODE}: the code is one of another network: it has no source headend\n"
+
+
+def test_failed_and_live_draw_what_carries_and_all_sinks() -> None:
+    svg = drawn(NET, "--code", CODE, "--failed", "s-a,b-t2,b-c", "--live")
+    assert set(strokes(svg)) == {"s-b"} and set(fills(svg)) == {"s", "b", "t1", "t2"}
+    assert "s-a, b-t2, b-c failed: 0 of 2 sinks whole; 1 of 9 links drawn" in texts(svg)
+
+
 def test_the_format_is_that_of_the_ending(tmp_path: Path) -> None:
     for ending, begin in ((".svg", b"<svg"), (".PNG", b"\x89PNG\r\n\x1a\n"), (".pdf", b"%PDF-"), ("", b"<svg")):
         path = tmp_path / f"drawing{ending}"

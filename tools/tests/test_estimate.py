@@ -72,6 +72,7 @@ def test_what_a_node_may_read_stands_where_it_reads_more() -> None:
 def test_names_alone() -> None:
     assert said(CODE, "--nodes") == "s t1 t2 a b c d".split()
     assert said(CODE, "--sinks") == ["t1", "t2"]
+    assert said(CODE, "--links") == ["s-a", "s-b", "a-t1", "b-t2", "a-c", "b-c", "c-d", "d-t1", "d-t2"]
     assert said(CODE, "--patterns") == ["none"]
 
 

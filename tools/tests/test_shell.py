@@ -52,7 +52,8 @@ def folder(tmp_path: Path) -> Path:
 
 
 def test_words_are_completed(folder: Path) -> None:
-    assert completed(folder, "lif", "") == ["check", "compile", "cuts", "demo", "migrate", "order", "relay", "send", "sink"]
+    words = ["blind", "check", "compile", "cuts", "demo", "migrate", "order", "relay", "send", "sink"]
+    assert completed(folder, "lif", "") == words
     assert completed(folder, "./lif", "c") == ["check", "compile", "cuts"]
 
 
@@ -80,6 +81,18 @@ def test_nodes_and_sinks_are_completed(folder: Path) -> None:
     assert completed(folder, "lif", "sink", "my\\ code.lif", "none", "t", "n") == ["notes.txt"]
 
 
+def test_links_are_completed(folder: Path) -> None:
+    assert completed(folder, "lif", "blind", "") == ["my code.lif", "old"]
+    for words in (("a.lif", "f"), ("a.lif", "b", "f")):
+        assert completed(folder, "lif", "blind", *words) == ["film.mp4"]
+    assert completed(folder, "lif", "blind", "my\\ code.lif", "a", "b", "") == ["k", "l"]
+    assert completed(folder, "lif", "blind", "my\\ code.lif", "a", "b", "k", "l", "k", "l") == ["l"]
+    assert completed(folder, "lif", "blind", "notes.txt", "a", "b", "") == []
+    (folder / "two.net").write_text(BUNDLED)
+    assert completed(folder, DRAW, "two.net", "--failed", "") == ["k.1", "k.2", "k.3", "l"]
+    assert completed(folder, DRAW, "two.net", "--failed", "k.1,k.") == ["k.1,k.1", "k.1,k.2", "k.1,k.3"]
+
+
 def completed_by_zsh(folder: Path, *words: str) -> list[str]:
     """What zsh offers for the last word, where it takes all that it is given; `files` stands before the form of files."""
     script = (
@@ -98,6 +111,8 @@ def completed_by_zsh(folder: Path, *words: str) -> list[str]:
 
 
 DRAW, IMPORT, ESTIMATE, PLAN = (str(TOOLS / f"lif-{name}") for name in ("draw", "import", "estimate", "plan"))
+# A link and a bundle.
+BUNDLED = "source s\nsink t\nlink l s t\nlink k s t x3 # far\n"
 NET = "source s\nsink t\nsink u # far\nlink l s t\nlink k s u\npattern duct l\n"
 
 # The words, and what is offered for the last one: names, and the endings of files.
@@ -137,6 +152,12 @@ def test_zsh_completes_the_words_of_the_tools(folder: Path) -> None:
     assert completed_by_zsh(folder, "lif", "") == completed(folder, "lif", "")
     assert completed_by_zsh(folder, "lif", "migrate", "a.lif", "") == ["files *.lif"]
     assert completed_by_zsh(folder, "lif", "send", "my\\ code.lif", "") == ["duct", "dust", "none"]
+    assert completed_by_zsh(folder, "lif", "blind", "") == ["files *.lif"]
+    assert completed_by_zsh(folder, "lif", "blind", "a.lif", "") == completed_by_zsh(folder, "lif", "blind", "a.lif", "b", "")
+    assert completed_by_zsh(folder, "lif", "blind", "my\\ code.lif", "a", "b", "k", "") == ["k", "l"]
+    (folder / "two.net").write_text(BUNDLED)
+    assert completed_by_zsh(folder, DRAW, "two.net", "--failed", "") == ["k.1", "k.2", "k.3", "l"]
+    assert completed_by_zsh(folder, DRAW, "two.net", "--failed", "l,k") == ["l,k.1", "l,k.2", "l,k.3", "l,l"]
 
 
 def test_the_completion_is_that_of_the_commands() -> None:
@@ -180,5 +201,5 @@ def test_the_man_page_has_every_word_and_every_status() -> None:
         word, *names = form.split()
         assert f".Cm {word}\n.Ar {' '.join(names)}\n" in page()
     statuses = STATUSES.findall((TOP / "docs/FORMATS.md").read_text())
-    assert len(statuses) == 19
+    assert len(statuses) == 20
     assert [number for _, number in statuses] == re.findall(r"^\.It (\d+)$", page(), re.MULTILINE)

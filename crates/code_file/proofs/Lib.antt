@@ -1,5 +1,6 @@
 pub mod CodeReaders
 pub mod ContentsLaws
+pub mod DraftLaws
 pub mod ReadingLaws
 pub mod RoomLaws
 pub mod SizeLaws

@@ -1,65 +1,31 @@
 -- Reading and spelling code files: a file that's read is the one spelling of what it says, and that's what a code has;
 -- the files of a code are read; and a file that's no code's is refused.
-use Rattle.std.specs.Prelude.{◌≡◌, ℕ, ◌+◌, Bool, true, false, ◌==◌, List, [], ◌++◌, length, None, Result, Ok, Err, if◌then◌else◌}
-use Rattle.std.proofs.Common.{refl, sym, subst, ap, ◌∙◌, append-nil, arith}
+use Rattle.std.specs.Prelude.{◌≡◌, ℕ, Bool, true, false, ◌==◌, List, [], ◌++◌, length, Ok, Err, if◌then◌else◌}
+use Rattle.std.proofs.Common.{refl, sym, ap, ◌∙◌, append-nil}
 use Rattle.std.proofs.lemmas.Bool.{eqb-true}
 use Rattle.std.proofs.lemmas.List.{nil_from_length}
 use Rattle.gf_tables.specs.declared.kind.FieldKind.{FieldKind}
 use Rattle.gf_tables.specs.declared.kind.FieldKind.TheVariants.{Eight, Nine, Sixteen}
 use Rattle.net_model.specs.Lists.{is_among}
-use Rattle.net_model.specs.declared.net.Net.{Net}
-use Rattle.node_program.specs.Code.{choice_of}
 use Rattle.node_program.specs.declared.code.Code.{Code}
-use Rattle.code_file.specs.Items.{IsFileOf, bytes_in, bytes_of, code_mark, code_versions}
-use Rattle.code_items.specs.Reading.{Rest, Reading, Refusable, ◌>>=◌, decoder_table_at, front_at, has_field, mark_at, operand_table_at}
-use Rattle.code_file.specs.Reading.{Contents, contents_of}
+use Rattle.code_file.specs.Items.{IsFileOf, bytes_in, bytes_of, code_versions}
+use Rattle.code_items.specs.Reading.{has_field}
+use Rattle.code_items.specs.Whole.{whole_of}
+use Rattle.code_file.specs.Reading.{Contents, contents_at, contents_of}
 use Rattle.code_file.specs.Spelling.{contents_in, spelling_of, AreContents}
 use Rattle.code_file.proofs.SpellingLaws.{spelling_of-contents_in}
-use Rattle.code_items.proofs.Readers.{ok_of, IsBytes, bind_ok, ok_is}
-use Rattle.code_file.proofs.CodeReaders.{AreContentsRead, body_at, body_reader}
-use Rattle.code_file.proofs.ContentsLaws.{AreContents-from_read, AreContentsRead-from_code}
+use Rattle.code_items.proofs.Readers.{ok_of, IsBytes, ok_is}
+use Rattle.code_items.proofs.WholeLaws.{whole-append, whole-spelled}
+use Rattle.code_file.proofs.CodeReaders.{AreContentsRead, contents_reader}
+use Rattle.code_file.proofs.ContentsLaws.{AreContents-from_read, AreContentsRead-from_code, IsNetOf-net_of, net_of}
 use Rattle.code_file.proofs.Refusals.{not_both}
 use Rattle.code_items.specs.declared.refusal.CodeRefusal.{CodeRefusal}
 use Rattle.code_items.specs.declared.refusal.CodeRefusal.TheVariants.{TrailingBytes}
 
--- the first byte of a file and all behind it
-abbrev start_of : List ℕ → Rest
-start_of bytes = record { at = 0; bytes = bytes }
-
--- the end of a file
-abbrev end_of : Contents → Rest → Result Contents CodeRefusal
-end_of contents left = if length left.bytes == 0 then Ok contents else Err (TrailingBytes left.at)
-
--- a step, and then two more in a row
-two_after : {A B C : Type 0} (read : Refusable A) (f : A → Refusable B) (g : B → Refusable C) (both : A → Refusable C) → ((x : A) → (f x >>= g) ≡ both x) → ((read >>= f) >>= g) ≡ (read >>= both)
-two_after (Ok x) f g both same = same x
-two_after (Err refusal) f g both same = refl
-
--- the body and the end
-contents_of-body : (bytes : List ℕ) → (body_at (start_of bytes) >>= λ body. end_of body.0 body.1) ≡ contents_of bytes
-unfolding body_at contents_of
-contents_of-body bytes =
-    two_after (mark_at code_mark code_versions (start_of bytes)) _ _ _
-    (λ version. two_after (front_at version.0 version.1) _ _ _
-    (λ front. two_after (operand_table_at front.0 front.1) _ _ _
-    (λ operands. two_after (decoder_table_at version.0 front.0 operands.1) _ _ _ (λ decoders. refl))))
-
--- at the end of a file nothing is left
-end_ok : (contents contents' : Contents) (left : Rest) → end_of contents left ≡ Ok contents' → (left.bytes ≡ []) × (contents ≡ contents')
-end_ok contents contents' left e = either (length left.bytes == 0) refl e
-  where
-    either : (b : Bool) → (length left.bytes == 0) ≡ b → (if b then ok_of contents else Err (TrailingBytes left.at)) ≡ Ok contents' → (left.bytes ≡ []) × (contents ≡ contents')
-    either true is e = (nil_from_length left.bytes (eqb-true _ _ is), ok_is contents contents' e)
-    either false is e = absurd cc
-
 -- what a file says is spelled by the file, and its items say it one by one
 AreContentsRead-from_contents_of : (bytes : List ℕ) (contents : Contents) → IsBytes bytes → contents_of bytes ≡ Ok contents → (bytes ≡ spelling_of contents) × AreContentsRead contents
-AreContentsRead-from_contents_of bytes contents fits e =
-    let b = bind_ok (body_at (start_of bytes)) (λ body. end_of body.0 body.1) contents (contents_of-body bytes ∙ e) in
-    let ended = end_ok b.0.0 contents b.0.1 b.2 in
-    let t = body_reader.takes (start_of bytes) b.0.0 b.0.1 fits b.1 in
-    let spelled : bytes ≡ spelling_of b.0.0 = t.0.parts ∙ ap (λ (left : List ℕ). spelling_of b.0.0 ++ left) ended.0 ∙ append-nil (spelling_of b.0.0) in
-    subst (λ (c : Contents). (bytes ≡ spelling_of c) × AreContentsRead c) ended.1 (spelled, t.1)
+unfolding contents_of
+AreContentsRead-from_contents_of bytes contents fits e = whole-spelled contents_reader bytes contents fits e
 
 -- What a file says is spelled by the file, each byte of it, and it's what a code has.
 pub AreContents-from_contents_of : (bytes : List ℕ) (contents : Contents) → IsBytes bytes → contents_of bytes ≡ Ok contents → (bytes ≡ spelling_of contents) × AreContents contents
@@ -71,20 +37,19 @@ AreContents-from_contents_of bytes contents fits e =
 pub IsFileOf-from_contents_of : (version : ℕ) (bytes : List ℕ) (code : Code) → IsBytes bytes → contents_of bytes ≡ Ok (contents_in version code) → IsFileOf bytes code
 IsFileOf-from_contents_of version bytes code fits e =
     let t = AreContentsRead-from_contents_of bytes (contents_in version code) fits e in
-    record { version = version; known = t.1.known; says_field = t.1.front.says_field; bytes_are = t.0 ∙ spelling_of-contents_in version code }
+    record { version = version; known = t.1.draft.known; says_field = t.1.draft.front.says_field; bytes_are = t.0 ∙ spelling_of-contents_in version code }
 
 module _ (version : ℕ) (code : Code) (known : is_among code_versions version ≡ true) (says_field : has_field version code.field ≡ true) where
   -- a file of a code and what stands behind it
   pub contents_of-bytes_in-append : (more : List ℕ)
       → contents_of (bytes_in version code ++ more) ≡ (if length more == 0 then Ok (contents_in version code) else Err (TrailingBytes (length (bytes_in version code))))
+  unfolding contents_of
   contents_of-bytes_in-append more =
       let contents = contents_in version code in
-      let bytes = bytes_in version code in
-      let at : 0 + length (spelling_of contents) ≡ length bytes = omega (arith, ap (λ (t : List ℕ). length t) (spelling_of-contents_in version code)) in
-      sym (contents_of-body (bytes ++ more))
-      ∙ ap (λ (t : List ℕ). body_at (start_of (t ++ more)) >>= λ body. end_of body.0 body.1) (sym (spelling_of-contents_in version code))
-      ∙ ap (λ (r : Reading Contents). r >>= λ body. end_of body.0 body.1) (body_reader.again 0 more contents (AreContentsRead-from_code version code known says_field))
-      ∙ ap (λ (n : ℕ). if length more == 0 then ok_of contents else Err (TrailingBytes n)) at
+      let spelled = spelling_of-contents_in version code in
+      ap (λ (t : List ℕ). whole_of contents_at (t ++ more)) (sym spelled)
+      ∙ whole-append contents_reader contents more (AreContentsRead-from_code version code known says_field)
+      ∙ ap (λ (t : List ℕ). if length more == 0 then ok_of contents else Err (TrailingBytes (length t))) spelled
 
   -- The file of a code in a version says what the code has.
   pub contents_of-bytes_in : contents_of (bytes_in version code) ≡ Ok (contents_in version code)
@@ -99,7 +64,7 @@ pub file_not_refused : (bytes : List ℕ) (code : Code) (why : CodeRefusal) → 
 file_not_refused bytes code why is refused = not_both (contents_of bytes) (contents_in is.version code) why (contents_of-file bytes code is) refused
 
 -- a code over any field can stand in a file of version 2
-says_any_field : (field : FieldKind) → has_field 2 field ≡ true
+pub says_any_field : (field : FieldKind) → has_field 2 field ≡ true
 says_any_field Eight = refl
 says_any_field Nine = refl
 says_any_field Sixteen = refl
@@ -137,22 +102,12 @@ contents_in-same bytes one other is is' version =
 unfoldable pub code_of : (contents : Contents) → AreContents contents → Code
 code_of contents are =
     let front = contents.front in
-    let net : Net = record {
-      nodes = front.nodes;
-      links = front.links;
-      source = front.source;
-      sinks = front.sinks;
-      patterns = front.patterns;
-      field = choice_of front.field;
-      wanted = None;
-      network = are.network;
-      rate = λ rate some. absurd cc;
-    } in
+    let net = net_of front are.network in
     record {
       net = net;
       rate = front.rate;
       field = front.field;
       operands = contents.operands;
       decoders = contents.decoders;
-      code = are.code net refl refl refl refl refl refl refl;
+      code = are.code net (IsNetOf-net_of front are.network);
     }

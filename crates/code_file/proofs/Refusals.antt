@@ -2,7 +2,6 @@
 use Rattle.std.proofs.Common.{◌≡◌, ◌≢◌, Result, Ok, Err, refl}
 use Rattle.code_items.specs.declared.refusal.CodeRefusal.{CodeRefusal}
 use Rattle.code_items.specs.declared.refusal.CodeRefusal.TheVariants.{OutOfMemory}
-use Rattle.code_file.specs.Reading.{Contents}
 
 -- a refusal that is no other one is for want of memory
 pub memory_alone : (why : CodeRefusal) → ((why ≢ OutOfMemory) → ⊥) → why ≡ OutOfMemory
@@ -10,5 +9,5 @@ memory_alone OutOfMemory not_other = refl
 memory_alone _ not_other = absurd (not_other (λ same. absurd cc))
 
 -- what is read is not refused
-pub not_both : (read : Result Contents CodeRefusal) (contents : Contents) (why : CodeRefusal) → read ≡ Ok contents → read ≡ Err why → ⊥
-not_both read contents why good bad = absurd cc
+pub not_both : {X : Type 0} (read : Result X CodeRefusal) (x : X) (why : CodeRefusal) → read ≡ Ok x → read ≡ Err why → ⊥
+not_both read x why good bad = absurd cc

@@ -5,15 +5,11 @@ use Rattle.std.proofs.Common.{arith}
 use Rattle.net_model.specs.Demands.{sinks_of_demands}
 use Rattle.node_program.specs.declared.code.Code.{Code}
 use Rattle.code_items.specs.Spelling.{front_of}
-use Rattle.code_items.specs.Written.{are_elements, has_elements, has_size}
-use Rattle.code_items.proofs.Joined.{decoders_fit, operands_fit}
+use Rattle.code_items.specs.Written.{has_elements, has_size}
+use Rattle.code_items.proofs.Joined.{decoders_fit}
 use Rattle.code_items.proofs.PartLaws.{EachFits-from_decoders_of_code, have_size-from_read, length-decoders_of_code}
 
 module _ (code : Code) where
-  -- the coefficients of the operands are elements
-  pub coefficients_fit : list_all (are_elements code.field) code.operands ≡ true
-  coefficients_fit = operands_fit code.net code.rate code.field code.net.links code.operands code.code.draft.link_operands
-
   -- the entries of the decoders are elements
   pub entries_fit : list_all (has_elements code.field) code.decoders ≡ true
   entries_fit = decoders_fit code.net code.rate code.field (sinks_of_demands code.net) code.decoders code.code.demand_decoders

@@ -1,10 +1,11 @@
--- What a code file says of a code, how that is spelled, and when it's said of a code.
+-- What a code file says of a code, how that is spelled, and when it's said of a code, or of a draft.
 use Rattle.std.specs.Prelude.{◌≡◌, ℕ, None, List, ◌∷◌, ◌++◌}
 use Rattle.std.specs.List.{concat}
 use Rattle.net_model.specs.Network.{IsNetwork}
 use Rattle.net_model.specs.declared.net.Net.{Net}
-use Rattle.node_program.specs.Code.{IsCode, choice_of}
+use Rattle.node_program.specs.Code.{IsCode, IsDraft, choice_of}
 use Rattle.node_program.specs.declared.code.Code.{Code}
+use Rattle.code_items.specs.DraftParts.{DraftParts}
 use Rattle.code_items.specs.Items.{Item, byte_item, operand_table_items, decoders_items}
 use Rattle.code_items.specs.Reading.{Front}
 use Rattle.code_items.specs.Spelling.{front_of, front_items_in}
@@ -38,16 +39,24 @@ abbrev pub IsNetworkFront : Front → Type 0
 IsNetworkFront front =
     IsNetwork front.nodes front.links front.source front.sinks front.patterns
 
--- with a network of these parts that names the field, and no wanted rate, they make a code
-abbrev pub IsCodeWith : Contents → Net → Type 0
-IsCodeWith contents net =
-    let front = contents.front in
-    net.nodes ≡ front.nodes → net.links ≡ front.links → net.source ≡ front.source
-    → net.sinks ≡ front.sinks → net.patterns ≡ front.patterns → net.field ≡ choice_of front.field
-    → net.wanted ≡ None → IsCode net front.rate front.field contents.operands contents.decoders
+-- the network has these parts, names the field, and no wanted rate
+pub record IsNetOf (front : Front) (net : Net) : Type 0 where
+  pub nodes : net.nodes ≡ front.nodes
+  pub links : net.links ≡ front.links
+  pub source : net.source ≡ front.source
+  pub sinks : net.sinks ≡ front.sinks
+  pub patterns : net.patterns ≡ front.patterns
+  pub field : net.field ≡ choice_of front.field
+  pub wanted : net.wanted ≡ None
 
--- The parts are those of a network, and with every network of these parts that names the field, and no
--- wanted rate, they make a code.
+-- the parts are those of a network, and with every network that has them they make a draft
+pub record AreDraftParts (parts : DraftParts) : Type 0 where
+  pub network : IsNetworkFront parts.front
+  pub draft : (net : Net) → IsNetOf parts.front net
+      → IsDraft net parts.front.rate parts.front.field parts.operands
+
+-- the parts are those of a network, and with every network that has them they make a code
 pub record AreContents (contents : Contents) : Type 0 where
   pub network : IsNetworkFront contents.front
-  pub code : (net : Net) → IsCodeWith contents net
+  pub code : (net : Net) → IsNetOf contents.front net
+      → IsCode net contents.front.rate contents.front.field contents.operands contents.decoders

@@ -5,7 +5,7 @@ ghost use Rattle.code_file.specs.Items.{bytes_in, bytes_of};
 
 use crate::reading::MARK;
 use crate::room::{code_room, code_room_one};
-use code_items::{put_decoders, put_front, put_operand_table, put_shared_decoders, sames_of};
+use code_items::{put_decoders, put_draft_parts, put_shared_decoders, sames_of};
 use node_program::Code;
 use std::alloc::{AllocError, Global};
 
@@ -17,8 +17,7 @@ pub fn write_code(alloc: Global, code: &Code) -> Result<Vec<u8>, AllocError>
     let decoders = code.decoders.as_slice();
     let sames = sames_of(alloc, code.field, code.rate, decoders)?;
     let mut out = Vec::with_capacity(alloc, code_room(code, &sames))?;
-    put_front(&mut out, MARK, 2, &code.net, code.rate, code.field)?;
-    put_operand_table(&mut out, code.field, code.operands.as_slice())?;
+    put_draft_parts(&mut out, MARK, 2, code.coding())?;
     put_shared_decoders(&mut out, code.field, decoders, &sames)?;
     Ok(out)
 }
@@ -30,8 +29,7 @@ pub fn write_code_one(alloc: Global, code: &Code) -> Result<Vec<u8>, AllocError>
     ensures { IfOk result (λ bytes. bytes.items ≡ bytes_in 1 code.now) }
 {
     let mut out = Vec::with_capacity(alloc, code_room_one(code))?;
-    put_front(&mut out, MARK, 1, &code.net, code.rate, code.field)?;
-    put_operand_table(&mut out, code.field, code.operands.as_slice())?;
+    put_draft_parts(&mut out, MARK, 1, code.coding())?;
     put_decoders(&mut out, code.field, code.decoders.as_slice())?;
     Ok(out)
 }

@@ -1,11 +1,13 @@
 pub mod AfterLaws
 pub mod Bounds
+pub mod DraftReaders
 pub mod FrontReaders
 pub mod ItemReaders
 pub mod PartLaws
 pub mod PartReaders
 pub mod Readers
 pub mod SharingLaws
+pub mod WholeLaws
 pub mod Above
 pub mod Checks
 pub mod Joined

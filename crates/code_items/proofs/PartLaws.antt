@@ -23,7 +23,7 @@ use Rattle.net_model.specs.declared.Pattern.{Pattern}
 use Rattle.net_model.specs.declared.net.Net.{Net}
 use Rattle.node_program.proofs.DecodingLaws.{link_within}
 use Rattle.node_program.proofs.LinkLaws.{head_of-leads_into}
-use Rattle.node_program.specs.Code.{choice_of, leads_into, are_in_order, is_source_of, are_operands, are_operands_of, is_decoder, are_decoders, IsCode}
+use Rattle.node_program.specs.Code.{choice_of, leads_into, are_in_order, is_source_of, are_operands, are_operands_of, is_decoder, are_decoders, IsDraft, IsCode}
 use Rattle.node_program.specs.declared.Operand.{Operand}
 use Rattle.node_program.specs.declared.Decoder.{Decoder}
 use Rattle.code_items.specs.Reading.{Front, has_field, demand_sinks, names_of, none_pattern}
@@ -484,19 +484,24 @@ module _ (net : Net) (rate : ℕ) (field : FieldKind) where
       AreDecodersRead-from_each version (front_of net rate field) decoders some_rate (omega (arith, few_demands, length-decoders_of_code decoders few are))
       (EachFits-from_decoders_of_code (sinks_of_demands net) decoders few are)
 
-  -- what is read with the parts of a network makes a code with it
+  -- what is read with the parts of a network makes a draft with it
+  pub IsDraft-from_read : (version : ℕ) (operands : List (List Operand)) → net.field ≡ choice_of field → net.wanted ≡ None
+      → IsFrontRead version (front_of net rate field) → EachFits (AreOperandsRead (front_of net rate field)) net.links operands → IsDraft net rate field operands
+  IsDraft-from_read version operands named unwanted front links = record {
+    some_rate = front.some_rate;
+    low_rate = front.low_rate;
+    few_demands = few_demands-from_read version (front_of net rate field) front;
+    link_order = link_order-from_read (length net.nodes) net.links front.links;
+    link_operands = are_operands_of-from_read net.links operands links;
+    named_field = named;
+    no_wanted = unwanted;
+  }
+
+  -- and with decoders a code
   pub IsCode-from_read : (version : ℕ) (operands : List (List Operand)) (decoders : List Decoder) → net.field ≡ choice_of field → net.wanted ≡ None
       → IsFrontRead version (front_of net rate field) → EachFits (AreOperandsRead (front_of net rate field)) net.links operands
       → EachFits (IsDecoderRead (front_of net rate field)) (sinks_of_demands net) decoders → IsCode net rate field operands decoders
   IsCode-from_read version operands decoders named unwanted front links demands = record {
-    draft = record {
-      some_rate = front.some_rate;
-      low_rate = front.low_rate;
-      few_demands = few_demands-from_read version (front_of net rate field) front;
-      link_order = link_order-from_read (length net.nodes) net.links front.links;
-      link_operands = are_operands_of-from_read net.links operands links;
-      named_field = named;
-      no_wanted = unwanted;
-    };
+    draft = IsDraft-from_read version operands named unwanted front links;
     demand_decoders = are_decoders-from_read (sinks_of_demands net) decoders demands;
   }

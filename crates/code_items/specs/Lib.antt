@@ -1,3 +1,4 @@
+pub mod DraftParts
 pub mod Gives
 pub mod Items
 pub mod Limits
@@ -9,4 +10,5 @@ pub mod Room
 pub mod Shared
 pub mod Sharing
 pub mod Spelling
+pub mod Whole
 pub mod Written

@@ -18,7 +18,7 @@ use std::alloc::Global;
 
 /// The version behind a mark of four bytes, which is one of those that the mark allows, and what is left.
 #[tactic(auto, using(crate::proofs::Checks::item_checked, crate::proofs::Checks::byte_checked), unfolding(crate::specs::Reading::mark_at))]
-pub fn read_version<'a>(
+pub(crate) fn read_version<'a>(
     mark: &[u8],
     versions: &[u8],
     start: Rest<'a>,
@@ -75,7 +75,7 @@ fn rate<'a>(rest: Rest<'a>) -> Result<(u32, Rest<'a>), CodeRefusal>
 /// All behind the version and up to the operands: what stands there, and what is left. A refusal is that of the first item that
 /// isn't good.
 #[tactic(auto, unfolding(crate::specs::Reading::front_at))]
-pub fn read_front<'a>(
+pub(crate) fn read_front<'a>(
     alloc: Global,
     version: u8,
     start: Rest<'a>,

@@ -121,7 +121,7 @@ fn operand_list<'a>(
 
 /// The operands of each link of a front, in the order of the links, and what is left. A refusal is that of the first item that
 /// isn't good.
-pub fn read_operand_table<'a>(
+pub(crate) fn read_operand_table<'a>(
     alloc: Global,
     front: &Front,
     start: Rest<'a>,

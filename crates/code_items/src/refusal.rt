@@ -1,14 +1,14 @@
-//! Why bytes aren't a code file.
+//! Why bytes aren't a code file, or that of a draft.
 use std::alloc::{AllocError, AllocFailed};
 use thiserror::Error;
 
-/// Why bytes aren't read as a code. The refusal is that of the first item that isn't good, and of
+/// Why bytes aren't read as a code, or as a draft. The refusal is that of the first item that isn't good, and of
 /// its refusals the first in the order below. A place is counted from 0; it is that of the item's
 /// first byte, of a name that of the byte of its length.
 #[derive(Clone, Copy, Debug, PartialEq, Eq, Error)]
 pub enum CodeRefusal {
-    /// The mark isn't `LIFC`.
-    #[error("the mark isn't that of a code file")]
+    /// The mark isn't that of the file: `LIFC` of a code, `LIFK` of a draft.
+    #[error("the mark isn't that of such a file")]
     BadMagic,
     /// The version isn't one that the mark allows.
     #[error("the version isn't known")]

@@ -81,7 +81,7 @@ fn patterns_room(patterns: &[Pattern]) -> usize
 
 /// How much room the operands of all links take, in bytes, or the greatest number of the machine
 /// where that is less.
-pub fn operands_room(field: FieldKind, table: &[OperandList]) -> usize
+pub(crate) fn operands_room(field: FieldKind, table: &[OperandList]) -> usize
     ensures { result ≡ room_of (operand_table_items field table.now) }
 {
     let mut room: usize = 0;
@@ -128,7 +128,7 @@ pub fn shared_decoders_room(field: FieldKind, decoders: &[Decoder], sames: &[u32
 
 /// How much room all up to the operands takes, in bytes, behind a mark of four bytes, or the greatest
 /// number of the machine where that is less.
-pub fn front_room(net: &Net) -> usize
+pub(crate) fn front_room(net: &Net) -> usize
     ensures { IsFrontRoom net.now result }
 {
     let nodes = names_room(net.nodes.as_slice());

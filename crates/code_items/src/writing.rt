@@ -87,7 +87,7 @@ fn put_operand_list(
 
 /// Adds the operands of each link, each behind their number. Where memory runs out, some may have been
 /// added.
-pub fn put_operand_table(
+pub(crate) fn put_operand_table(
     out: &mut Vec<u8>,
     field: FieldKind,
     table: &[OperandList],
@@ -176,7 +176,7 @@ fn put_head(
 
 /// Adds all up to the operands. Where memory runs out, some may have been added.
 #[tactic(auto, unfolding(crate::specs::Items::front_items))]
-pub fn put_front(
+pub(crate) fn put_front(
     out: &mut Vec<u8>,
     mark: &[u8],
     version: u8,

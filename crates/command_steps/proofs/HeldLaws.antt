@@ -1,6 +1,6 @@
 -- Where an input is held, a step is its rest: what it changes and what it owes are that of the rest.
-use Rattle.std.specs.Prelude.{◌≡◌, ◌≤◌, ◌-◌, ℕ, List, [], ◌∷◌, Contains, length, map, sum_by, None, Some, Ok, IsFalse}
-use Rattle.std.proofs.Common.{refl, sym, subst, ◌∙◌, ⊎_elim, arith}
+use Rattle.std.specs.Prelude.{◌≡◌, ◌⊎◌, ◌≤◌, ◌-◌, ℕ, List, [], ◌∷◌, Contains, length, map, sum_by, None, Some, Ok, IsFalse}
+use Rattle.std.proofs.Common.{refl, sym, subst, ◌∙◌, inl, inr, ⊎_elim, arith}
 use Rattle.std.proofs.lemmas.Bool.{false≢true}
 use Rattle.std.proofs.lemmas.List.Elements.{Contains-append_right}
 use Rattle.std.proofs.lemmas.List.Sums.{sum_by-cons}
@@ -9,7 +9,7 @@ use Rattle.lif_outside.specs.Calls.{Outside}
 use Rattle.lif_outside.specs.Files.{Files, Holds}
 use Rattle.lif_outside.specs.Told.{Told}
 use Rattle.command_steps.specs.Listed.{IsTaken, RefusesBytes, Wanted, reads_each}
-use Rattle.command_steps.specs.Steps.{OwedBy, reads_then}
+use Rattle.command_steps.specs.Steps.{ChangesNone, OwedBy, reads_then}
 use Rattle.top_base.proofs.InputLaws.{same_held}
 use Rattle.top_base.specs.Inputs.{HoldsInput, HoldsShort, is_lost}
 use Rattle.top_base.specs.Performs.{Behaviour}
@@ -27,16 +27,22 @@ module _ {X : Type 0} (limit : ℕ) (Is : List ℕ → X → Type 0) (Refuses : 
   pub held_owed : (owed : Status) → OwedBy (rest x).due files owed → OwedBy (reads_then limit Is Refuses path rest).due files owed
   held_owed owed is = (Ok x, held, is)
 
-  pub held_changes : IsOne Is → (outcome : Outcome) (before after : Outside) → before.files ≡ Some files → IsFalse (is_lost outcome.status)
-      → (reads_then limit Is Refuses path rest).changes outcome before after → (rest x).changes outcome before after
-  held_changes one outcome before after told found changes = ⊎_elim
+  -- the rest of this input changes what is changed, or none could be had
+  pub held_cases : IsOne Is → (outcome : Outcome) (before after : Outside) → before.files ≡ Some files → (reads_then limit Is Refuses path rest).changes outcome before after
+      → (rest x).changes outcome before after ⊎ ChangesNone limit Is Refuses path rest outcome before after
+  held_cases one outcome before after told changes = ⊎_elim
       (λ had.
       let there : HoldsInput limit Is Refuses (files path) (Ok had.input) = subst (λ o. Told o (λ files. HoldsInput limit Is Refuses (files path) (Ok had.input))) told had.held in
       let bytes = same_held (files path) there.0 held.0 there.1.held held.1.held in
       let same : had.input ≡ x = one held.0 had.input x (subst (λ bytes. Is bytes had.input) bytes there.2) held.2 in
-      subst (λ input. (rest input).changes outcome before after) same had.changed)
-      (λ none. absurd (false≢true (sym found ∙ none.lost)))
+      inl (subst (λ input. (rest input).changes outcome before after) same had.changed))
+      inr
       changes
+
+  pub held_changes : IsOne Is → (outcome : Outcome) (before after : Outside) → before.files ≡ Some files → IsFalse (is_lost outcome.status)
+      → (reads_then limit Is Refuses path rest).changes outcome before after → (rest x).changes outcome before after
+  held_changes one outcome before after told found changes =
+      ⊎_elim (λ changed. changed) (λ none. absurd (false≢true (sym found ∙ none.lost))) (held_cases one outcome before after told changes)
 
 -- ---- those of a list
 

@@ -1,4 +1,6 @@
 pub mod StepLaws
+pub mod RefusalLaws
+pub mod DoneLaws
 pub mod ListedLaws
 pub mod HeldLaws
 pub mod FillingLaws

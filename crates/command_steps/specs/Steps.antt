@@ -1,5 +1,5 @@
 -- Commands told step by step: an input is read, and by what it is the command goes on, until it is refused or makes files.
-use Rattle.std.specs.Prelude.{◌≡◌, ◌⊎◌, ℕ, List, [], Ok, IsTrue}
+use Rattle.std.specs.Prelude.{◌≡◌, ◌⊎◌, ℕ, List, [], Option, None, Some, Ok, IsTrue}
 use Rattle.lif_outside.specs.Calls.{MakesNone, Outside, store_calls}
 use Rattle.lif_outside.specs.Counts.{Rose}
 use Rattle.lif_outside.specs.Events.{Event}
@@ -7,9 +7,11 @@ use Rattle.lif_outside.specs.Files.{Files}
 use Rattle.lif_outside.specs.Told.{Told}
 use Rattle.top_base.specs.Acting.{Due, LeavesUnread, Owed, Runs}
 use Rattle.top_base.specs.Inputs.{HoldsInput, IsNoMemory, is_lost}
+use Rattle.top_base.specs.Outcome.{SaysWell}
 use Rattle.top_base.specs.Performs.{Behaviour, Decision, LeavesAll, by_files, by_words}
 use Rattle.top_base.specs.declared.outcome.Outcome.{Outcome}
 use Rattle.top_base.specs.declared.status.Status.{Status}
+use Rattle.top_base.specs.declared.status.Status.TheVariants.{Done, OutOfMemory}
 
 -- an outcome that is expected, or that of want of memory
 abbrev pub IsOrForgets : Outcome → Outcome → Type 0
@@ -23,6 +25,11 @@ refuses expected = record {
   due = by_words (λ status. status ≡ expected.status) (λ outcome. outcome ≡ expected);
   no_fault = λ before after. Unit {0};
 }
+
+-- a refusal, where there is one, and else the rest
+abbrev pub or_refuses : Option Outcome → Behaviour → Behaviour
+or_refuses (Some refused) rest = refuses refused
+or_refuses None rest = rest
 
 -- what a decision says of files: which status is owed, and which outcome is due
 abbrev pub OwedBy : Decision → Files → Status → Type 0
@@ -66,3 +73,7 @@ module _ {X : Type 0} (limit : ℕ) (Is : List ℕ → X → Type 0) (Refuses : 
 -- calls on the store that are those of a step with this outcome, or there are none, since there was no memory
 abbrev pub RunsOrForgets : Behaviour → Outcome → List Event → Type 0
 RunsOrForgets does outcome events = does.runs outcome (store_calls events) ⊎ (IsNoMemory outcome × (events ≡ []))
+
+-- the command is done, or there was no memory, where none of its calls failed and its line was said
+abbrev pub Comes : Behaviour → Status → Outside → Outside → Type 0
+Comes does status before after = does.no_fault before after → SaysWell before after → (status ≡ Done) ⊎ (status ≡ OutOfMemory)

@@ -1,13 +1,14 @@
 pub mod Launch
 pub mod Promises
 pub mod Run
+pub use Rattle.top_blind.specs.Blind
+pub use Rattle.top_blind.specs.Delivered
 pub use Rattle.top_nodes.specs.Chained
 pub use Rattle.top_nodes.specs.Declined
 pub use Rattle.top_nodes.specs.Files as LinkFiles
 pub use Rattle.top_nodes.specs.Relay
 pub use Rattle.top_nodes.specs.Sink
 pub use Rattle.top_runs.specs.Demo
-pub use Rattle.top_runs.specs.Paths
 pub use Rattle.top_runs.specs.Send
 pub use Rattle.top_base.specs.Accepting
 pub use Rattle.top_base.specs.Acting
@@ -19,9 +20,10 @@ pub use Rattle.top_base.specs.Lines
 pub use Rattle.top_base.specs.Making
 pub use Rattle.top_base.specs.Networks
 pub use Rattle.top_base.specs.Outcome
-pub use Rattle.top_base.specs.Paths as SharedPaths
+pub use Rattle.top_base.specs.Paths
 pub use Rattle.top_base.specs.Performs
 pub use Rattle.top_base.specs.Words
+pub use Rattle.source_turns.specs.Turns as SourceTurns
 pub use Rattle.top_tools.specs.Check
 pub use Rattle.top_tools.specs.Compile
 pub use Rattle.top_tools.specs.Cuts
@@ -69,3 +71,5 @@ pub use Rattle.report_text.specs.Report
 pub use Rattle.top_runs.specs.Carried
 pub use Rattle.top_runs.specs.Streaming
 pub use Rattle.top_runs.specs.Turns
+pub use Rattle.vector_headers.specs.Ranks
+pub use Rattle.vector_headers.specs.Receiving

@@ -11,10 +11,12 @@ use Rattle.top_tools.specs.Migrate.{migrate_command}
 use Rattle.top_tools.specs.Order.{order_command}
 use Rattle.top_base.specs.Lines.{usage_line}
 use Rattle.top_base.specs.Performs.{Behaviour, Performs, at_once}
-use Rattle.top_base.specs.Words.{AtNode, Command, check, command_of, compile, cuts, demo, migrate, order, relay, send, sink}
+use Rattle.top_base.specs.Words.{AtNode, Blind, Command, blind, check, command_of, compile, cuts, demo, migrate, order, relay, send, sink}
 use Rattle.top_base.specs.declared.outcome.Outcome.{Outcome}
 use Rattle.top_base.specs.declared.status.Status.{Status}
 use Rattle.top_base.specs.declared.status.Status.TheVariants.{Usage}
+use Rattle.top_blind.specs.Blind.{blind_command}
+use Rattle.top_blind.specs.Delivered.{BlindDelivers}
 use Rattle.top_nodes.specs.Chained.{NodeRelays, SinkReceives}
 use Rattle.top_nodes.specs.Relay.{relay_command}
 use Rattle.top_nodes.specs.Sink.{sink_command}
@@ -37,6 +39,7 @@ does_form faithful (Some (demo given)) = demo_command faithful given
 does_form faithful (Some (migrate given)) = migrate_command given
 does_form faithful (Some (relay given)) = relay_command given
 does_form faithful (Some (sink given)) = sink_command given
+does_form faithful (Some (blind given)) = blind_command given
 
 pub record Promises {S C L : Type 0} {g : StoreGhosts S} {h : SinkGhosts C} {k : LinksGhosts L} (words : List (List ℕ)) (o : Objects g h k)
     (status : Status) : Type 0 where
@@ -48,3 +51,5 @@ pub record Promises {S C L : Type 0} {g : StoreGhosts S} {h : SinkGhosts C} {k :
   pub relays : (given : AtNode) → command_of words ≡ Some (relay given) → NodeRelays given status (outside_before o) (outside_after o)
   -- and where those of a sink's links are, its file is the one that the blocks are of
   pub receives : (given : AtNode) → command_of words ≡ Some (sink given) → SinkReceives given status (outside_before o) (outside_after o)
+  -- where words name links of a code that fail, the files of the sinks that have the rank of the code are the source
+  pub delivers : (given : Blind) → command_of words ≡ Some (blind given) → BlindDelivers given status (outside_before o) (outside_after o)

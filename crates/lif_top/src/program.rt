@@ -9,6 +9,7 @@ use lif_outside::{Gate, Links, Sink, Store};
 use std::alloc::Global;
 use std::thread::Threads;
 use top_base::{Command, Outcome, Status, command_of, conclude};
+use top_blind::blind;
 use top_nodes::{relay, sink};
 use top_runs::{demo, send};
 use top_tools::{check, compile, cuts, migrate, order};
@@ -40,6 +41,7 @@ fn carry_out<'a, S: Store, L: Links, G: Gate + Sync, R: Threads + Sync>(
         Command::Migrate(given) => migrate(alloc, &given, store),
         Command::Relay(given) => relay(rt, alloc, &given, store, gate),
         Command::Sink(given) => sink(rt, alloc, &given, store, gate),
+        Command::Blind(given) => blind(alloc, &given, store),
     }
 }
 
@@ -64,6 +66,9 @@ fn carry_out<'a, S: Store, L: Links, G: Gate + Sync, R: Threads + Sync>(
 ///   frames that the node makes of them. At the source IN is the path of the file that is sent.
 /// - `sink CODE PATTERN SINK IN DST` reads `IN.<link>` for each link that the sink's decoder wants, and writes to DST what it
 ///   decodes of them.
+/// - `blind CODE SRC PREFIX LINK`, with any number of links, reads a code file, accepted or not, and where these links fail makes
+///   `PREFIX.<sink>` for each sink whose vectors have the rank of the code. It carries the file at SRC as headed frames of the
+///   code and writes to each what the sink decodes by their vectors, and says the rank of each sink.
 ///
 /// The jobs of certificates, of a compilation, of a check and of the sinks that decode enter the gate.
 pub fn lif<S: Store, C: Sink, L: Links, G: Gate + Sync, R: Threads + Sync>(

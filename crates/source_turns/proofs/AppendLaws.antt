@@ -1,5 +1,5 @@
 -- Turns that append to some paths alone, and turns of which the first are others.
-use Rattle.std.specs.Prelude.{◌≡◌, ◌<◌, ◌≤◌, ◌+◌, ℕ, false, if◌then◌else◌, List, [], ◌∷◌, ◌++◌, Contains, drop, map, take}
+use Rattle.std.specs.Prelude.{◌≡◌, ◌<◌, ◌≤◌, ◌+◌, ℕ, false, if◌then◌else◌, List, [], ◌∷◌, ◌++◌, Contains, drop, map, take, OnErr, OnOk, Result, Ok, Err}
 use Rattle.std.specs.List.{concat, range_with_len}
 use Rattle.std.specs.Str.{bytes_eq}
 use Rattle.std.proofs.Common.{refl, sym, ap, subst, ◌∙◌, arith, ⊎_elim}
@@ -9,13 +9,19 @@ use Rattle.std.proofs.lemmas.List.FromFn.{map-range_with_len_more, take-map-rang
 use Rattle.std.proofs.lemmas.Slice.Eq.{bytes_eq-Decides}
 use Rattle.item_list.proofs.Maps.{same_made}
 use Rattle.lif_outside.proofs.FileCallLaws.{appends-append, bytes_appended-append}
-use Rattle.lif_outside.proofs.SequenceLaws.{stops_behind, stops_first}
+use Rattle.lif_outside.proofs.SequenceLaws.{stops_behind, stops_first, stops_here}
 use Rattle.lif_outside.proofs.TurnLaws.{appends_of-append, behind_there, first_there, there_cases}
 use Rattle.lif_outside.specs.AccountLaws.{contains_none}
-use Rattle.lif_outside.specs.Events.{Event, appended}
+use Rattle.lif_outside.specs.Events.{Event, appended, append_event, append_failed}
 use Rattle.lif_outside.specs.FileCalls.{AreAppendsTo, StopsWithin, Written, appends_of, bytes_appended}
-use Rattle.lif_outside.specs.Files.{AreDistinct}
-use Rattle.lif_outside.specs.Sequences.{IsFrontOf}
+use Rattle.lif_outside.specs.Files.{AreDistinct, Files, Holds}
+use Rattle.lif_outside.specs.Sequences.{IsFrontOf, Are}
+use Rattle.std.proofs.lemmas.List.Elements.{All-contains}
+use Rattle.lif_outside.proofs.CallLaws.{calls_of}
+use Rattle.lif_outside.specs.Calls.{ByCalls}
+use Rattle.lif_outside.specs.Writes.{WritesFiles}
+use Rattle.lif_outside.specs.declared.Failed.{Failed}
+use Rattle.command_steps.specs.Filling.{files_by}
 
 -- the append of a part, and those of the parts of one turn
 abbrev pub part_call : Written → Event
@@ -92,6 +98,13 @@ turns-add place turn bytes each (x ∷ xs) =
     let rest = appends_of (map turn xs) in
     bytes_appended-append place (map part_call (turn x)) rest ∙ ap (λ first. first ++ bytes_appended place rest) (each x) ∙ ap (λ later. bytes x ++ later) (turns-add place turn bytes each xs)
 
+-- each path holds what turns add there
+pub held_by : (paths : List (List ℕ)) (turns : List (List Written)) (old new : Files) → WritesFiles (files_by paths turns) old new → (path : List ℕ) → Contains paths path
+    → Holds (bytes_appended path (appends_of turns)) (new path)
+held_by paths turns old new written path there =
+    let file : List ℕ → Written = λ path. (path, bytes_appended path (appends_of turns)) in
+    All-contains (λ (file : Written). Holds file.1 (new file.0)) (map file paths) (file path) written.these (made_there file paths path there)
+
 -- ---- turns one by one
 
 module _ (turn : ℕ → List Written) where
@@ -111,3 +124,17 @@ module _ (turn : ℕ → List Written) where
       let whole : appends_of (turns all) ≡ (front ++ appends_of (turn count ∷ [])) ++ next.0 = next.1 ∙ ap (λ these. these ++ next.0) (sym (turns_more count)) in
       subst (λ these. StopsWithin these (front ++ events)) (sym whole)
       (stops_first (front ++ appends_of (turn count ∷ [])) next.0 (front ++ events) (stops_behind front (appends_of (turn count ∷ [])) events stop))
+
+-- ---- what a call of one append makes of a turn
+
+-- an append, by its answer: all that is due, or where it stops
+module _ {S : Type 0} (calls : List Event → S → S → Type 0) (a b : S) (path bytes : List ℕ) (due : List Event) (is : due ≡ appended path bytes ∷ []) where
+  pub append_done : (result : Result Unit Failed) → calls (append_event path bytes result ∷ []) a b → OnOk result (ByCalls calls a b (Are due))
+  append_done (Ok done) lead = calls_of (Are due) (appended path bytes ∷ []) lead (sym is)
+  append_done (Err why) lead = tt
+
+  pub append_stopped : (result : Result Unit Failed) → calls (append_event path bytes result ∷ []) a b → OnErr result (ByCalls calls a b (StopsWithin due))
+  append_stopped (Ok done) lead = tt
+  append_stopped (Err why) lead =
+      calls_of (StopsWithin due) (append_failed path bytes ∷ []) lead
+      (subst (λ due. StopsWithin due (append_failed path bytes ∷ [])) (sym is) (stops_here (appended path bytes) []))

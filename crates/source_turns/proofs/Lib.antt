@@ -2,3 +2,4 @@ pub mod AppendLaws
 pub mod CreateLaws
 pub mod FedLaws
 pub mod RunLaws
+pub mod PieceLaws

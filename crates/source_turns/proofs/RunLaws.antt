@@ -19,14 +19,16 @@ use Rattle.source_turns.proofs.AppendLaws.{TurnAppends, turns_append, turns_fron
 use Rattle.source_turns.proofs.FedLaws.{fills_weaker, piece_front, streams_alike}
 use Rattle.source_turns.specs.Feeding.{Feeds, outcome_by}
 use Rattle.source_turns.specs.Turns.{Job, blocks_by, feed_brought, feed_turns, size_of}
+use Rattle.source_turns.specs.declared.feeding.Fed.{Fed}
 use Rattle.source_turns.specs.declared.feeding.FeedFault.{FeedFault}
 use Rattle.source_turns.specs.declared.feeding.FeedFault.TheVariants as fault
 use Rattle.top_base.specs.declared.outcome.Outcome.{Outcome}
 use Rattle.top_base.specs.declared.status.Status.TheVariants.{Done}
 
 -- the outcome of a source that is fed: it is done, with the line of the source, or is that of a fault
-abbrev pub Ends : Job → (List ℕ → List ℕ) → Result ℕ FeedFault → Outcome → Type 0
-Ends job line (Ok generations) outcome = (outcome.status ≡ Done) × ((source : List ℕ) → generations ≡ block_count source job.rate → outcome.line ≡ line source)
+abbrev pub Ends : Job → (List ℕ → List ℕ) → Result Fed FeedFault → Outcome → Type 0
+Ends job line (Ok fed) outcome =
+    (outcome.status ≡ Done) × ((source : List ℕ) → fed.bytes ≡ length source → fed.generations ≡ block_count source job.rate → outcome.line ≡ line source)
 Ends job line (Err why) outcome = outcome ≡ outcome_by why
 
 module _ (job : Job) where
@@ -74,10 +76,10 @@ module _ (job : Job) (path : List ℕ) (limit : ℕ) (turns : Bool → List ℕ 
   by_fault fault.TooLong calls fills = (refl, told _ _ calls fills)
   by_fault fault.Write calls fills = (refl, stops _ _ calls fills)
 
-  pub runs_feeding : (result : Result ℕ FeedFault) (outcome : Outcome) (calls : List Event) → Ends job line result outcome → Feeds job path limit result calls → Runs outcome calls
-  runs_feeding (Ok generations) outcome calls ends over =
+  pub runs_feeding : (result : Result Fed FeedFault) (outcome : Outcome) (calls : List Event) → Ends job line result outcome → Feeds job path limit result calls → Runs outcome calls
+  runs_feeding (Ok counted) outcome calls ends over =
       subst (λ status. RunsFeeding path limit job.paths turns line status outcome.line calls) (sym ends.0)
-      (record { source = over.0; line_is = ends.1 over.0 over.1; fed = told _ _ calls over.2 })
+      (record { source = over.0; line_is = ends.1 over.0 over.1 over.2; fed = told _ _ calls over.3 })
   runs_feeding (Err why) outcome calls ends fills = subst (λ outcome. Runs outcome calls) (sym ends) (by_fault why calls fills)
 
   -- it is a step: where the paths are distinct and none is the source's, and where each turn appends to them alone

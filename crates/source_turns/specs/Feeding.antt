@@ -7,6 +7,7 @@ use Rattle.lif_outside.specs.FileCalls.{ReadsPastLimit, ReadsToFault, ReadsWhole
 use Rattle.lif_outside.specs.Sequences.{Are, IsFrontOf}
 use Rattle.lif_outside.specs.Streams.{Streams}
 use Rattle.source_turns.specs.Turns.{Job, feed_brought}
+use Rattle.source_turns.specs.declared.feeding.Fed.{Fed}
 use Rattle.source_turns.specs.declared.feeding.FeedFault.{FeedFault}
 use Rattle.source_turns.specs.declared.feeding.FeedFault.TheVariants as fault
 use Rattle.top_base.specs.Inputs.{ReadsAny}
@@ -20,9 +21,9 @@ pub record IsLeft (size blocks : ℕ) (bytes left : List ℕ) : Type 0 where
   pub left_is : left ≡ drop (blocks * size) bytes
 
 -- The calls of a source that is fed, by how it ended.
-abbrev pub Feeds : Job → List ℕ → ℕ → Result ℕ FeedFault → List Event → Type 0
-Feeds job path limit (Ok generations) calls =
-    (source : List ℕ) × (generations ≡ block_count source job.rate)
+abbrev pub Feeds : Job → List ℕ → ℕ → Result Fed FeedFault → List Event → Type 0
+Feeds job path limit (Ok fed) calls =
+    (source : List ℕ) × (fed.bytes ≡ length source) × (fed.generations ≡ block_count source job.rate)
     × Fills job.paths (Streams (feed_brought job) (ReadsWhole path limit source) Are) calls
 Feeds job path limit (Err fault.Read) calls = Fills job.paths (Streams (feed_brought job) (ReadsToFault path limit) IsFrontOf) calls
 Feeds job path limit (Err fault.TooLong) calls = Fills job.paths (Streams (feed_brought job) (ReadsPastLimit path limit) IsFrontOf) calls

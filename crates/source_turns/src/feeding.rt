@@ -17,6 +17,15 @@ use top_base::{FileRefusal, Outcome, read_next};
 /// How many bytes are asked for at a time, but for whole blocks.
 const CHUNK: usize = 65536;
 
+/// How much a source was that was fed to its end.
+#[derive(Clone, Copy, Debug, PartialEq, Eq)]
+pub struct Fed {
+    /// Its bytes.
+    pub bytes: u64,
+    /// The generations that they are.
+    pub generations: u64,
+}
+
 /// Why a source wasn't fed to its end.
 #[derive(Clone, Copy, Debug, PartialEq, Eq)]
 pub enum FeedFault {
@@ -207,16 +216,16 @@ impl<T: BlockTurns + Drop> Feeding<T> {
     }
 
     /// Creates the files, and fills them while it reads the source of a path from its start, of at most `limit` bytes; tells how
-    /// many generations there were. It takes no memory.
+    /// much there was. It takes no memory.
     pub fn feed<S: Store>(
         &mut self,
         store: &mut S,
         path: &str,
         limit: u64,
-    ) -> Result<u64, FeedFault>
+    ) -> Result<Fed, FeedFault>
         requires limit { limit < last_place }
         ensures still { T.job self.new.turns ≡ T.job self.old.turns }
-        ensures few { IfOk result (λ generations. generations ≤ 2 ^ 32) }
+        ensures few { IfOk result (λ fed. fed.generations ≤ 2 ^ 32) }
         ensures calls { MakesCalls S.Store store.old store.new
             (Feeds (T.job self.old.turns) path.now limit result) }
     {
@@ -231,7 +240,10 @@ impl<T: BlockTurns + Drop> Feeding<T> {
             };
             if count == 0 {
                 self.send_last(store)?;
-                return Ok(u64::from(self.next));
+                return Ok(Fed {
+                    bytes: at,
+                    generations: u64::from(self.next),
+                });
             }
             at += count as u64;
             self.filled += count;

@@ -12,5 +12,5 @@ mod feeding;
 mod turns;
 
 pub use creating::create_each;
-pub use feeding::{FeedFault, Feeding};
+pub use feeding::{Fed, FeedFault, Feeding};
 pub use turns::BlockTurns;

@@ -1,6 +1,6 @@
 //! The codes of files, and their checks.
 use code_checker::{CheckRefusal, Checked, check};
-use code_file::{CODE_LIMIT, CodeRefusal, read_code};
+use code_file::{CODE_LIMIT, CodeRefusal, Draft, read_code, read_draft};
 use lif_outside::NoGate;
 use node_program::Code;
 use std::alloc::Global;
@@ -12,6 +12,14 @@ pub fn code_of(alloc: Global, file: &[u8]) -> Result<Code, CodeRefusal> {
         return Err(CodeRefusal::OutOfMemory);
     }
     read_code(alloc, file)
+}
+
+/// The draft of a file. One that is longer than such files may be counts as one for which there was no memory.
+pub fn draft_of(alloc: Global, file: &[u8]) -> Result<Draft, CodeRefusal> {
+    if file.len() > CODE_LIMIT {
+        return Err(CodeRefusal::OutOfMemory);
+    }
+    read_draft(alloc, file)
 }
 
 // The check of a code, without the code where it is refused.

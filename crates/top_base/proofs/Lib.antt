@@ -10,6 +10,7 @@ pub mod NamedLaws
 pub mod NetworkLaws
 pub mod PathLaws
 pub mod OutputLaws
+pub mod SinkPathLaws
 pub mod PerformingLaws
 pub mod MigrationLaws
 pub mod SameCode

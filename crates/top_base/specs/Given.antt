@@ -1,5 +1,7 @@
 -- The commands that words were read as.
-use Rattle.top_base.specs.Words.{AtNode, Compile, Demo, Migrate, Send, Command as Form, check, compile, cuts, demo, migrate, order, relay, send, sink}
+use Rattle.std.specs.Prelude.{map, string_bytes}
+use Rattle.top_base.specs.Words.{AtNode, Blind, Compile, Demo, Migrate, Send, Command as Form, blind, check, compile, cuts, demo, migrate, order, relay, send, sink}
+use Rattle.top_base.specs.declared.words.BlindWords.{BlindWords}
 use Rattle.top_base.specs.declared.words.CompileWords.{CompileWords}
 use Rattle.top_base.specs.declared.demo_words.DemoWords.{DemoWords}
 use Rattle.top_base.specs.declared.words.MigrateWords.{MigrateWords}
@@ -24,6 +26,10 @@ given_in words = record { code = words.code.now; pattern = words.pattern.now; se
 abbrev pub node_given_in : NodeWords → AtNode
 node_given_in words = record { code = words.code.now; pattern = words.pattern.now; node = words.node.now; input = words.input.now; output = words.output.now }
 
+-- what a command `blind` is given, by its words
+abbrev pub blind_given_in : BlindWords → Blind
+blind_given_in words = record { code = words.code.now; source = words.source.now; prefix = words.prefix.now; links = map string_bytes words.links.now }
+
 -- what a command `demo` is given, by its words
 abbrev pub demo_given_in : DemoWords → Demo
 demo_given_in words = record { n = words.n; k = words.k; bytes = words.bytes }
@@ -38,3 +44,4 @@ command_in (read.Demo words) = demo (demo_given_in words)
 command_in (read.Migrate words) = migrate (migrate_given_in words)
 command_in (read.Relay words) = relay (node_given_in words)
 command_in (read.Sink words) = sink (node_given_in words)
+command_in (read.Blind words) = blind (blind_given_in words)

@@ -1,5 +1,5 @@
 -- The lines said.
-use Rattle.std.specs.Prelude.{ℕ, Bool, List, [], ◌∷◌, ◌++◌, codes, decimal, length, map, unwrap_or, slice_get}
+use Rattle.std.specs.Prelude.{◌==◌, ℕ, Bool, if◌then◌else◌, List, [], ◌∷◌, ◌++◌, codes, decimal, length, map, unwrap_or, slice_get}
 use Rattle.std.specs.Option.{option_map_or}
 use Rattle.code_file.specs.declared.CodeRefusal.{CodeRefusal}
 use Rattle.code_file.specs.RefusalNames as code
@@ -8,7 +8,7 @@ use Rattle.gf_tables.specs.declared.kind.FieldKind.{FieldKind}
 use Rattle.failure_patterns.specs.Demands.{demand_of}
 use Rattle.generation_frame.specs.declared.stream_why.StreamWhy.{StreamWhy}
 use Rattle.generation_frame.specs.declared.stream_why.StreamWhy.TheVariants as stream
-use Rattle.name_texts.specs.Names.{demand_text, link_name, links_text, on_lines, side_text}
+use Rattle.name_texts.specs.Names.{demand_text, link_name, links_text, node_name, on_lines, side_text}
 use Rattle.net_model.specs.Demands.{demand_count}
 use Rattle.net_model.specs.declared.net.Net.{Net}
 use Rattle.net_reader.specs.Text.{link_names_of, node_names_of}
@@ -20,7 +20,7 @@ use Rattle.node_program.specs.declared.code.Code.{Code}
 use Rattle.top_base.specs.Words.{Demo}
 
 abbrev pub usage_line : List ℕ
-usage_line = codes "usage: lif order NET | cuts NET | compile NET CODE REPORT | check CODE | send CODE PATTERN SEED SRC PREFIX | demo N K BYTES | migrate OLD NEW | relay CODE PATTERN NODE IN OUT | sink CODE PATTERN SINK IN DST\n"
+usage_line = codes "usage: lif order NET | cuts NET | compile NET CODE REPORT | check CODE | send CODE PATTERN SEED SRC PREFIX | demo N K BYTES | migrate OLD NEW | relay CODE PATTERN NODE IN OUT | sink CODE PATTERN SINK IN DST | blind CODE SRC PREFIX LINK\n"
 
 abbrev pub read_fault_line : List ℕ
 read_fault_line = codes "read fault\n"
@@ -105,6 +105,10 @@ unknown_pattern_line word = codes "unknown pattern: " ++ word ++ codes "\n"
 abbrev pub unknown_node_line : List ℕ → List ℕ
 unknown_node_line word = codes "unknown node: " ++ word ++ codes "\n"
 
+-- no link has the name that is a word
+abbrev pub unknown_link_line : List ℕ → List ℕ
+unknown_link_line word = codes "unknown link: " ++ word ++ codes "\n"
+
 -- why a file isn't a stream of a link: a name, and its numbers
 abbrev pub stream_why_text : StreamWhy → List ℕ
 stream_why_text (stream.BadLength bytes) = codes "BadLength " ++ decimal bytes
@@ -142,6 +146,11 @@ compiled_line rate field demands = codes "compiled " ++ rate_text rate field dem
 -- the line of a code that was written anew
 abbrev pub migrated_line : Code → List ℕ
 migrated_line code = codes "migrated " ++ code_text code
+
+-- the rank of a sink where links fail, and whether that is all of a rate
+abbrev pub rank_line : Net → ℕ → ℕ → ℕ → List ℕ
+rank_line net rate sink rank =
+    node_name net sink ++ codes " rank " ++ decimal rank ++ (if rank == rate then codes " whole\n" else codes "\n")
 
 -- the line of a source that was sent
 abbrev pub sent_line : ℕ → ℕ → ℕ → List ℕ

@@ -4,9 +4,12 @@ use Rattle.std.specs.Option.{option_and_then}
 use Rattle.std.specs.Str.{bytes_eq}
 use Rattle.net_model.specs.declared.net.Net.{Net}
 
--- the number of the pattern of a name, and of the node
+-- the number of the pattern of a name, of the link and of the node
 abbrev pub pattern_named : Net → List ℕ → Option ℕ
 pattern_named net name = position (λ pattern. bytes_eq pattern.name name) net.patterns
+
+abbrev pub link_named : Net → List ℕ → Option ℕ
+link_named net name = position (λ link. bytes_eq link.name name) net.links
 
 abbrev pub node_named : Net → List ℕ → Option ℕ
 node_named net name = position (λ node. bytes_eq node name) net.nodes

@@ -24,6 +24,13 @@ pub record AtNode : Type 0 where
   pub input : List ℕ
   pub output : List ℕ
 
+-- what a command `blind` is given: a code, a source, what the paths of the sinks' files begin with, and the links that fail
+pub record Blind : Type 0 where
+  pub code : List ℕ
+  pub source : List ℕ
+  pub prefix : List ℕ
+  pub links : List (List ℕ)
+
 -- what a command `send` is given
 pub record Send : Type 0 where
   pub code : List ℕ
@@ -57,6 +64,7 @@ pub data Command : Type 0 where
   migrate : (given : Migrate) → Command
   relay : (given : AtNode) → Command
   sink : (given : AtNode) → Command
+  blind : (given : Blind) → Command
 
 -- `order NET`
 abbrev pub order_of : List (List ℕ) → Option Command
@@ -111,6 +119,12 @@ sink_of (code ∷ pattern ∷ node ∷ input ∷ output ∷ []) =
     Some (sink (record { code = code; pattern = pattern; node = node; input = input; output = output }))
 sink_of _ = None
 
+-- `blind CODE SRC PREFIX LINK`, with any number of links
+abbrev pub blind_of : List (List ℕ) → Option Command
+blind_of (code ∷ source ∷ prefix ∷ links) =
+    Some (blind (record { code = code; source = source; prefix = prefix; links = links }))
+blind_of _ = None
+
 -- the command that words are
 abbrev pub command_of : List (List ℕ) → Option Command
 command_of [] = None
@@ -124,4 +138,5 @@ command_of (name ∷ given) =
     else if bytes_eq name (codes "migrate") then migrate_of given
     else if bytes_eq name (codes "relay") then relay_of given
     else if bytes_eq name (codes "sink") then sink_of given
+    else if bytes_eq name (codes "blind") then blind_of given
     else None

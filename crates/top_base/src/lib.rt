@@ -14,6 +14,7 @@ mod long_texts;
 mod named;
 mod networks;
 mod outcome;
+mod paths;
 mod reading;
 mod status;
 mod text;
@@ -23,12 +24,14 @@ pub use accepting::read_accepted;
 pub use code_files::read_file_of_code;
 pub use demo_words::DemoWords;
 pub use lines::Line;
-pub use long_texts::{order_text, rate_unmet_line, zero_rate_line};
-pub use named::{dotted_path, node_named, pattern_named, sink_named};
+pub use long_texts::{order_text, push_rank, rate_unmet_line, zero_rate_line};
+pub use named::{dotted_path, link_named, node_named, pattern_named, sink_named};
 pub use networks::{Ordered, read_ordered};
 pub use outcome::{Outcome, conclude};
+pub use paths::{output_paths, shared_path};
 pub use reading::{FileRefusal, read_next, read_whole};
 pub use status::{NetWhy, Status};
+pub use text::ROOM as LINE_ROOM;
 pub use words::{
-    Command, CompileWords, MigrateWords, NodeWords, SOURCE_LIMIT, SendWords, command_of,
+    BlindWords, Command, CompileWords, MigrateWords, NodeWords, SOURCE_LIMIT, SendWords, command_of,
 };

@@ -1,12 +1,12 @@
 //! The lines that are said.
-ghost use Rattle.std.specs.Prelude.{◌≡◌, ◌<◌, ◌≤◌, ◌+◌, ◌++◌, ◌∷◌, [], IfSome, IfNone, codes, decimal, length};
+ghost use Rattle.std.specs.Prelude.{◌≡◌, ◌<◌, ◌≤◌, ◌+◌, ◌++◌, ◌∷◌, [], IfSome, IfNone, codes, decimal, length, vec_capacity, vec_len};
 ghost use Rattle.std.specs.Option.{option_map_or};
 ghost use Rattle.failure_patterns.specs.Demands.{demand_of};
 ghost use Rattle.name_texts.specs.Names.{demand_text};
 ghost use Rattle.net_model.specs.Demands.{demand_count};
 ghost use Rattle.net_model.specs.Limits.{longest_name};
 ghost use Rattle.top_base.specs.Given.{demo_given_in};
-ghost use Rattle.top_base.specs.Lines.{accepted_line, check_failed_line, code_refused_line, code_text, compiled_line, demo_lines, detail_text, link_fault_line, migrated_line, net_refused_line, out_of_memory_line, rate_over_line, received_line, relayed_line, stream_refused_line, stream_why_text, bad_blocks_line, unknown_node_line, read_fault_line, same_path_line, sent_line, too_long_line, too_many_demands_line, unknown_pattern_line, usage_line, write_fault_line};
+ghost use Rattle.top_base.specs.Lines.{accepted_line, check_failed_line, code_refused_line, code_text, compiled_line, demo_lines, detail_text, link_fault_line, migrated_line, net_refused_line, out_of_memory_line, rate_over_line, received_line, relayed_line, stream_refused_line, stream_why_text, bad_blocks_line, unknown_link_line, unknown_node_line, read_fault_line, same_path_line, sent_line, too_long_line, too_many_demands_line, unknown_pattern_line, usage_line, write_fault_line};
 
 use crate::demo_words::DemoWords;
 use crate::text::{ROOM, ShortText, Text};
@@ -146,6 +146,20 @@ fn push_demand(text: &mut ShortText, net: &Net, demand: u32)
     push(text, pattern_name(net, pattern as usize));
 }
 
+// What was sent.
+fn sent_text(bytes: u64, generations: u64, sinks: u64) -> ShortText
+    ensures { result.items ≡ sent_line bytes generations sinks }
+{
+    let mut text = begin(b"sent ");
+    push_number(&mut text, bytes);
+    push(&mut text, b" bytes in ");
+    push_number(&mut text, generations);
+    push(&mut text, b" generations to ");
+    push_number(&mut text, sinks);
+    push(&mut text, b" sinks\n");
+    text
+}
+
 impl<'a> Line<'a> {
     // A line that is this text.
     fn of(text: ShortText) -> Line<'a>
@@ -196,7 +210,7 @@ impl<'a> Line<'a> {
         ensures { result ≡ usage_line }
     {
         Line::of(begin(
-            b"usage: lif order NET | cuts NET | compile NET CODE REPORT | check CODE | send CODE PATTERN SEED SRC PREFIX | demo N K BYTES | migrate OLD NEW | relay CODE PATTERN NODE IN OUT | sink CODE PATTERN SINK IN DST\n",
+            b"usage: lif order NET | cuts NET | compile NET CODE REPORT | check CODE | send CODE PATTERN SEED SRC PREFIX | demo N K BYTES | migrate OLD NEW | relay CODE PATTERN NODE IN OUT | sink CODE PATTERN SINK IN DST | blind CODE SRC PREFIX LINK\n",
         ))
     }
 
@@ -320,6 +334,13 @@ impl<'a> Line<'a> {
         Line::quoting(b"unknown node: ", word)
     }
 
+    /// No link has this name.
+    pub fn unknown_link(word: &'a str) -> Line<'a>
+        ensures { result ≡ unknown_link_line word.now }
+    {
+        Line::quoting(b"unknown link: ", word)
+    }
+
     /// The file of a link is refused as a stream of it.
     pub fn stream_refused(net: &Net, link: u32, why: StreamWhy) -> Line<'a>
         requires { link < length net.now.links }
@@ -419,14 +440,18 @@ impl<'a> Line<'a> {
     pub fn sent(bytes: u64, generations: u64, sinks: u64) -> Line<'a>
         ensures { result ≡ sent_line bytes generations sinks }
     {
-        let mut text = begin(b"sent ");
-        push_number(&mut text, bytes);
-        push(&mut text, b" bytes in ");
-        push_number(&mut text, generations);
-        push(&mut text, b" generations to ");
-        push_number(&mut text, sinks);
-        push(&mut text, b" sinks\n");
-        Line::of(text)
+        Line::of(sent_text(bytes, generations, sinks))
+    }
+
+    /// A source was sent, behind lines that have room for this one. It takes no memory.
+    pub fn sent_behind(lines: Vec<u8>, bytes: u64, generations: u64, sinks: u64) -> Line<'a>
+        requires { vec_len lines + ROOM ≤ vec_capacity lines }
+        ensures { result ≡ lines.items ++ sent_line bytes generations sinks }
+    {
+        let mut lines = lines;
+        let text = sent_text(bytes, generations, sinks);
+        let _ = lines.extend_from_slice(text.as_slice());
+        Line::long(lines)
     }
 
     /// A source went through the code of a combination network: in so many generations, by so many frames, and this is the

@@ -1,18 +1,41 @@
 //! Lines of many names, in memory that is taken once.
-ghost use Rattle.std.specs.Prelude.{◌≡◌, ◌<◌, All, IfOk, length};
+ghost use Rattle.std.specs.Prelude.{◌≡◌, ◌<◌, ◌++◌, All, IfOk, OnOk, length};
 ghost use Rattle.net_model.specs.Demands.{demand_count};
-ghost use Rattle.top_base.specs.Lines.{cycle_line, order_text, rate_unmet_line, zero_rate_line};
+ghost use Rattle.top_base.specs.Lines.{cycle_line, order_text, rank_line, rate_unmet_line, zero_rate_line};
 
 use crate::lines::Line;
 use failure_patterns::demand_at;
 use itoa::Buffer;
-use name_texts::{NAME_ROOM, push_demand, push_lines, push_links, push_side};
+use name_texts::{NAME_ROOM, node_name, push_demand, push_lines, push_links, push_side};
 use net_model::Net;
 use std::alloc::{AllocError, Global};
 
 // Room for so many names and the words of a line.
 fn room_for(names: usize) -> usize {
     names.saturating_mul(NAME_ROOM).saturating_add(32)
+}
+
+/// Adds the line of a sink's rank where links fail, by its node.
+pub fn push_rank(
+    lines: &mut Vec<u8>,
+    net: &Net,
+    rate: u32,
+    sink: u32,
+    rank: u32,
+) -> Result<(), AllocError>
+    requires { sink < length net.now.nodes }
+    ensures { OnOk result (lines.new.items
+        ≡ lines.old.items ++ rank_line net.now rate sink rank) }
+{
+    let mut digits = Buffer::new();
+    lines.extend_from_slice(node_name(net, sink as usize))?;
+    lines.extend_from_slice(b" rank ")?;
+    lines.extend_from_slice(digits.format(rank).as_bytes())?;
+    if rank == rate {
+        lines.extend_from_slice(b" whole")?;
+    }
+    lines.push(b'\n')?;
+    Ok(())
 }
 
 /// The names of links in an order, one per line.

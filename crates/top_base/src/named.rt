@@ -1,7 +1,7 @@
 //! What the words of a call name of a network, and the paths of files that are named.
 ghost use Rattle.std.specs.Prelude.{◌≡◌, ◌==◌, IfOk, position, string_bytes};
 ghost use Rattle.net_model.specs.Name.{IsName};
-ghost use Rattle.top_base.specs.Named.{node_named, pattern_named, sink_named};
+ghost use Rattle.top_base.specs.Named.{link_named, node_named, pattern_named, sink_named};
 ghost use Rattle.top_base.specs.Paths.{dotted_path};
 
 use net_model::Net;
@@ -14,6 +14,18 @@ pub fn pattern_named(net: &Net, name: &[u8]) -> Option<u32>
     for pattern in 0..net.patterns.len() {
         if net.patterns.at(pattern).name.bytes() == name {
             return Some(pattern as u32);
+        }
+    }
+    None
+}
+
+/// The number of the link of a name, if there is one.
+pub fn link_named(net: &Net, name: &[u8]) -> Option<u32>
+    ensures { result ≡ link_named net.now name.now }
+{
+    for link in 0..net.links.len() {
+        if net.links.at(link).name.bytes() == name {
+            return Some(link as u32);
         }
     }
     None

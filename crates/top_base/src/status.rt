@@ -93,6 +93,8 @@ pub enum Status {
         /// How many bytes it counts.
         count: u64,
     },
+    /// No link of the code has the name.
+    UnknownLink,
 }
 
 impl Status {
@@ -123,6 +125,7 @@ impl Status {
             Status::StreamRefused { .. } => 17,
             Status::UnknownNode => 18,
             Status::BadBlocks { .. } => 19,
+            Status::UnknownLink => 20,
         }
     }
 }

@@ -1,7 +1,7 @@
 //! The words that the program is called with.
 ghost use Rattle.std.specs.Prelude.{◌≡◌, Some, map, string_bytes};
 ghost use Rattle.std.specs.Option.{option_map};
-ghost use Rattle.top_base.specs.Words.{check_of, command_of, compile_of, cuts_of, demo_of, demo_with, migrate_of, order_of, relay_of, send_of, sink_of};
+ghost use Rattle.top_base.specs.Words.{blind_of, check_of, command_of, compile_of, cuts_of, demo_of, demo_with, migrate_of, order_of, relay_of, send_of, sink_of};
 ghost use Rattle.top_base.specs.Given.{command_in};
 
 use crate::demo_words::{DEMO_LIMIT, DemoWords};
@@ -46,6 +46,19 @@ pub struct NodeWords<'a> {
     pub output: &'a str,
 }
 
+/// What a command `blind` is given.
+#[derive(Clone, Copy)]
+pub struct BlindWords<'a> {
+    /// The path of the code.
+    pub code: &'a str,
+    /// The path of the source.
+    pub source: &'a str,
+    /// What the paths of the sinks' files begin with.
+    pub prefix: &'a str,
+    /// The names of the links that fail.
+    pub links: &'a [String],
+}
+
 /// What a command `send` is given.
 #[derive(Clone, Copy)]
 pub struct SendWords<'a> {
@@ -82,6 +95,8 @@ pub enum Command<'a> {
     Relay(NodeWords<'a>),
     /// `sink CODE PATTERN SINK IN DST`.
     Sink(NodeWords<'a>),
+    /// `blind CODE SRC PREFIX LINK`, with any number of links.
+    Blind(BlindWords<'a>),
 }
 
 /// The command that the words are, if they are one.
@@ -101,6 +116,7 @@ pub fn command_of(words: &[String]) -> Option<Command<'_>>
         "migrate" => migrate_of(given),
         "relay" => relay_of(given),
         "sink" => sink_of(given),
+        "blind" => blind_of(given),
         _ => None,
     }
 }
@@ -235,5 +251,20 @@ fn sink_of(given: &[String]) -> Option<Command<'_>>
         node: node.as_str(),
         input: input.as_str(),
         output: output.as_str(),
+    }))
+}
+
+// `blind CODE SRC PREFIX LINK`, with any number of links.
+fn blind_of(given: &[String]) -> Option<Command<'_>>
+    ensures { option_map command_in result ≡ blind_of (map string_bytes given.now) }
+{
+    let [code, source, prefix, links @ ..] = given else {
+        return None;
+    };
+    Some(Command::Blind(BlindWords {
+        code: code.as_str(),
+        source: source.as_str(),
+        prefix: prefix.as_str(),
+        links,
     }))
 }

@@ -1,7 +1,6 @@
--- The blocks of a file: each counts what it has of the file, no count is wrong, and together they give the file back.
-use Rattle.std.specs.Prelude.{◌≡◌, ◌<◌, ◌≤◌, ◌+◌, ◌-◌, ◌*◌, ◌/◌, ◌^◌, ◌==◌, ℕ, false, true, if◌then◌else◌, nat_lt, not, List, [], ◌∷◌, ◌++◌, cond, drop, filter, length, map, min}
-use Rattle.std.specs.List.{concat, range_with_len}
-use Rattle.std.proofs.Common.{refl, sym, ap, ◌∙◌, arith, inl, inr}
+-- The blocks of a file: each counts what it has of the file, and no count is wrong.
+use Rattle.std.specs.Prelude.{◌≡◌, ◌<◌, ◌≤◌, ◌+◌, ◌-◌, ◌*◌, ◌/◌, ◌^◌, ◌==◌, ℕ, false, if◌then◌else◌, nat_lt, not, List, [], drop, length, min}
+use Rattle.std.proofs.Common.{ap, ◌∙◌, arith, inl, inr}
 use Rattle.std.proofs.Math.Nat.{add-mul, div-mul-le_self, lt-div-mul-add, mul-le-mul_right}
 use Rattle.std.proofs.lemmas.Bool.{cases_lt, eq-eqb, lt-ltb, ne_eqb}
 use Rattle.std.proofs.lemmas.List.{length-drop, length-take}
@@ -9,7 +8,7 @@ use Rattle.std.proofs.lemmas.List.FromFn.{get_or-map-range_with_len, length-map-
 use Rattle.std.proofs.lemmas.Nat.{from_be_bytes-to_be_bytes_4}
 use Rattle.coded_traffic.specs.Traffic.{Window, block_at}
 use Rattle.generation_frame.proofs.BlockLaws.{counted-block}
-use Rattle.generation_frame.proofs.PieceLaws.{concat-pieces_of, length-piece_of}
+use Rattle.generation_frame.proofs.PieceLaws.{length-piece_of}
 use Rattle.generation_frame.specs.Blocks.{block_count, block_of, blocks_of, capacity, count_of, counted_bytes, piece_of}
 use Rattle.net_model.specs.Limits.{highest_rate}
 use Rattle.top_nodes.specs.Sink.{is_bad}
@@ -26,15 +25,6 @@ block_at-file file rate generation below =
     let at : 0 + (generation - 0) ≡ generation = omega arith in
     get_or-map-range_with_len (λ number. block_of rate (piece_of file rate number)) 0 (block_count file rate) (generation - 0) generation [] (omega arith) at
 
--- lists without bytes may be left out
-some-concat : (lists : List (List ℕ)) → concat (filter (λ bytes. nat_lt 0 (length bytes)) lists) ≡ concat lists
-some-concat [] = refl
-some-concat ([] ∷ lists) = some-concat lists
-some-concat ((byte ∷ bytes) ∷ lists) =
-    let some : nat_lt 0 (length (byte ∷ bytes)) ≡ true = grind arith in
-    let rest = filter (λ bytes. nat_lt 0 (length bytes)) lists in
-    ap (λ test. concat (cond test ((byte ∷ bytes) ∷ rest) rest)) some ∙ ap (λ later. (byte ∷ bytes) ++ later) (some-concat lists)
-
 module _ (file : List ℕ) (rate : ℕ) (some : 1 ≤ rate) (low : rate ≤ highest_rate) where
   -- a block's piece, its count and its bytes
   abbrev piece : ℕ → List ℕ
@@ -48,10 +38,6 @@ module _ (file : List ℕ) (rate : ℕ) (some : 1 ≤ rate) (low : rate ≤ high
 
   pub counted-file : (generation : ℕ) → counted_bytes (block_of rate (piece generation)) ≡ piece generation
   counted-file generation = counted-block rate (piece generation) (fits generation)
-
-  -- all pieces are the file
-  pub pieces-file : concat (map piece (range_with_len 0 (block_count file rate))) ≡ file
-  pieces-file = sym (some-concat (map piece (range_with_len 0 (block_count file rate)))) ∙ concat-pieces_of file rate some
 
   -- ---- their lengths
 

@@ -1,6 +1,5 @@
 pub mod StreamsLaws
 pub mod BlocksLaws
-pub mod ChainedLaws
 pub mod SinkChained
 pub mod RelayChained
 pub mod DeclinedLaws

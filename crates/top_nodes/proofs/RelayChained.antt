@@ -9,6 +9,8 @@ use Rattle.command_steps.proofs.HeldLaws.{AreHeld, each_changes, each_owed, held
 use Rattle.command_steps.specs.Feeding.{ChangesFeeding, FeedsFiles}
 use Rattle.command_steps.specs.Filling.{ChangesFilling, files_by, fills}
 use Rattle.command_steps.specs.Steps.{OwedBy}
+use Rattle.command_steps.proofs.RefusalLaws.{or_changes, or_owed}
+use Rattle.command_steps.proofs.DoneLaws.{done_outcome, left_told, owed_comes}
 use Rattle.generation_frame.specs.Blocks.{block_count, blocks_of, pieces}
 use Rattle.generation_frame.specs.Frames.{frame_of}
 use Rattle.item_list.proofs.Maps.{same_made}
@@ -41,9 +43,8 @@ use Rattle.top_base.specs.Words.{AtNode, demo_limit}
 use Rattle.top_base.specs.declared.outcome.Outcome.{Outcome}
 use Rattle.top_base.specs.declared.status.Status.{Status}
 use Rattle.top_base.specs.declared.status.Status.TheVariants.{Done}
-use Rattle.source_turns.proofs.AppendLaws.{made_there, part-added, turns-add}
+use Rattle.source_turns.proofs.AppendLaws.{made_there, part-added, turns-add, held_by}
 use Rattle.top_nodes.proofs.BlocksLaws.{block_at-file, file_window, length-file_window}
-use Rattle.top_nodes.proofs.ChainedLaws.{done_outcome, left_told, or_changes, or_owed, owed_comes}
 use Rattle.top_nodes.proofs.DeclinedLaws.{declined_clear}
 use Rattle.top_nodes.proofs.StreamsLaws.{HasCount, generations-count, none_lacking, streams_bring, streams_count, streams_held, streams_links, streams_read}
 use Rattle.top_nodes.specs.Chained.{AreStreams, IsNodeGiven, NodeRelays}
@@ -58,13 +59,6 @@ use Rattle.top_nodes.specs.Sink.{pattern_in}
 joined : (f : ℕ → List ℕ) (numbers : List ℕ) → flat_map f numbers ≡ concat (map f numbers)
 joined f [] = refl
 joined f (number ∷ numbers) = ap (λ rest. f number ++ rest) (joined f numbers)
-
--- each path holds what turns add there
-held_by : (paths : List (List ℕ)) (turns : List (List Written)) (old new : Files) → WritesFiles (files_by paths turns) old new → (path : List ℕ) → Contains paths path
-    → Holds (bytes_appended path (appends_of turns)) (new path)
-held_by paths turns old new written path there =
-    let file : List ℕ → Written = λ path. (path, bytes_appended path (appends_of turns)) in
-    All-contains (λ (file : Written). Holds file.1 (new file.0)) (map file paths) (file path) written.these (made_there file paths path there)
 
 module _ (given : AtNode) (code : Code) (window : Window) (files : Files) (is : IsNodeGiven given code window files) where
   abbrev pattern : ℕ

@@ -10,6 +10,7 @@ use Rattle.command_steps.proofs.FillingLaws.{fills_step}
 use Rattle.command_steps.proofs.ListedLaws.{reads_each_step}
 use Rattle.command_steps.proofs.StepLaws.{IsStep, reads_then_step, step_known}
 use Rattle.command_steps.specs.Filling.{fills}
+use Rattle.command_steps.proofs.RefusalLaws.{or_refuses_step}
 use Rattle.generation_frame.specs.Blocks.{block_count, block_of}
 use Rattle.lif_outside.specs.Calls.{Calls}
 use Rattle.lif_outside.specs.FileCalls.{AreAppendsTo, appends_of}
@@ -28,7 +29,7 @@ use Rattle.top_base.specs.declared.outcome.Outcome.{Outcome}
 use Rattle.top_base.specs.declared.status.Status.TheVariants.{Usage}
 use Rattle.source_turns.proofs.AppendLaws.{TurnAppends, parts_append, turns_append}
 use Rattle.source_turns.proofs.RunLaws.{feeding_step}
-use Rattle.top_nodes.proofs.DeclinedLaws.{declined_clear, declined_refuses, or_refuses_step}
+use Rattle.top_nodes.proofs.DeclinedLaws.{declined_clear, declined_refuses}
 use Rattle.top_nodes.proofs.SourcingLaws.{job_in, parts_within, turns_in}
 use Rattle.top_nodes.proofs.WantedLaws.{lacking_refuses, streams_refuse}
 use Rattle.top_nodes.specs.Declined.{declined}

@@ -5,6 +5,7 @@ use Rattle.std.proofs.Common.{refl, sym, ap, subst, ◌∙◌, arith, inl, inr}
 use Rattle.command_steps.proofs.ListedLaws.{reads_each_had, reads_each_lost}
 use Rattle.command_steps.specs.Filling.{Fills, RunsFilling, StopsFilling, fills}
 use Rattle.command_steps.specs.Steps.{RunsOrForgets}
+use Rattle.command_steps.proofs.RefusalLaws.{or_refuses_none, or_refuses_some}
 use Rattle.item_list.proofs.Maps.{same_made}
 use Rattle.lif_outside.specs.Events.{Event}
 use Rattle.lif_outside.specs.FileCalls.{StopsWithin, Written, appends_of}
@@ -19,7 +20,6 @@ use Rattle.top_base.specs.Named.{node_named, pattern_named}
 use Rattle.top_base.specs.Words.{AtNode}
 use Rattle.top_base.specs.declared.outcome.Outcome.{Outcome}
 use Rattle.top_base.specs.declared.status.Status.TheVariants.{Done, WriteFault}
-use Rattle.top_nodes.proofs.DeclinedLaws.{or_refuses_none, or_refuses_some}
 use Rattle.top_nodes.proofs.ReadingLaws.{HasLost, HasReadAll, few_generations}
 use Rattle.top_nodes.proofs.RelayingLaws.{parts_each}
 use Rattle.top_nodes.specs.Declined.{declined}

@@ -15,6 +15,8 @@ use Rattle.command_steps.proofs.HeldLaws.{AreHeld, each_changes, each_owed, held
 use Rattle.command_steps.specs.Filling.{ChangesFilling, files_by, fills, has_bytes}
 use Rattle.command_steps.specs.Listed.{reads_each}
 use Rattle.command_steps.specs.Steps.{OwedBy}
+use Rattle.command_steps.proofs.RefusalLaws.{or_changes, or_owed}
+use Rattle.command_steps.proofs.DoneLaws.{done_outcome, left_told, owed_comes}
 use Rattle.failure_patterns.proofs.DemandLaws.{demand_of_number, number_within}
 use Rattle.generation_frame.specs.Blocks.{block_count, block_of, capacity, count_of, counted_bytes, piece_of}
 use Rattle.item_list.proofs.Maps.{same_made}
@@ -51,13 +53,14 @@ use Rattle.top_base.specs.declared.outcome.Outcome.{Outcome}
 use Rattle.top_base.specs.declared.status.Status.{Status}
 use Rattle.top_base.specs.declared.status.Status.TheVariants.{Done}
 use Rattle.source_turns.proofs.AppendLaws.{part_call, turns-add}
-use Rattle.top_nodes.proofs.BlocksLaws.{block_at-file, count_is-good, count_of-file, counted-file, file_window, length-file_window, pieces-file}
-use Rattle.top_nodes.proofs.ChainedLaws.{declined_named, done_outcome, left_told, or_changes, or_owed, owed_comes}
+use Rattle.source_turns.proofs.PieceLaws.{pieces-file}
+use Rattle.top_nodes.proofs.BlocksLaws.{block_at-file, count_is-good, count_of-file, counted-file, file_window, length-file_window}
 use Rattle.top_nodes.proofs.StreamsLaws.{HasCount, generations-count, none_lacking, streams_bring, streams_count, streams_held, streams_links, streams_read}
 use Rattle.top_nodes.specs.Chained.{IsSinkGiven, SinkReceives}
 use Rattle.top_nodes.specs.Declined.{declined}
 use Rattle.top_nodes.specs.Files.{first_lacking, generations_of, stream_limit, stream_paths, streams_of, streams_wanted}
 use Rattle.top_nodes.specs.Sink.{bad_block, block_in, bytes_in, demand_in, first_bad, is_bad, links_in, pattern_in, received_in, sink_command, sink_gathers, sink_in, sink_through, sink_turn, sink_turns, sink_writes}
+use Rattle.top_nodes.proofs.DeclinedLaws.{declined_named}
 
 -- ---- names
 
@@ -221,7 +224,7 @@ module _ (given : AtNode) (code : Code) (file : List ℕ) (files : Files) (is : 
       (turns-add given.output (sink_turn given code streams) (received_in code demand streams) (λ generation. part-adds given.output (received_in code demand streams generation)) (range_with_len 0 count)
       ∙ ap concat (same_made (received_in code demand streams) (piece_of file code.rate) count []
       (λ generation below. ap counted_bytes (decoded generation below) ∙ counted-file file code.rate rate_some rate_low generation))
-      ∙ pieces-file file code.rate rate_some rate_low)
+      ∙ pieces-file file code.rate rate_some)
 
   -- ---- step by step
 

@@ -9,6 +9,7 @@ use Rattle.command_steps.proofs.ListedLaws.{reads_each_step}
 use Rattle.command_steps.proofs.StepLaws.{IsStep, reads_then_step, step_known}
 use Rattle.command_steps.specs.Filling.{fills, has_bytes}
 use Rattle.command_steps.specs.Listed.{reads_each}
+use Rattle.command_steps.proofs.RefusalLaws.{IsRefusal, either_refuses, or_refuses_step}
 use Rattle.lif_outside.proofs.TurnLaws.{first_there}
 use Rattle.lif_outside.specs.Calls.{Calls}
 use Rattle.link_streams.specs.Streams.{Stream}
@@ -22,7 +23,7 @@ use Rattle.top_base.specs.Words.{AtNode}
 use Rattle.top_base.specs.declared.outcome.Outcome.{Outcome}
 use Rattle.top_base.specs.declared.status.Status.TheVariants.{Usage}
 use Rattle.source_turns.proofs.AppendLaws.{TurnAppends, turns_append}
-use Rattle.top_nodes.proofs.DeclinedLaws.{IsRefusal, declined_refuses, either_refuses, or_refuses_step}
+use Rattle.top_nodes.proofs.DeclinedLaws.{declined_refuses}
 use Rattle.top_nodes.proofs.WantedLaws.{lacking_refuses, streams_refuse}
 use Rattle.top_nodes.specs.Declined.{declined}
 use Rattle.top_nodes.specs.Files.{first_lacking, generations_of, stream_limit, stream_paths, streams_of, streams_wanted}

@@ -1,5 +1,5 @@
 -- What has to be known of a sink at work: streams that are whole, counts, and the calls.
-use Rattle.std.specs.Prelude.{◌≡◌, ◌⊎◌, ◌<◌, ◌+◌, ◌∷◌, ◌++◌, ◌==◌, [], ℕ, Bool, true, false, nat_lt, if◌then◌else◌, find, position, sum_by, unwrap_or, Err, List, None, Ok, OnErr, OnOk, Option, Result, Some, length}
+use Rattle.std.specs.Prelude.{◌≡◌, ◌⊎◌, ◌<◌, ◌+◌, ◌∷◌, ◌++◌, ◌==◌, [], ℕ, Bool, true, false, nat_lt, if◌then◌else◌, find, position, sum_by, unwrap_or, List, None, Option, Some, length}
 use Rattle.std.specs.List.{range_with_len}
 use Rattle.std.specs.Str.{bytes_eq}
 use Rattle.std.specs.Option.{option_and_then, option_map, option_or}
@@ -12,16 +12,13 @@ use Rattle.command_steps.proofs.ListedLaws.{reads_each_had, reads_each_lost}
 use Rattle.command_steps.specs.Filling.{Fills, RunsFilling, StopsFilling, fills}
 use Rattle.command_steps.specs.Listed.{reads_each}
 use Rattle.command_steps.specs.Steps.{RunsOrForgets}
+use Rattle.command_steps.proofs.RefusalLaws.{or_refuses_none, or_refuses_some}
 use Rattle.failure_patterns.specs.Demands.{number_of}
 use Rattle.generation_frame.specs.Blocks.{capacity, counted_bytes}
 use Rattle.item_list.proofs.Ranges.{find_first, find_nothing}
-use Rattle.lif_outside.proofs.CallLaws.{calls_of}
-use Rattle.lif_outside.proofs.SequenceLaws.{stops_here}
-use Rattle.lif_outside.specs.Calls.{ByCalls}
-use Rattle.lif_outside.specs.Events.{Event, append_event, append_failed, appended}
+use Rattle.lif_outside.specs.Events.{Event, appended}
 use Rattle.lif_outside.specs.FileCalls.{StopsWithin, Written, appends_of}
 use Rattle.lif_outside.specs.Sequences.{Are}
-use Rattle.lif_outside.specs.declared.Failed.{Failed}
 use Rattle.link_streams.specs.Streams.{Stream}
 use Rattle.net_model.specs.declared.net.Net.{Net}
 use Rattle.node_program.specs.declared.code.Code.{Code}
@@ -35,7 +32,6 @@ use Rattle.top_base.specs.Performs.{Behaviour}
 use Rattle.top_base.specs.Words.{AtNode}
 use Rattle.top_base.specs.declared.outcome.Outcome.{Outcome}
 use Rattle.top_base.specs.declared.status.Status.TheVariants.{Done, WriteFault}
-use Rattle.top_nodes.proofs.DeclinedLaws.{or_refuses_none, or_refuses_some}
 use Rattle.top_nodes.proofs.ReadingLaws.{HasLost, HasReadAll}
 use Rattle.top_nodes.specs.Declined.{declined}
 use Rattle.top_nodes.specs.Files.{first_lacking, generations_of, stream_limit, stream_paths, streams_of, streams_wanted}
@@ -150,18 +146,6 @@ module _ (given : AtNode) (code : Code) (streams : List Stream) (generation dema
   turn_some some =
       let apart = eqb-false (length bytes) 0 some in
       turn_is true (lt-ltb 0 (length bytes) (omega (arith, apart)))
-
--- an append, by its answer: all that is due, or where it stops
-module _ {S : Type 0} (calls : List Event → S → S → Type 0) (a b : S) (path bytes : List ℕ) (due : List Event) (is : due ≡ appended path bytes ∷ []) where
-  pub append_done : (result : Result Unit Failed) → calls (append_event path bytes result ∷ []) a b → OnOk result (ByCalls calls a b (Are due))
-  append_done (Ok done) lead = calls_of (Are due) (appended path bytes ∷ []) lead (sym is)
-  append_done (Err why) lead = tt
-
-  pub append_stopped : (result : Result Unit Failed) → calls (append_event path bytes result ∷ []) a b → OnErr result (ByCalls calls a b (StopsWithin due))
-  append_stopped (Ok done) lead = tt
-  append_stopped (Err why) lead =
-      calls_of (StopsWithin due) (append_failed path bytes ∷ []) lead
-      (subst (λ due. StopsWithin due (append_failed path bytes ∷ [])) (sym is) (stops_here (appended path bytes) []))
 
 -- ---- with streams that were read
 

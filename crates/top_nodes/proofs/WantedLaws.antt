@@ -4,6 +4,7 @@ use Rattle.std.specs.Option.{IfSome}
 use Rattle.std.proofs.Common.{refl, subst}
 use Rattle.std.proofs.lemmas.List.Elements.{All-contains_itself, All-map, All-weaker}
 use Rattle.command_steps.proofs.ListedLaws.{RefusesWell}
+use Rattle.command_steps.proofs.RefusalLaws.{IsRefusal}
 use Rattle.generation_frame.specs.declared.frame.Packet.{Packet}
 use Rattle.generation_frame.specs.declared.stream_why.StreamWhy.{StreamWhy}
 use Rattle.link_streams.specs.Reading.{packets_read}
@@ -11,7 +12,6 @@ use Rattle.link_streams.specs.Streams.{Stream}
 use Rattle.net_model.specs.declared.net.Net.{Net}
 use Rattle.top_base.specs.Inputs.{is_refusal}
 use Rattle.top_base.specs.declared.outcome.Outcome.{Outcome}
-use Rattle.top_nodes.proofs.DeclinedLaws.{IsRefusal}
 use Rattle.top_nodes.specs.Files.{first_lack, first_lacking, lack_refused, refusal_by, stream_refused, stream_wanted, streams_wanted}
 
 refused_by : (net : Net) (link : ℕ) (read : Result (List Packet) StreamWhy) (outcome : Outcome) → refusal_by net link read ≡ Some outcome → IsTrue (is_refusal outcome.status)

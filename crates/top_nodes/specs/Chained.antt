@@ -1,7 +1,8 @@
 -- What one call of `relay` or `sink` makes of streams for numbered blocks: the files that a relay writes are such streams again, and that of a
 -- sink is the file whose blocks they are.
-use Rattle.std.specs.Prelude.{◌≡◌, ◌⊎◌, ◌≤◌, ◌∷◌, ℕ, List, [], Contains, None, Ok, Some, false, length, sum_by, true}
+use Rattle.std.specs.Prelude.{◌≡◌, ◌≤◌, ◌∷◌, ℕ, List, [], Contains, None, Ok, Some, false, length, sum_by, true}
 use Rattle.coded_traffic.specs.Traffic.{Window}
+use Rattle.command_steps.specs.Steps.{Comes}
 use Rattle.generation_frame.specs.Blocks.{blocks_of}
 use Rattle.lif_outside.specs.Calls.{Outside}
 use Rattle.lif_outside.specs.Files.{Files, Holds}
@@ -11,19 +12,13 @@ use Rattle.node_program.specs.declared.code.Code.{Code}
 use Rattle.top_base.specs.Accepting.{HoldsCode}
 use Rattle.top_base.specs.Inputs.{HoldsShort}
 use Rattle.top_base.specs.Named.{node_named, pattern_named, sink_named}
-use Rattle.top_base.specs.Outcome.{SaysWell}
-use Rattle.top_base.specs.Performs.{Behaviour}
 use Rattle.top_base.specs.Words.{AtNode, demo_limit}
 use Rattle.top_base.specs.declared.status.Status.{Status}
-use Rattle.top_base.specs.declared.status.Status.TheVariants.{Done, OutOfMemory}
+use Rattle.top_base.specs.declared.status.Status.TheVariants.{Done}
 use Rattle.top_nodes.specs.Declined.{declined}
 use Rattle.top_nodes.specs.Files.{stream_limit, stream_path, stream_paths}
 use Rattle.top_nodes.specs.Relay.{ins_in, inputs_in, is_source_in, outputs_in, outs_in, relay_command}
 use Rattle.top_nodes.specs.Sink.{links_in, pattern_in, sink_command}
-
--- the command is done, or there was no memory, where none of its calls failed and its line was said
-abbrev pub Comes : Behaviour → Status → Outside → Outside → Type 0
-Comes does status before after = does.no_fault before after → SaysWell before after → (status ≡ Done) ⊎ (status ≡ OutOfMemory)
 
 -- the files of links are streams for blocks, and together within the limit
 pub record AreStreams (given : AtNode) (code : Code) (links : List ℕ) (window : Window) (files : Files) : Type 0 where

@@ -1,11 +1,9 @@
 -- What words decline beside an accepted code: a pattern or a node of no such name, or a path that is shared.
 use Rattle.std.specs.Prelude.{ℕ, List, ◌∷◌, Option, None, Some}
 use Rattle.std.specs.Option.{option_map}
-use Rattle.command_steps.specs.Steps.{refuses}
 use Rattle.top_base.specs.Lines.{unknown_node_line, unknown_pattern_line}
 use Rattle.top_base.specs.Making.{shares}
 use Rattle.top_base.specs.Paths.{shared_path}
-use Rattle.top_base.specs.Performs.{Behaviour}
 use Rattle.top_base.specs.Words.{AtNode}
 use Rattle.top_base.specs.declared.outcome.Outcome.{Outcome}
 use Rattle.top_base.specs.declared.status.Status.TheVariants.{UnknownNode, UnknownPattern}
@@ -22,8 +20,3 @@ abbrev pub declined : AtNode → Option ℕ → Option ℕ → List (List ℕ) �
 declined given None place inputs outputs = Some (unknown_pattern given)
 declined given (Some pattern) None inputs outputs = Some (unknown_node given)
 declined given (Some pattern) (Some place) inputs outputs = option_map shares (shared_path (given.code ∷ inputs) outputs)
-
--- a refusal, where there is one, and else the rest
-abbrev pub or_refuses : Option Outcome → Behaviour → Behaviour
-or_refuses (Some refused) rest = refuses refused
-or_refuses None rest = rest

@@ -7,7 +7,7 @@ use Rattle.coded_traffic.specs.Traffic.{payload_in}
 use Rattle.command_steps.specs.Feeding.{feeds}
 use Rattle.command_steps.specs.Filling.{fills}
 use Rattle.command_steps.specs.Listed.{reads_each}
-use Rattle.command_steps.specs.Steps.{reads_then}
+use Rattle.command_steps.specs.Steps.{or_refuses, reads_then}
 use Rattle.generation_frame.specs.Blocks.{block_count, block_of, piece_of, pieces}
 use Rattle.lif_outside.specs.FileCalls.{Written}
 use Rattle.link_streams.specs.Filled.{frames_of}
@@ -21,7 +21,7 @@ use Rattle.top_base.specs.Lines.{relayed_line}
 use Rattle.top_base.specs.Named.{node_named, pattern_named}
 use Rattle.top_base.specs.Performs.{Behaviour}
 use Rattle.top_base.specs.Words.{AtNode, demo_limit}
-use Rattle.top_nodes.specs.Declined.{declined, or_refuses}
+use Rattle.top_nodes.specs.Declined.{declined}
 use Rattle.top_nodes.specs.Files.{first_lacking, generations_of, stream_limit, stream_path, stream_paths, streams_of, streams_wanted}
 use Rattle.top_nodes.specs.Sink.{pattern_in}
 

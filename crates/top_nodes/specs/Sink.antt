@@ -5,7 +5,7 @@ use Rattle.std.specs.Option.{option_map, option_or}
 use Rattle.code_file.specs.Limits.{code_limit}
 use Rattle.command_steps.specs.Filling.{fills, has_bytes}
 use Rattle.command_steps.specs.Listed.{reads_each}
-use Rattle.command_steps.specs.Steps.{reads_then}
+use Rattle.command_steps.specs.Steps.{or_refuses, reads_then}
 use Rattle.generation_frame.specs.Blocks.{capacity, count_of, counted_bytes}
 use Rattle.lif_outside.specs.FileCalls.{Written}
 use Rattle.link_streams.specs.Gathering.{wanted_links}
@@ -21,7 +21,7 @@ use Rattle.top_base.specs.Performs.{Behaviour}
 use Rattle.top_base.specs.Words.{AtNode}
 use Rattle.top_base.specs.declared.outcome.Outcome.{Outcome}
 use Rattle.top_base.specs.declared.status.Status.TheVariants.{BadBlocks}
-use Rattle.top_nodes.specs.Declined.{declined, or_refuses}
+use Rattle.top_nodes.specs.Declined.{declined}
 use Rattle.top_nodes.specs.Files.{first_lacking, generations_of, stream_limit, stream_paths, streams_of, streams_wanted}
 
 -- the number of the pattern that is named, and the place of the sink

@@ -346,9 +346,9 @@ fn relay_source<'a, F: Field, S: Store>(
         return Outcome::out_of_memory();
     };
     match feeding.feed(store, words.input, RELAY_LIMIT) {
-        Ok(generations) => Outcome {
+        Ok(fed) => Outcome {
             status: Status::Done,
-            line: feeding.turns.relaying.line(generations),
+            line: feeding.turns.relaying.line(fed.generations),
         },
         Err(fault) => fault.into(),
     }

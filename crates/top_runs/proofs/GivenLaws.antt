@@ -9,7 +9,7 @@ use Rattle.node_program.specs.declared.code.Code.{Code}
 use Rattle.top_base.specs.Given.{given_in}
 use Rattle.top_base.specs.Named.{pattern_named}
 use Rattle.top_base.specs.Words.{Send}
-use Rattle.top_runs.specs.Paths.{output_paths}
+use Rattle.top_base.specs.Paths.{output_paths}
 use Rattle.top_runs.specs.Send.Given.{outputs_of, pattern_in, pattern_of}
 use Rattle.top_base.specs.declared.words.SendWords.{SendWords}
 

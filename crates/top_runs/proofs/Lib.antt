@@ -3,7 +3,6 @@ pub mod DemoRuns
 pub mod DemoShown
 pub mod FrameLaws
 pub mod GivenLaws
-pub mod PathLaws
 pub mod ReceivedLaws
 pub mod SendCalls
 pub mod SendLeaving

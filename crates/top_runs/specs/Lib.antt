@@ -1,4 +1,3 @@
-pub mod Paths
 pub mod Send
 pub mod Demo
 pub use Rattle.source_delivery.specs.Carried

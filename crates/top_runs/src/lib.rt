@@ -5,7 +5,6 @@
 //! proofs/DemoPerforms: all that is promised of the commands follows from their calls.
 #![tactic(auto)]
 
-mod paths;
 mod preparing;
 mod sending;
 mod showing;

@@ -8,13 +8,12 @@ ghost use Rattle.top_base.specs.Given.{given_in};
 ghost use Rattle.top_runs.specs.Send.Ready.{IsReady};
 ghost use Rattle.top_runs.specs.Send.Runs.{RunsCode, link_calls};
 
-use crate::paths::{output_paths, shared_path};
 use code_checker::Checked;
 use gf_tables::Field;
 use lif_outside::Links;
 use source_delivery::SourceDelivery;
 use std::alloc::Global;
-use top_base::{Line, Outcome, SendWords, Status, pattern_named};
+use top_base::{Line, Outcome, SendWords, Status, output_paths, pattern_named, shared_path};
 
 /// Finds the pattern, sees that no path is shared, takes all memory and opens the links. `F` is the code's field.
 pub fn prepare<'a, 'c, F: Field, K: Links>(

@@ -9,6 +9,7 @@ mod codes;
 mod combinations;
 mod counting;
 mod demands;
+mod drafts;
 mod fields;
 mod flows;
 mod gates;

@@ -4,8 +4,7 @@ use Rattle.generation_frame.specs.Blocks.{block_count}
 use Rattle.node_program.specs.declared.code.Code.{Code}
 use Rattle.top_base.specs.Lines.{sent_line}
 use Rattle.top_base.specs.Named.{pattern_named}
-use Rattle.top_base.specs.Paths.{shared_path}
-use Rattle.top_runs.specs.Paths.{output_paths}
+use Rattle.top_base.specs.Paths.{output_paths, shared_path}
 use Rattle.top_base.specs.Words.{Send}
 
 -- the number of the pattern that is named

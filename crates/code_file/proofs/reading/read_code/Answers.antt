@@ -19,5 +19,5 @@ code_of-requires c =
 
 pub returns-clause-ok : goal.returns-clause-ok
 returns-clause-ok c =
-    IsFileOf-from_contents_of c.in_ok-parts.parts.version c.args.bytes.now c.code_of.result (λ i. omega (arith, c.type_inv.bytes i))
+    IsFileOf-from_contents_of c.in_ok-parts.parts.draft.version c.args.bytes.now c.code_of.result (λ i. omega (arith, c.type_inv.bytes i))
     (c.in_ok-parts.ensures ∙ ap (λ (contents : Contents). ok_of contents) (sym c.code_of.ensures))

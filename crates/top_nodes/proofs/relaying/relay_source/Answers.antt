@@ -58,11 +58,11 @@ returns-in-Ok-feed g c =
     let paths : map string_bytes outputs.items ≡ outputs_in given code = ap (λ (job : Job). job.paths) (c.feed.ensures.still ∙ same g at) in
     let links : vec_len outputs ≡ length (outs_in given code) =
     omega (arith, outputs.ok.0, length-map outputs.items string_bytes, ap length paths, length-map (outs_in given code) (stream_path given.output code.net)) in
-    let generations = c.in-Ok-feed.generations in
+    let generations = c.in-Ok-feed.fed.generations in
     let line = c.line.ensures ∙ ap (λ n. relayed_line (generations * pieces * n) n generations) links in
     runs g at (record { status = Done; line = c.line.result })
     (subst (λ r. Ends (job_in given code) (line_of given code) r (record { status = Done; line = c.line.result })) (sym c.in-Ok-feed.is)
-    (refl, λ source is. line ∙ ap (λ n. relayed_line (n * pieces * length (outs_in given code)) (length (outs_in given code)) n) is))
+    (refl, λ source long is. line ∙ ap (λ n. relayed_line (n * pieces * length (outs_in given code)) (length (outs_in given code)) n) is))
 
 pub returns : goal.returns
 returns g c =

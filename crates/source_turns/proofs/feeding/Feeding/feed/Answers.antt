@@ -170,11 +170,12 @@ returns-then-count-eq0-clause-calls g c =
     let next = c.loop-at.self.next in
     let last = retold-none (λ job filled bytes. MakesCalls g.S.Store c.read_next.new.store c.send_last.new.store (Are (appends_of (turns_from job next (filled / size_of job + 1) bytes)))) g at c.in_ok-send_last.ensures.sent in
     let count = retold-none (λ job filled bytes. c.send_last.new.self.next ≡ next + (filled / size_of job + 1)) g at c.in_ok-send_last.ensures.next in
-    calls_then g.met.S.Store.more_calls _ _ (Feeds (job g at) path c.args.limit (Ok c.from.result)) (at-end g at c.in-Ok.count c.in-Ok.is c.if-count-eq0.true) last
+    calls_then g.met.S.Store.more_calls _ _ (Feeds (job g at) path c.args.limit (Ok (record { bytes = c.loop-at.at; generations = c.from.result }))) (at-end g at c.in-Ok.count c.in-Ok.is c.if-count-eq0.true) last
     (λ first later over more.
     let end = over.holds_later in
     let is = end.3 in (
       is.file,
+      sym is.long,
       c.from.ensures ∙ count ∙ all (job g at) path c.loop-at.at next (gathered g at) end.0 is c.args.limit end.1 end.2 (omega (arith, c.loop-at-test.true)),
       fills_after (job g at).paths _ (Streams (feed_brought (job g at)) (ReadsWhole path c.args.limit is.file) Are) first later over
           (subst (λ events. Streams (feed_brought (job g at)) (ReadsWhole path c.args.limit is.file) Are (events ++ later)) (sym end.4)

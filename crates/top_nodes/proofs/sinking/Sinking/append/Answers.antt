@@ -3,9 +3,10 @@ use Rattle.lif_outside.proofs.CallLaws.{calls_of}
 use Rattle.lif_outside.specs.FileCalls.{appends_of}
 use Rattle.lif_outside.specs.Sequences.{Are}
 use Rattle.top_base.specs.Given.{node_given_in}
-use Rattle.top_nodes.proofs.SinkingLaws.{append_done, append_stopped, turn_none, turn_some}
+use Rattle.top_nodes.proofs.SinkingLaws.{turn_none, turn_some}
 use Rattle.top_nodes.specs.Sink.{sink_turn}
 use Rattle.top_nodes.proofs.sinking.Sinking.append.Goals as goal
+use Rattle.source_turns.proofs.AppendLaws.{append_done, append_stopped}
 
 pub returns-then-is_empty-clause-appended : goal.returns-then-is_empty-clause-appended
 returns-then-is_empty-clause-appended g c =

@@ -1,0 +1,7 @@
+use Rattle.std.proofs.Common.{◌≡◌, ◌∷◌, [], map, take, find, None, string_bytes}
+use Rattle.std.specs.List.{list_any}
+use Rattle.std.specs.Str.{bytes_eq}
+use Rattle.top_base.proofs.paths.shared_path.Given as goal
+
+abbrev pub invariant-loop-output : goal.invariant-loop-output
+invariant-loop-output l = find (λ path. list_any (bytes_eq path) (l.code ∷ l.source ∷ [])) (take l.output-index (map string_bytes l.outputs)) ≡ None

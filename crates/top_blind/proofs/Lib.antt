@@ -1,0 +1,4 @@
+pub mod OutputLaws
+pub mod PieceLaws
+pub mod BlindLaws
+pub mod BlindDelivered
