@@ -42,12 +42,13 @@ _lif() {
     local word=${COMP_WORDS[COMP_CWORD]}
     COMPREPLY=()
     if ((COMP_CWORD == 1)); then
-        _lif_words "$word" "order cuts compile check send demo migrate relay sink blind"
+        _lif_words "$word" "order cuts compile check send demo migrate relay sink blind finish"
         return
     fi
     case ${COMP_WORDS[1]},$COMP_CWORD in
     order,2 | cuts,2 | compile,2) _lif_files "$word" .net ;;
-    compile,3 | check,2 | send,2 | migrate,2 | migrate,3 | relay,2 | sink,2 | blind,2) _lif_files "$word" .lif ;;
+    compile,3 | check,2 | send,2 | migrate,2 | migrate,3 | relay,2 | sink,2 | blind,2 | finish,3) _lif_files "$word" .lif ;;
+    finish,2) _lif_files "$word" .draft ;;
     compile,4) _lif_files "$word" .txt ;;
     send,3 | relay,3 | sink,3) _lif_patterns "$word" "${COMP_WORDS[2]}" ;;
     relay,4) _lif_nodes "$word" "${COMP_WORDS[2]}" --nodes ;;
@@ -102,6 +103,8 @@ _lif_tool() {
     lif-draw,--code) _lif_files "$word" .lif ;;
     lif-draw,-o) _lif_files "$word" .svg .png .pdf ;;
     lif-import,-o) _lif_files "$word" .net ;;
+    lif-draft,-o) _lif_files "$word" .draft ;;
+    lif-draft,--coefficients) _lif_files "$word" "" ;;
     lif-plan,--places) _lif_files "$word" "" ;;
     *)
         told=$("$(_lif_path "${COMP_WORDS[0]}")" --help 2>/dev/null)
@@ -114,6 +117,7 @@ _lif_tool() {
         else
             case $tool in
             lif-import) _lif_files "$word" .graphml .xml .gml .dot .gv .json ;;
+            lif-draft) _lif_files "$word" .lif .net ;;
             lif-estimate | lif-plan) _lif_files "$word" .lif ;;
             *) _lif_files "$word" .net ;;
             esac
@@ -123,4 +127,4 @@ _lif_tool() {
 }
 
 complete -F _lif lif
-complete -F _lif_tool lif-draw lif-estimate lif-gain lif-import lif-plan
+complete -F _lif_tool lif-draft lif-draw lif-estimate lif-gain lif-import lif-plan

@@ -1,4 +1,4 @@
-#compdef lif lif-draw lif-estimate lif-gain lif-import lif-plan
+#compdef lif lif-draft lif-draw lif-estimate lif-gain lif-import lif-plan
 # Completion of zsh for lif and its tools: words, files, and the patterns, sinks and links of networks and codes. It goes as _lif to a
 # folder of fpath; the patterns of codes need lif-estimate on the path.
 
@@ -18,12 +18,13 @@ _lif_nodes() {
 
 _lif_program() {
     if ((CURRENT == 2)); then
-        compadd order cuts compile check send demo migrate relay sink blind
+        compadd order cuts compile check send demo migrate relay sink blind finish
         return
     fi
     case $words[2],$CURRENT in
     order,3 | cuts,3 | compile,3) _files -g '*.net' ;;
-    compile,4 | check,3 | send,3 | migrate,3 | migrate,4 | relay,3 | sink,3 | blind,3) _files -g '*.lif' ;;
+    compile,4 | check,3 | send,3 | migrate,3 | migrate,4 | relay,3 | sink,3 | blind,3 | finish,4) _files -g '*.lif' ;;
+    finish,3) _files -g '*.draft' ;;
     compile,5) _files -g '*.txt' ;;
     send,4 | relay,4 | sink,4) _lif_patterns $words[3] ;;
     relay,5) _lif_nodes $words[3] --nodes ;;
@@ -69,6 +70,8 @@ _lif_tool() {
     lif-draw,--code) _files -g '*.lif' ;;
     lif-draw,-o) _files -g '*.(svg|png|pdf)' ;;
     lif-import,-o) _files -g '*.net' ;;
+    lif-draft,-o) _files -g '*.draft' ;;
+    lif-draft,--coefficients) _files ;;
     lif-plan,--places) _files ;;
     *)
         told=(${(f)"$(${~words[1]} --help 2>/dev/null)"})
@@ -84,6 +87,7 @@ _lif_tool() {
         else
             case ${words[1]:t} in
             lif-import) _files -g '*.(graphml|xml|gml|dot|gv|json)' ;;
+            lif-draft) _files -g '*.(lif|net)' ;;
             lif-estimate | lif-plan) _files -g '*.lif' ;;
             *) _files -g '*.net' ;;
             esac

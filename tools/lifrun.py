@@ -32,10 +32,13 @@ FORMS = {
     "relay": ("CODE", "PATTERN", "NODE", "IN", "OUT"),
     "sink": ("CODE", "PATTERN", "SINK", "IN", "DST"),
     "blind": ("CODE", "SRC", "PREFIX"),
+    "finish": ("DRAFT", "CODE"),
 }
 # What a command takes behind the words of its form, as many as there are.
 MORE = {"blind": "LINK"}
 INPUTS = ("NET", "CODE", "SRC", "OLD")
+# What is read by those commands that make CODE.
+INPUTS_OF = {"compile": ("NET",), "finish": ("DRAFT",)}
 NODE_COMMANDS = ("relay", "sink")
 # Those that carry a source to the files of sinks.
 SENDING = ("send", "blind")
@@ -44,7 +47,7 @@ NUMBERS = ("SEED", "N", "K", "BYTES")
 # The statuses, as docs/FORMATS.md has them.
 USAGE, NET_REFUSED, ZERO_RATE, TOO_MANY_DEMANDS, RATE_OVER, CODE_REFUSED, CHECK_FAILED, UNKNOWN_PATTERN = range(2, 10)
 READ_FAULT, WRITE_FAULT, TOO_LONG, OUT_OF_MEMORY, SAME_PATH, LINK_FAULT, RATE_UNMET = range(10, 17)
-STREAM_REFUSED, UNKNOWN_NODE, BAD_BLOCKS, UNKNOWN_LINK = range(17, 21)
+STREAM_REFUSED, UNKNOWN_NODE, BAD_BLOCKS, UNKNOWN_LINK, NOT_DECODING = range(17, 22)
 
 # Signals that are passed on to the program.
 PASSED = (signal.SIGHUP, signal.SIGINT, signal.SIGQUIT, signal.SIGTERM, signal.SIGUSR1, signal.SIGUSR2)
@@ -168,7 +171,7 @@ class Call:
         return self.words[1 + len(FORMS[self.command]) :] if self.command in MORE else ()
 
     def inputs(self) -> list[str]:
-        named = INPUTS[:1] if self.command == "compile" else INPUTS
+        named = INPUTS_OF.get(self.command, INPUTS)
         return [self.given[name] for name in named if name in self.given] + self.node_files()[0]
 
     def outputs(self) -> list[str]:
@@ -180,6 +183,8 @@ class Call:
             return [given["CODE"], given["REPORT"]]
         if self.command == "migrate" and given:
             return [given["NEW"]]
+        if self.command == "finish" and given:
+            return [given["CODE"]]
         if self.command in NODE_COMMANDS and given:
             return self.node_files()[1]
         if self.command not in SENDING or not given:
@@ -252,7 +257,7 @@ class Call:
 def cause(call: Call, status: int) -> str | None:
     """What stands behind a status, in words."""
     given = call.given
-    net, code = given.get("NET", ""), given.get("CODE", given.get("OLD", ""))
+    net, code, draft = given.get("NET", ""), given.get("CODE", given.get("OLD", "")), given.get("DRAFT", "")
     if status == USAGE:
         return usage_cause(call)
     if status == NET_REFUSED:
@@ -266,7 +271,7 @@ def cause(call: Call, status: int) -> str | None:
     if status == RATE_UNMET:
         return f"{net}: its line `rate` wants more than that sink can get; without the line the greatest rate is taken"
     if status == CODE_REFUSED:
-        return code_cause(code)
+        return draft_cause(draft) if draft else code_cause(code)
     if status == CHECK_FAILED:
         return f"{code}: the sink that the line names doesn't get the source back under that pattern"
     if status == UNKNOWN_PATTERN:
@@ -291,6 +296,8 @@ def cause(call: Call, status: int) -> str | None:
         return "the streams end too early, or aren't those of one file, code and pattern"
     if status == UNKNOWN_LINK:
         return link_cause(code, call.failed)
+    if status == NOT_DECODING:
+        return f"{draft}: what comes to that sink under that pattern is the same for that block as for zeros"
     return None
 
 
@@ -348,6 +355,19 @@ def code_cause(code: str) -> str | None:
         read_code(content)
     except Refused as refused:
         return f"{code}: no code file: {refused}"
+    return None
+
+
+def draft_cause(draft: str) -> str | None:
+    from lif_tools.formats import Refused, read_draft
+
+    content = content_of(draft, MOST_READ_AGAIN + 1)
+    if size_of(draft) is None or len(content) > MOST_READ_AGAIN:
+        return None
+    try:
+        read_draft(content)
+    except Refused as refused:
+        return f"{draft}: no file of a draft: {refused}"
     return None
 
 
@@ -421,8 +441,9 @@ def length_cause(call: Call) -> str | None:
     from lif_tools.formats import MOST_CODE_BYTES, MOST_RELAYED_BYTES, MOST_SOURCE_BYTES, MOST_STREAM_BYTES, MOST_TEXT_BYTES
 
     given = call.given
-    for name, most in zip(INPUTS, (MOST_TEXT_BYTES, MOST_CODE_BYTES, MOST_SOURCE_BYTES, MOST_CODE_BYTES)):
-        size = size_of(given.get(name, ""))
+    mosts = {"NET": MOST_TEXT_BYTES, "SRC": MOST_SOURCE_BYTES}
+    for name in INPUTS_OF.get(call.command, INPUTS):
+        size, most = size_of(given.get(name, "")), mosts.get(name, MOST_CODE_BYTES)
         if size is not None and size > most:
             return f"{given[name]}: {size:,} bytes, and at most {most:,} are read"
     if call.command in NODE_COMMANDS:
@@ -434,8 +455,9 @@ def length_cause(call: Call) -> str | None:
         if inputs:
             return f"{listed(inputs)}: {told} together, and at most {MOST_STREAM_BYTES:,} are read"
         return f"at most {MOST_STREAM_BYTES:,} bytes of links are read together, and at the source {MOST_RELAYED_BYTES:,}"
-    if size_of(given.get("OLD", "")) is not None:
-        return f"{given['OLD']}: in version 2 its code has more than {MOST_CODE_BYTES:,} bytes, and a code file at most so many"
+    read = given.get("OLD", given.get("DRAFT", ""))
+    if size_of(read) is not None:
+        return f"{read}: in version 2 its code has more than {MOST_CODE_BYTES:,} bytes, and a code file at most so many"
     return None
 
 
@@ -454,7 +476,7 @@ def beginnings(call: Call) -> str | None:
 
 def with_line(call: Call) -> str | None:
     """Which output is standard output too, once the program has said its line there."""
-    names = {"compile": ("CODE", "REPORT"), "migrate": ("NEW",), "sink": ("DST",)}.get(call.command, ())
+    names = {"compile": ("CODE", "REPORT"), "migrate": ("NEW",), "sink": ("DST",), "finish": ("CODE",)}.get(call.command, ())
     for path in (call.given[name] for name in names if call.given):
         try:
             found = os.stat(path)

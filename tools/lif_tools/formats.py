@@ -1,4 +1,5 @@
-"""Networks and codes of lif: network texts, code files of both versions, the fields, and what the links of a code carry.
+"""Networks and codes of lif: network texts, code files of both versions, drafts, the fields, what the links of a code carry,
+and the decoders of a draft.
 
 The formats are those of docs/FORMATS.md, with the same refusals. Nothing but the standard library is needed.
 """
@@ -34,6 +35,7 @@ DEMANDS_SERVED = {8: 256, 16: 65_536}
 # The fields that a code file of each version may have, by their marks, and the bytes of an element of each.
 FIELDS = {1: (8, 16), 2: (8, 9, 16)}
 ELEMENT_BYTES = {8: 1, 9: 1, 16: 2}
+CODE_MARK, DRAFT_MARK = b"LIFC", b"LIFK"
 
 ROW_BYTES = 1024
 COUNT_BYTES = 4
@@ -106,19 +108,24 @@ class Decoder:
 
 
 @dataclass(frozen=True)
-class Code:
-    """A code, as its file says it, with the mark of its field. Decoders are numbered as demands are: sinks outside, patterns
-    inside."""
+class Draft:
+    """A code without decoders, as its file says it, with the mark of its field."""
 
     network: Network
     field: int
     rate: int
     operands: tuple[tuple[Operand, ...], ...]
+
+
+@dataclass(frozen=True)
+class Code(Draft):
+    """A code, as its file says it. Decoders are numbered as demands are: sinks outside, patterns inside."""
+
     decoders: tuple[Decoder, ...]
 
 
 class Refused(Exception):
-    """Why bytes aren't a network text or a code file: the refusal's name, and its line or its place."""
+    """Why bytes aren't a network text, a code file or a draft's: the refusal's name, and its line or its place."""
 
     def __init__(self, name: str, text: str):
         super().__init__(text)
@@ -129,7 +136,7 @@ class Refused(Exception):
 
 
 @dataclass
-class _Draft:
+class _Begun:
     """The part of a network that the lines so far say. `named` has the links of each name of a link or of a bundle."""
 
     nodes: dict[bytes, int] = dataclasses.field(default_factory=dict)
@@ -150,34 +157,34 @@ _Faults = Iterator[tuple[bool, str]]
 
 def read_network(text: bytes) -> Network:
     """The network of a text, or the refusal of the first line that isn't good."""
-    draft = _Draft()
+    begun = _Begun()
     for number, line in enumerate(text.split(b"\n"), start=1):
         if line:
-            _read_line(draft, number, line)
-    return _whole(draft)
+            _read_line(begun, number, line)
+    return _whole(begun)
 
 
-def _read_line(draft: _Draft, number: int, line: bytes) -> None:
+def _read_line(begun: _Begun, number: int, line: bytes) -> None:
     rest = line.removesuffix(b"\r").split(b"#", 1)[0]
     # Of what is no text nothing but its bytes is looked at, so the words stand between spaces and tabs.
     words = rest.split()
-    for holds, name in _line_faults(draft, rest, words):
+    for holds, name in _line_faults(begun, rest, words):
         if holds:
             shown = rest.decode("ascii", "backslashreplace").strip()
             if len(shown) > MOST_SHOWN:
                 shown = f"{shown[:MOST_SHOWN]}.."
             raise Refused(name, f"line {number}: {name}: {shown}")
     if words:
-        _add(draft, words)
+        _add(begun, words)
 
 
-def _line_faults(draft: _Draft, rest: bytes, words: list[bytes]) -> _Faults:
+def _line_faults(begun: _Begun, rest: bytes, words: list[bytes]) -> _Faults:
     """The refusals of a line in their order; one is asked for only where none before it holds."""
     yield re.fullmatch(rb"[\t -~]*", rest) is None, "BadByte"
     if not words:
         return
     yield not _has_form(words), "BadLine"
-    yield from _FAULTS[words[0]](draft, words[1:])
+    yield from _FAULTS[words[0]](begun, words[1:])
 
 
 def _has_form(words: list[bytes]) -> bool:
@@ -210,39 +217,39 @@ def _are_names(words: Iterable[bytes]) -> bool:
     return all(NAME.fullmatch(word) for word in set(words))
 
 
-def _too_many_nodes(draft: _Draft, names: Iterable[bytes]) -> bool:
-    return len(draft.nodes) + sum(name not in draft.nodes for name in set(names)) > MOST_NODES
+def _too_many_nodes(begun: _Begun, names: Iterable[bytes]) -> bool:
+    return len(begun.nodes) + sum(name not in begun.nodes for name in set(names)) > MOST_NODES
 
 
-def _field_faults(draft: _Draft, words: list[bytes]) -> _Faults:
-    yield draft.field is not None, "SecondField"
+def _field_faults(begun: _Begun, words: list[bytes]) -> _Faults:
+    yield begun.field is not None, "SecondField"
 
 
-def _rate_faults(draft: _Draft, words: list[bytes]) -> _Faults:
-    yield draft.rate is not None, "SecondRate"
+def _rate_faults(begun: _Begun, words: list[bytes]) -> _Faults:
+    yield begun.rate is not None, "SecondRate"
 
 
-def _source_faults(draft: _Draft, names: list[bytes]) -> _Faults:
+def _source_faults(begun: _Begun, names: list[bytes]) -> _Faults:
     yield not _are_names(names), "BadName"
-    yield draft.source is not None, "SecondSource"
-    yield _too_many_nodes(draft, names), "TooMany Nodes"
+    yield begun.source is not None, "SecondSource"
+    yield _too_many_nodes(begun, names), "TooMany Nodes"
 
 
-def _sink_faults(draft: _Draft, names: list[bytes]) -> _Faults:
+def _sink_faults(begun: _Begun, names: list[bytes]) -> _Faults:
     yield not _are_names(names), "BadName"
-    yield draft.nodes.get(names[0]) in draft.sinks, "DuplicateSink"
-    yield _too_many_nodes(draft, names), "TooMany Nodes"
+    yield begun.nodes.get(names[0]) in begun.sinks, "DuplicateSink"
+    yield _too_many_nodes(begun, names), "TooMany Nodes"
 
 
-def _link_faults(draft: _Draft, words: list[bytes]) -> _Faults:
+def _link_faults(begun: _Begun, words: list[bytes]) -> _Faults:
     name, tail, head = words[:3]
     made = _link_names(words)
     # The last name that a bundle makes is its longest.
     yield not _are_names((name, tail, head, made[-1])), "BadName"
-    yield not draft.named.keys().isdisjoint((name, *made)), "DuplicateLink"
+    yield not begun.named.keys().isdisjoint((name, *made)), "DuplicateLink"
     yield tail == head, "SelfLoop"
-    yield _too_many_nodes(draft, (tail, head)), "TooMany Nodes"
-    yield len(draft.links) + len(made) > MOST_LINKS, "TooMany Links"
+    yield _too_many_nodes(begun, (tail, head)), "TooMany Nodes"
+    yield len(begun.links) + len(made) > MOST_LINKS, "TooMany Links"
 
 
 def _link_names(words: list[bytes]) -> list[bytes]:
@@ -251,28 +258,28 @@ def _link_names(words: list[bytes]) -> list[bytes]:
     return [words[0]] if count is None else [b"%s.%d" % (words[0], number) for number in range(1, count + 1)]
 
 
-def _pattern_faults(draft: _Draft, names: list[bytes]) -> _Faults:
+def _pattern_faults(begun: _Begun, names: list[bytes]) -> _Faults:
     yield not _are_names(names), "BadName"
     name, links = names[0], names[1:]
-    yield name in draft.patterns, "DuplicatePattern"
-    yield not draft.named.keys() >= set(links), "UnknownLink"
-    members = sum(len(draft.named[link]) for link in links)
+    yield name in begun.patterns, "DuplicatePattern"
+    yield not begun.named.keys() >= set(links), "UnknownLink"
+    members = sum(len(begun.named[link]) for link in links)
     # Of more members than links one stands twice; so those that are gathered are never more.
-    yield members > len(draft.links) or len(set(_members(draft, links))) < members, "RepeatedLink"
-    yield len(draft.patterns) > MOST_PATTERNS, "TooMany Patterns"
-    yield draft.members + members > MOST_MEMBERS, "TooMany Members"
+    yield members > len(begun.links) or len(set(_members(begun, links))) < members, "RepeatedLink"
+    yield len(begun.patterns) > MOST_PATTERNS, "TooMany Patterns"
+    yield begun.members + members > MOST_MEMBERS, "TooMany Members"
 
 
-def _members(draft: _Draft, names: list[bytes]) -> list[int]:
+def _members(begun: _Begun, names: list[bytes]) -> list[int]:
     """The links that the words of a pattern name, in rising order."""
-    return sorted(itertools.chain.from_iterable(draft.named[name] for name in names))
+    return sorted(itertools.chain.from_iterable(begun.named[name] for name in names))
 
 
-def _fail_each_faults(draft: _Draft, words: list[bytes]) -> _Faults:
-    yield draft.fail_each, "SecondFailEach"
+def _fail_each_faults(begun: _Begun, words: list[bytes]) -> _Faults:
+    yield begun.fail_each, "SecondFailEach"
 
 
-_FAULTS: dict[bytes, Callable[[_Draft, list[bytes]], _Faults]] = {
+_FAULTS: dict[bytes, Callable[[_Begun, list[bytes]], _Faults]] = {
     b"field": _field_faults,
     b"rate": _rate_faults,
     b"source": _source_faults,
@@ -283,61 +290,61 @@ _FAULTS: dict[bytes, Callable[[_Draft, list[bytes]], _Faults]] = {
 }
 
 
-def _add(draft: _Draft, words: list[bytes]) -> None:
+def _add(begun: _Begun, words: list[bytes]) -> None:
     """Adds what a good line says."""
     kind, names = words[0], words[1:]
 
     def node(name: bytes) -> int:
-        return draft.nodes.setdefault(name, len(draft.nodes))
+        return begun.nodes.setdefault(name, len(begun.nodes))
 
     if kind == b"field":
-        draft.field = int(names[0])
+        begun.field = int(names[0])
     elif kind == b"rate":
-        draft.rate = _number(names[0], MOST_RATE)
+        begun.rate = _number(names[0], MOST_RATE)
     elif kind == b"source":
-        draft.source = node(names[0])
+        begun.source = node(names[0])
     elif kind == b"sink":
-        draft.sinks[node(names[0])] = None
+        begun.sinks[node(names[0])] = None
     elif kind == b"link":
-        _add_links(draft, names, node(names[1]), node(names[2]))
+        _add_links(begun, names, node(names[1]), node(names[2]))
     elif kind == b"pattern":
-        pattern = Pattern(names[0].decode(), tuple(_members(draft, names[1:])))
-        draft.patterns[names[0]] = pattern
-        draft.members += len(pattern.links)
+        pattern = Pattern(names[0].decode(), tuple(_members(begun, names[1:])))
+        begun.patterns[names[0]] = pattern
+        begun.members += len(pattern.links)
     else:
-        draft.fail_each = True
+        begun.fail_each = True
 
 
-def _add_links(draft: _Draft, words: list[bytes], tail: int, head: int) -> None:
+def _add_links(begun: _Begun, words: list[bytes], tail: int, head: int) -> None:
     """Adds the links of a line, and what stands for the name of their bundle."""
-    names, first = _link_names(words), len(draft.links)
-    draft.named[words[0]] = range(first, first + len(names))
+    names, first = _link_names(words), len(begun.links)
+    begun.named[words[0]] = range(first, first + len(names))
     for number, name in enumerate(names, start=first):
-        draft.named[name] = range(number, number + 1)
-        draft.links.append(Link(name.decode(), tail, head))
+        begun.named[name] = range(number, number + 1)
+        begun.links.append(Link(name.decode(), tail, head))
 
 
-def _whole(draft: _Draft) -> Network:
-    nodes = tuple(name.decode() for name in draft.nodes)
-    if draft.source is None:
+def _whole(begun: _Begun) -> Network:
+    nodes = tuple(name.decode() for name in begun.nodes)
+    if begun.source is None:
         raise Refused("NoSource", "NoSource")
-    if not draft.sinks:
+    if not begun.sinks:
         raise Refused("NoSink", "NoSink")
-    if draft.source in draft.sinks:
-        raise Refused("SinkIsSource", f"SinkIsSource {nodes[draft.source]}")
-    patterns = tuple(draft.patterns.values()) + (_single_failures(draft) if draft.fail_each else ())
-    return Network(nodes, tuple(draft.links), draft.source, tuple(draft.sinks), patterns, draft.field, draft.rate)
+    if begun.source in begun.sinks:
+        raise Refused("SinkIsSource", f"SinkIsSource {nodes[begun.source]}")
+    patterns = tuple(begun.patterns.values()) + (_single_failures(begun) if begun.fail_each else ())
+    return Network(nodes, tuple(begun.links), begun.source, tuple(begun.sinks), patterns, begun.field, begun.rate)
 
 
-def _single_failures(draft: _Draft) -> tuple[Pattern, ...]:
+def _single_failures(begun: _Begun) -> tuple[Pattern, ...]:
     """For each link the pattern in which it fails alone, with its name."""
-    for link in draft.links:
-        if link.name.encode() in draft.patterns:
+    for link in begun.links:
+        if link.name.encode() in begun.patterns:
             raise Refused("PatternNamed", f"PatternNamed {link.name}")
-    count = len(draft.patterns) - 1 + len(draft.links)
+    count = len(begun.patterns) - 1 + len(begun.links)
     if count > MOST_PATTERNS:
         raise Refused("TooManyPatterns", f"TooManyPatterns {count}")
-    return tuple(Pattern(link.name, (number,)) for number, link in enumerate(draft.links))
+    return tuple(Pattern(link.name, (number,)) for number, link in enumerate(begun.links))
 
 
 def order_of(network: Network) -> list[int]:
@@ -358,6 +365,16 @@ def order_of(network: Network) -> list[int]:
             for link in out[head]:
                 heapq.heappush(ready, link)
     return order
+
+
+def in_order(network: Network) -> Network:
+    """A network without a cycle as its codes have it: its links in order."""
+    order = order_of(network)
+    number = {link: place for place, link in enumerate(order)}
+    patterns = (
+        Pattern(pattern.name, tuple(sorted(number[link] for link in pattern.links))) for pattern in network.patterns
+    )
+    return dataclasses.replace(network, links=tuple(network.links[link] for link in order), patterns=tuple(patterns))
 
 
 def cycle_of(network: Network) -> list[int] | None:
@@ -421,7 +438,24 @@ class _Items:
 def read_code(content: bytes) -> Code:
     """The code of a file of either version, or the refusal of the first item that isn't good."""
     items = _Items(content)
-    version, field, rate = _read_front(items)
+    version, draft = _read_draft_items(items, CODE_MARK, FIELDS)
+    network, field, rate = draft.network, draft.field, draft.rate
+    code = Code(network, field, rate, draft.operands, _DECODER_READERS[version](items, network, field, rate))
+    _read_end(items)
+    return code
+
+
+def read_draft(content: bytes) -> Draft:
+    """The draft of a file, or the refusal of the first item that isn't good."""
+    items = _Items(content)
+    _, draft = _read_draft_items(items, DRAFT_MARK, (2,))
+    _read_end(items)
+    return draft
+
+
+def _read_draft_items(items: _Items, mark: bytes, versions: Collection[int]) -> tuple[int, Draft]:
+    """The version, and all that stands before the decoders."""
+    version, field, rate = _read_front(items, mark, versions)
     nodes = _read_nodes(items)
     links = _read_links(items, len(nodes))
     source = _read_source(items, len(nodes))
@@ -429,27 +463,28 @@ def read_code(content: bytes) -> Code:
     patterns = _read_patterns(items, len(links), len(sinks))
     # No text asks for field 9.
     network = Network(nodes, links, source, sinks, patterns, field if field in DEMANDS_SERVED else None)
-    operands = _read_operands(items, network, field, rate)
-    code = Code(network, field, rate, operands, _DECODER_READERS[version](items, network, field, rate))
+    return version, Draft(network, field, rate, _read_operands(items, network, field, rate))
+
+
+def _read_end(items: _Items) -> None:
     items.begin = items.at
-    items.require(items.at == len(content), "TrailingBytes")
-    return code
+    items.require(items.at == len(items.content), "TrailingBytes")
 
 
 def read_sinks(content: bytes) -> list[str]:
     """The names of the sinks of a code file. What stands before its patterns is enough, which is less than a megabyte."""
     items = _Items(content)
-    _read_front(items)
+    _read_front(items, CODE_MARK, FIELDS)
     nodes = _read_nodes(items)
     _read_links(items, len(nodes))
     return [nodes[sink] for sink in _read_sinks(items, len(nodes), _read_source(items, len(nodes)))]
 
 
-def _read_front(items: _Items) -> tuple[int, int, int]:
+def _read_front(items: _Items, mark: bytes, versions: Collection[int]) -> tuple[int, int, int]:
     """The version, the field and the rate."""
-    items.require(items.take(4) == b"LIFC", "BadMagic")
+    items.require(items.take(4) == mark, "BadMagic")
     version = items.number(1)
-    items.require(version in FIELDS, "BadVersion")
+    items.require(version in versions, "BadVersion")
     field = items.number(1)
     items.require(field in FIELDS[version], "BadField")
     rate = items.number(1)
@@ -609,17 +644,28 @@ def write_code(code: Code, version: int = 2) -> bytes:
     """The file of a code in a version. In version 1 there is none of field 9."""
     if code.field not in FIELDS[version]:
         raise ValueError(f"field {code.field} isn't one of version {version}")
-    network = code.network
-    parts = [b"LIFC", bytes([version, code.field, code.rate]), _two(len(network.nodes)), *map(_name, network.nodes)]
+    parts = _draft_items(code, CODE_MARK, version)
+    spellings = (_two(*decoder.links) + _elements(code.field, decoder.entries) for decoder in code.decoders)
+    return b"".join(parts + (list(spellings) if version == 1 else _unlike(spellings)))
+
+
+def write_draft(draft: Draft) -> bytes:
+    """The file of a draft."""
+    return b"".join(_draft_items(draft, DRAFT_MARK, 2))
+
+
+def _draft_items(draft: Draft, mark: bytes, version: int) -> list[bytes]:
+    """All that stands before the decoders."""
+    network = draft.network
+    parts = [mark, bytes([version, draft.field, draft.rate]), _two(len(network.nodes)), *map(_name, network.nodes)]
     parts += [_two(len(network.links))]
     parts += [_name(link.name) + _two(link.tail, link.head) for link in network.links]
     parts += [_two(network.source, len(network.sinks), *network.sinks), _two(len(network.patterns) - 1)]
     parts += [_name(pattern.name) + _two(len(pattern.links), *pattern.links) for pattern in network.patterns[1:]]
-    for operands in code.operands:
+    for operands in draft.operands:
         parts += [_two(len(operands))]
-        parts += [_two(operand.origin) + _elements(code.field, [operand.times]) for operand in operands]
-    spellings = (_two(*decoder.links) + _elements(code.field, decoder.entries) for decoder in code.decoders)
-    return b"".join(parts + (list(spellings) if version == 1 else _unlike(spellings)))
+        parts += [_two(operand.origin) + _elements(draft.field, [operand.times]) for operand in operands]
+    return parts
 
 
 def _unlike(spellings: Iterable[bytes]) -> list[bytes]:
@@ -691,6 +737,15 @@ def product_of(field: int) -> Callable[[int, int], int]:
     return pair_product
 
 
+def inverse_of(field: int, element: int) -> int:
+    """The element whose product with this one, which isn't 0, is 1: its power by the number of elements less 2."""
+    product, power, total = product_of(field), element, 1
+    for _ in range(8 * ELEMENT_BYTES[field] - 1):
+        power = product(power, power)
+        total = product(total, power)
+    return total
+
+
 # What links carry
 
 
@@ -712,7 +767,7 @@ def combination(field: int, rate: int, terms: Iterable[tuple[int, Vector]]) -> V
     return tuple(total)
 
 
-def live_where(code: Code, failed: Collection[int]) -> list[bool]:
+def live_where(code: Draft, failed: Collection[int]) -> list[bool]:
     """For each link whether it is live where these links fail.
 
     It is where it doesn't fail itself, and some operand is a row of the source or a live link.
@@ -728,7 +783,7 @@ def live_where(code: Code, failed: Collection[int]) -> list[bool]:
     return live
 
 
-def live_links(code: Code, pattern: int) -> list[bool]:
+def live_links(code: Draft, pattern: int) -> list[bool]:
     """The same where the pattern's links fail."""
     return live_where(code, code.network.patterns[pattern].links)
 
@@ -753,7 +808,7 @@ def links_written(code: Code, pattern: str, node: str) -> list[str]:
     return [link.name for place, link in enumerate(code.network.links) if link.tail == number and live[place]]
 
 
-def vectors_where(code: Code, failed: Collection[int]) -> list[Vector]:
+def vectors_where(code: Draft, failed: Collection[int]) -> list[Vector]:
     """For each link the coefficients of the source's rows in what it carries where these links fail."""
     network = code.network
     vectors: list[Vector] = []
@@ -778,7 +833,7 @@ def vectors_where(code: Code, failed: Collection[int]) -> list[Vector]:
     return vectors
 
 
-def vectors_of(code: Code, pattern: int) -> list[Vector]:
+def vectors_of(code: Draft, pattern: int) -> list[Vector]:
     """The same where the pattern's links fail."""
     return vectors_where(code, code.network.patterns[pattern].links)
 
@@ -796,13 +851,13 @@ def rank_of(field: int, vectors: Iterable[Vector]) -> int:
     return len(kept)
 
 
-def ranks_where(code: Code, failed: Collection[int]) -> list[int]:
+def ranks_where(code: Draft, failed: Collection[int]) -> list[int]:
     """For each sink the rank of the vectors of the links into it where these links fail, as `lif blind` says it."""
     vectors, into = vectors_where(code, failed), code.network.links_by(lambda link: link.head)
     return [rank_of(code.field, (vectors[link] for link in into[node])) for node in code.network.sinks]
 
 
-def whole_sinks(code: Code, failed: Collection[int]) -> list[str]:
+def whole_sinks(code: Draft, failed: Collection[int]) -> list[str]:
     """The names of the sinks that `lif blind` serves where these links fail: those whose rank is the code's rate."""
     network, ranks = code.network, ranks_where(code, failed)
     return [network.nodes[node] for node, rank in zip(network.sinks, ranks) if rank == code.rate]
@@ -834,6 +889,91 @@ def check_failure(code: Code) -> str | None:
                 row, column, found = wrong
                 return f"demand {network.nodes[node]} {pattern.name} row {row} column {column} found {found}"
     return None
+
+
+# Decoders of drafts
+
+
+@dataclass(frozen=True)
+class Confusion:
+    """A demand that doesn't decode, by its number, and elements that every link into its sink carries as 0: not all are 0."""
+
+    demand: int
+    block: Vector
+
+
+class _Rows:
+    """Rows with the same sums of multiples as those taken in so far. Each has its first element that isn't 0 within the first
+    elements, as many as the width; that is 1, and 0 in the others."""
+
+    def __init__(self, field: int, width: int):
+        self.field, self.width, self.product = field, width, product_of(field)
+        # Each by the place of that element.
+        self.rows: dict[int, list[int]] = {}
+
+    def _less(self, row: list[int], times: int, other: list[int]) -> list[int]:
+        """The row, less so many times another one."""
+        return [a ^ self.product(times, b) if b else a for a, b in zip(row, other)] if times else row
+
+    def take_in(self, row: Sequence[int]) -> bool:
+        """Whether it was no sum of multiples of those before."""
+        left = list(row)
+        for place, other in self.rows.items():
+            left = self._less(left, left[place], other)
+        first = next((place for place in range(self.width) if left[place]), None)
+        if first is None:
+            return False
+        by = inverse_of(self.field, left[first])
+        left = [self.product(by, element) for element in left]
+        for place, other in self.rows.items():
+            self.rows[place] = self._less(other, other[first], left)
+        self.rows[first] = left
+        return True
+
+    def hidden(self) -> Vector:
+        """Elements, not all 0, with which every row adds up to 0, where fewer rows are there than the width."""
+        free = next(place for place in range(self.width) if place not in self.rows)
+        return tuple(
+            1 if place == free else self.rows[place][free] if place in self.rows else 0 for place in range(self.width)
+        )
+
+
+def chosen_links(draft: Draft, links: Iterable[int], vectors: Sequence[Vector]) -> list[int]:
+    """Of links those whose vector isn't a sum of multiples of the vectors of earlier ones."""
+    rows = _Rows(draft.field, draft.rate)
+    return [link for link in links if rows.take_in(vectors[link])]
+
+
+def decoder_of(draft: Draft, links: Sequence[int], vectors: Sequence[Vector]) -> Decoder:
+    """The decoder with these links, as many as the rate and none a sum of multiples of others: its matrix is the inverse of
+    that of their vectors."""
+    rate, rows = draft.rate, _Rows(draft.field, draft.rate)
+    for place, link in enumerate(links):
+        rows.take_in([*vectors[link], *unit_vector(rate, place)])
+    return Decoder(tuple(links), [element for place in range(rate) for element in rows.rows[place][rate:]])
+
+
+def finish(draft: Draft) -> Code | Confusion:
+    """The code that `lif finish` makes of a draft, or else the first demand that doesn't decode."""
+    network = draft.network
+    decoders: list[Decoder] = []
+    into = network.links_by(lambda link: link.head)
+    vectors = [vectors_of(draft, pattern) for pattern in range(len(network.patterns))]
+    for node in network.sinks:
+        for carried in vectors:
+            links = chosen_links(draft, into[node], carried)
+            if len(links) < draft.rate:
+                rows = _Rows(draft.field, draft.rate)
+                for link in links:
+                    rows.take_in(carried[link])
+                return Confusion(len(decoders), rows.hidden())
+            decoders.append(decoder_of(draft, links, carried))
+    return Code(network, draft.field, draft.rate, draft.operands, tuple(decoders))
+
+
+def draft_of(code: Draft) -> Draft:
+    """A code without its decoders."""
+    return Draft(code.network, code.field, code.rate, code.operands)
 
 
 # Blocks

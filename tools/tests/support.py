@@ -28,7 +28,14 @@ from lif_tools.formats import Link, Network, Pattern, Refused  # noqa: E402
 
 
 # The module of each tool.
-MODULES = {"lif-draw": "draw", "lif-estimate": "estimate", "lif-gain": "gain", "lif-import": "importing", "lif-plan": "plan"}
+MODULES = {
+    "lif-draft": "drafting",
+    "lif-draw": "draw",
+    "lif-estimate": "estimate",
+    "lif-gain": "gain",
+    "lif-import": "importing",
+    "lif-plan": "plan",
+}
 
 
 def run_tool(name: str, *words: object, **options: Any) -> subprocess.CompletedProcess[str]:

@@ -19,8 +19,16 @@ NET, CODE = EXAMPLES / "butterfly/butterfly.net", EXAMPLES / "butterfly/butterfl
 POLSKA = EXAMPLES / "polska/polska.graphml"
 
 # The words with which each tool is called, behind its input.
-INPUTS: dict[str, Path] = {"lif-draw": NET, "lif-estimate": CODE, "lif-gain": NET, "lif-import": POLSKA, "lif-plan": CODE}
+INPUTS: dict[str, Path] = {
+    "lif-draft": CODE,
+    "lif-draw": NET,
+    "lif-estimate": CODE,
+    "lif-gain": NET,
+    "lif-import": POLSKA,
+    "lif-plan": CODE,
+}
 MORE: dict[str, list[object]] = {
+    "lif-draft": ["-o", os.devnull],
     "lif-draw": ["--code", CODE, "-o", "-"],
     "lif-estimate": ["--bytes", 1000],
     "lif-gain": [],
@@ -114,7 +122,7 @@ def test_ctrl_c_ends_quietly(name: str, tmp_path: Path) -> None:
 @EACH
 def test_json_is_one_object(name: str, tmp_path: Path) -> None:
     words = MORE[name][:-2] if "-o" in MORE[name] else MORE[name]
-    output = ["-o", tmp_path / "made"] if name == "lif-import" else []
+    output = ["-o", tmp_path / "made"] if name in ("lif-draft", "lif-import") else []
     done = run_tool(name, INPUTS[name], *words, *output, "--json")
     assert (done.returncode, done.stderr) == (0, "")
     said = json.loads(done.stdout)

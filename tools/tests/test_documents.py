@@ -74,6 +74,7 @@ def test_output_follows_from_the_input_alone(top: Path) -> None:
         ["lif-gain", top / "examples/butterfly/butterfly.net"],
         ["lif-estimate", top / "examples/butterfly/butterfly.lif", "--bytes", "1"],
         ["lif-plan", top / "examples/butterfly/butterfly.lif"],
+        ["lif-draft", top / "examples/polska/polska.net", "--rate", "2", "--random", "7", "--json", "-o", os.devnull],
     ]
     for call in calls:
         name, *words = call

@@ -52,7 +52,7 @@ def folder(tmp_path: Path) -> Path:
 
 
 def test_words_are_completed(folder: Path) -> None:
-    words = ["blind", "check", "compile", "cuts", "demo", "migrate", "order", "relay", "send", "sink"]
+    words = ["blind", "check", "compile", "cuts", "demo", "finish", "migrate", "order", "relay", "send", "sink"]
     assert completed(folder, "lif", "") == words
     assert completed(folder, "./lif", "c") == ["check", "compile", "cuts"]
 
@@ -64,6 +64,9 @@ def test_files_are_completed(folder: Path) -> None:
     assert completed(folder, "lif", "send", "a.lif", "none", "1", "f") == ["film.mp4"]
     assert completed(folder, "lif", "migrate", "") == completed(folder, "lif", "migrate", "a.lif", "") == ["my code.lif", "old"]
     assert completed(folder, "lif", "compile", "one.net", "b.lif", "n") == ["notes.txt"]
+    (folder / "one.draft").write_text("")
+    assert completed(folder, "lif", "finish", "") == completed(folder, DRAFT, "one.net", "-o", "") == ["old", "one.draft"]
+    assert completed(folder, "lif", "finish", "one.draft", "") == ["my code.lif", "old"]
 
 
 def test_patterns_are_completed(folder: Path) -> None:
@@ -110,7 +113,7 @@ def completed_by_zsh(folder: Path, *words: str) -> list[str]:
     return sorted(filter(None, done.stdout.splitlines()))
 
 
-DRAW, IMPORT, ESTIMATE, PLAN = (str(TOOLS / f"lif-{name}") for name in ("draw", "import", "estimate", "plan"))
+DRAFT, DRAW, IMPORT, ESTIMATE, PLAN = (str(TOOLS / f"lif-{name}") for name in ("draft", "draw", "import", "estimate", "plan"))
 # A link and a bundle.
 BUNDLED = "source s\nsink t\nlink l s t\nlink k s t x3 # far\n"
 NET = "source s\nsink t\nsink u # far\nlink l s t\nlink k s u\npattern duct l\n"
@@ -128,6 +131,9 @@ OFFERED = [
     ((IMPORT, "--field", ""), ["16", "8"], ""),
     ((IMPORT, "--format", ""), ["dot", "gml", "graphml", "json"], ""),
     ((IMPORT, "--capacity", ""), [], ""),
+    ((DRAFT, "--field", ""), ["16", "8", "9"], ""),
+    ((DRAFT, "--random", ""), [], ""),
+    ((DRAFT, ""), ["my code.lif", "old", "one.net", "two.net"], "*.(lif|net)"),
 ]
 
 
@@ -152,6 +158,8 @@ def test_zsh_completes_the_words_of_the_tools(folder: Path) -> None:
     assert completed_by_zsh(folder, "lif", "") == completed(folder, "lif", "")
     assert completed_by_zsh(folder, "lif", "migrate", "a.lif", "") == ["files *.lif"]
     assert completed_by_zsh(folder, "lif", "send", "my\\ code.lif", "") == ["duct", "dust", "none"]
+    assert completed_by_zsh(folder, "lif", "finish", "") == completed_by_zsh(folder, DRAFT, "-o", "") == ["files *.draft"]
+    assert completed_by_zsh(folder, "lif", "finish", "a.draft", "") == ["files *.lif"]
     assert completed_by_zsh(folder, "lif", "blind", "") == ["files *.lif"]
     assert completed_by_zsh(folder, "lif", "blind", "a.lif", "") == completed_by_zsh(folder, "lif", "blind", "a.lif", "b", "")
     assert completed_by_zsh(folder, "lif", "blind", "my\\ code.lif", "a", "b", "k", "") == ["k", "l"]
@@ -201,5 +209,5 @@ def test_the_man_page_has_every_word_and_every_status() -> None:
         word, *names = form.split()
         assert f".Cm {word}\n.Ar {' '.join(names)}\n" in page()
     statuses = STATUSES.findall((TOP / "docs/FORMATS.md").read_text())
-    assert len(statuses) == 20
+    assert len(statuses) == 21
     assert [number for _, number in statuses] == re.findall(r"^\.It (\d+)$", page(), re.MULTILINE)

@@ -65,7 +65,7 @@ module _ (code : Code) (batches : ℕ) (made : List (Result (Option Failure) All
             | inl before ↦ are.clear earlier on before
             | inr behind ↦ is.before earlier behind lower
           ];
-          entry = is.entry;
+          shown = is.shown;
         }
 
   -- after the last batch no demand fails

@@ -1,4 +1,3 @@
 pub mod CheckingLaws
 pub mod ProductSteps
-pub mod FirstSteps
 pub mod BatchSteps

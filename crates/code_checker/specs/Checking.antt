@@ -1,5 +1,6 @@
 -- Which demand of a code fails first, and where.
-use Rattle.std.specs.Prelude.{◌≡◌, ◌≢◌, ℕ, ◌<◌, ◌≤◌, List, [], length, slice_index, slice_index_or}
+use Rattle.std.specs.Prelude.{◌≡◌, ◌≢◌, ℕ, ◌<◌, List, [], length, slice_index, slice_index_or}
+use Rattle.failure_patterns.specs.First as demands
 use Rattle.linear_algebra.specs.Matrices.{identity, times_rows}
 use Rattle.linear_algebra.specs.Rows.{unit_row}
 use Rattle.link_rows.specs.Vectors.{AreVectorRows}
@@ -13,6 +14,10 @@ use Rattle.code_checker.specs.declared.checked.CheckRefusal.TheVariants.{NotIden
 -- a demand's decoder times the vectors of its links
 abbrev pub demand_product : Code → ℕ → List (List ℕ)
 demand_product code demand = times_rows code.field code.rate (decoder_matrix code demand) (decoder_vectors code demand)
+
+-- that product is the identity
+abbrev pub IsIdentity : Code → ℕ → Type 0
+IsIdentity code demand = demand_product code demand ≡ identity code.rate
 
 -- the entry in a row and a column
 abbrev pub entry_at : List (List ℕ) → ℕ → ℕ → ℕ
@@ -40,11 +45,9 @@ pub record DiffersAt (width row : ℕ) (entries : List ℕ) (column found : ℕ)
   pub before : (j : ℕ) → j < column → slice_index entries j ≡ slice_index (unit_row width row) j
 
 -- of the demands from one number on and below another, the first whose product isn't the identity, and where it differs first
-pub record FailsFirstIn (code : Code) (from to demand row column found : ℕ) : Type 0 where
-  pub from_on : from ≤ demand
-  pub within : demand < to
-  pub before : (earlier : ℕ) → from ≤ earlier → earlier < demand → demand_product code earlier ≡ identity code.rate
-  pub entry : DiffersFirst code.rate (demand_product code demand) row column found
+abbrev pub FailsFirstIn : Code → ℕ → ℕ → ℕ → ℕ → ℕ → ℕ → Type 0
+FailsFirstIn code from to demand row column found =
+    demands.FailsFirstIn (IsIdentity code) from to demand (DiffersFirst code.rate (demand_product code demand) row column found)
 
 -- the first demand of all whose product isn't the identity, and where it differs first
 abbrev pub FailsFirst : Code → ℕ → ℕ → ℕ → ℕ → Type 0

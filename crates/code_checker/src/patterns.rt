@@ -1,12 +1,11 @@
 //! The demands of one batch, gone through pattern by pattern.
 ghost use Rattle.std.specs.Prelude.{◌≡◌, ◌<◌, ◌≤◌, ◌+◌, length, IfOk};
-ghost use Rattle.failure_patterns.specs.UsedField.{pair_demands};
 ghost use Rattle.net_model.specs.Demands.{demand_count};
 ghost use Rattle.code_checker.specs.Checking.{AreVectorsIn};
-ghost use Rattle.code_checker.specs.First.{IsFirstBefore, IsFirstIn, IsFirstOf, limit_of, sinks_below};
+ghost use Rattle.code_checker.specs.First.{IsFirstBefore, IsFirstIn, IsFirstOf, limit_of};
 
 use crate::products::{Failure, difference};
-use failure_patterns::number_of;
+use failure_patterns::{number_of, sinks_below};
 use field_rows::RowTables;
 use link_rows::{LinkRows, vector_rows};
 use net_model::Demand;
@@ -49,8 +48,8 @@ fn first_up_to(
     requires before { IsFirstBefore code.now from to pattern first }
     ensures { IfOk result (IsFirstBefore code.now from to (pattern + 1)) }
 {
-    let begin = sinks_below(code, pattern, from);
-    let end = sinks_below(code, pattern, limit_of(to, &first));
+    let begin = sinks_below(&code.net, pattern, from);
+    let end = sinks_below(&code.net, pattern, limit_of(to, &first));
     if end <= begin {
         return Ok(first);
     }
@@ -68,16 +67,6 @@ fn limit_of(to: u32, first: &Option<Failure>) -> u32
         Some(failure) => failure.demand,
         None => to,
     }
-}
-
-// How many sinks' demands with a pattern are below a number.
-fn sinks_below(code: &Code, pattern: u32, number: u32) -> u32
-    requires pattern { pattern < length code.now.net.patterns }
-    requires number { number ≤ pair_demands }
-    ensures { result ≡ sinks_below (length code.now.net.patterns) pattern number }
-{
-    let patterns = code.net.patterns.len() as u32;
-    (number + patterns - 1 - pattern) / patterns
 }
 
 // The first failure with a pattern, of the sinks from one on and before another.

@@ -5,24 +5,18 @@ use Rattle.command_steps.specs.Steps.{Comes, OwedBy}
 use Rattle.lif_outside.specs.Calls.{Outside}
 use Rattle.lif_outside.specs.Files.{Files}
 use Rattle.lif_outside.specs.Told.{Becomes, Told}
-use Rattle.top_base.specs.Outcome.{AddsOutcome, any_cycle, status_unsaid}
+use Rattle.top_base.proofs.PerformingLaws.{done_alike}
+use Rattle.top_base.specs.Outcome.{AddsOutcome, status_unsaid}
 use Rattle.top_base.specs.Performs.{Answers, Behaviour, Decision, IsOwed, by_files, by_words}
 use Rattle.top_base.specs.declared.outcome.Outcome.{Outcome}
-use Rattle.top_base.specs.declared.status.NetWhy.TheVariants.{Cycle, Text}
 use Rattle.top_base.specs.declared.status.Status.{Status}
-use Rattle.top_base.specs.declared.status.Status.TheVariants.{Done, NetRefused}
+use Rattle.top_base.specs.declared.status.Status.TheVariants.{Done}
 
 -- ---- a command that owes to be done
 
 owed_as_told : (decision : Decision) (told : Option Files) (files : Files) (owed : Status) → told ≡ Some files → OwedBy decision files owed → IsOwed decision told owed
 owed_as_told (by_words Owed Due) told files owed is due = due
 owed_as_told (by_files Owed Due) told files owed is due = (files, is, due)
-
--- only a command that is done is alike one that is
-done_alike : (status : Status) → any_cycle status ≡ Done → status ≡ Done
-done_alike (NetRefused (Text why)) e = cc
-done_alike (NetRefused (Cycle links)) e = cc
-done_alike status e = e
 
 pub owed_comes : (does : Behaviour) (status : Status) (before after : Outside) (files : Files) → before.files ≡ Some files → OwedBy does.due files Done → Answers does status before after
     → Comes does status before after

@@ -29,7 +29,7 @@ use Rattle.top_base.proofs.InputLaws.{any-unfailed, not_long, short_held}
 use Rattle.top_base.proofs.LeavingLaws.{happen_later, keep_files, later_among, none_keep, told_at}
 use Rattle.top_base.proofs.PerformingLaws.{is_link_fault, is_read_fault, is_write_fault}
 use Rattle.top_base.specs.Inputs.{HoldsLong, ReadsAny}
-use Rattle.top_base.specs.Outcome.{any_cycle, fault_line, is_fault, is_of_inputs}
+use Rattle.top_base.specs.Outcome.{any_witness, fault_line, is_fault, is_of_inputs}
 use Rattle.top_base.specs.declared.status.Status.{Status}
 use Rattle.top_base.specs.declared.status.Status.TheVariants.{Done, LinkFault, OutOfMemory, ReadFault, TooLong, WriteFault}
 
@@ -315,7 +315,7 @@ module _ (path : List ℕ) (limit : ℕ) (paths : List (List ℕ)) (turns : Bool
         on_store = store_failed outcome.status outcome.line calls.on_store runs.0;
         on_links = ap (list_any moves.is_fault) runs.1 ∙ sym (unlinked outcome.status outcome.line calls.on_store runs.0);
       };
-      alike = λ files due owed is is_owed. ap any_cycle (same_due files due.status due.line owed is_owed.0 is is_owed.1);
+      alike = λ files due owed is is_owed. ap any_witness (same_due files due.status due.line owed is_owed.0 is is_owed.1);
       used = λ outcome calls runs is. subst (λ status. RunsFeeding path limit paths turns line status outcome.line calls.on_store) is runs.0;
       faultless = λ outcome files before after told change works. faultless outcome.status before after change works;
     }

@@ -21,7 +21,7 @@ use Rattle.command_steps.proofs.StepLaws.{IsStep}
 use Rattle.command_steps.specs.Filling.{ChangesFilling, Fills, RaisesNone, RaisesOne, RunsFilling, StopsFilling, files_by, fills}
 use Rattle.top_base.proofs.LeavingLaws.{happen_later, happen_parts, keep_files, later_among, none_keep}
 use Rattle.top_base.proofs.PerformingLaws.{HaveFailedBy}
-use Rattle.top_base.specs.Outcome.{any_cycle, fault_line, is_fault, is_of_inputs}
+use Rattle.top_base.specs.Outcome.{any_witness, fault_line, is_fault, is_of_inputs}
 use Rattle.top_base.specs.declared.outcome.Outcome.{Outcome}
 use Rattle.top_base.specs.declared.status.Status.{Status}
 use Rattle.top_base.specs.declared.status.Status.TheVariants.{Done, OutOfMemory, Usage, WriteFault}
@@ -172,7 +172,7 @@ module _ (paths : List (List ℕ)) (turns : List (List Written)) (appends : AreA
       due = λ outcome deeds before after accounted runs inputs. due_of outcome.status outcome.line deeds.calls.on_store runs.0 inputs;
       lines = λ outcome calls runs not. line_of outcome.status outcome.line calls.on_store runs.0 not;
       causes = λ outcome calls runs. causes outcome.status outcome.line calls runs.0 runs.1;
-      alike = λ due owed is is_owed. ap (λ (o : Outcome). any_cycle o.status) is ∙ sym (ap any_cycle is_owed);
+      alike = λ due owed is is_owed. ap (λ (o : Outcome). any_witness o.status) is ∙ sym (ap any_witness is_owed);
       used = λ outcome calls runs. used_of outcome.status outcome.line calls.on_store runs.0;
       faultless = λ outcome files before after told changed well. faultless outcome.status before after changed well;
     }

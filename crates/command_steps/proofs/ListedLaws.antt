@@ -12,7 +12,7 @@ use Rattle.command_steps.specs.Listed.{IsTaken, LosesOne, ReadsAll, RefusesBytes
 use Rattle.command_steps.specs.Steps.{RunsOrForgets}
 use Rattle.top_base.proofs.InputLaws.{IsInput, forgotten}
 use Rattle.top_base.specs.Inputs.{IsNoMemory, Reads, is_refusal}
-use Rattle.top_base.specs.Outcome.{any_cycle}
+use Rattle.top_base.specs.Outcome.{any_witness}
 use Rattle.top_base.specs.Performs.{Behaviour}
 use Rattle.top_base.specs.declared.outcome.Outcome.{Outcome}
 
@@ -36,7 +36,7 @@ taken_input limit wanted well = record {
   apart = λ bytes taken status line is refuses. not_both (wanted.refusal bytes) (record { status = status; line = line }) is.good refuses;
   alike = λ bytes status line status' line' refuses refuses'.
       let same = some_same (wanted.refusal bytes) (record { status = status; line = line }) (record { status = status'; line = line' }) refuses refuses' in
-      ap (λ (o : Outcome). any_cycle o.status) same;
+      ap (λ (o : Outcome). any_witness o.status) same;
 }
 
 -- the rest comes behind as many inputs as are wanted

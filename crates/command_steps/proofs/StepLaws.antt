@@ -10,7 +10,7 @@ use Rattle.lif_outside.proofs.DeedLaws.{Accounted}
 use Rattle.command_steps.specs.Steps.{DueBy, HasNoFault, IsOrForgets, OwedBy, RunsOrForgets, reads_then, refuses}
 use Rattle.top_base.specs.Acting.{LeavesUnread}
 use Rattle.top_base.specs.Inputs.{Reads}
-use Rattle.top_base.specs.Outcome.{AreAlike, any_cycle, fault_line, is_fault, is_of_inputs}
+use Rattle.top_base.specs.Outcome.{AreAlike, any_witness, fault_line, is_fault, is_of_inputs}
 use Rattle.top_base.specs.Performs.{Behaviour, Decision, IsDueAsTold, IsOwed, by_files, by_words}
 use Rattle.top_base.proofs.ActingLaws.{ActsWell, acts_known, acts_used, runs_only}
 use Rattle.top_base.proofs.InputLaws.{IsInput, forgotten}
@@ -85,7 +85,7 @@ module _ (expected : Outcome) (inputs : IsTrue (is_of_inputs expected.status)) w
     due = λ outcome deeds before after accounted runs of. due_refused outcome runs.0 of;
     lines = λ outcome calls runs not. line_refused outcome runs.0 not;
     causes = λ outcome calls runs. none_failed-by outcome.status calls (no_fault outcome runs.0) runs.1;
-    alike = λ due owed is is_owed. ap (λ (o : Outcome). any_cycle o.status) is ∙ sym (ap any_cycle is_owed);
+    alike = λ due owed is is_owed. ap (λ (o : Outcome). any_witness o.status) is ∙ sym (ap any_witness is_owed);
     used = λ outcome calls runs. of_either (λ status. status ≢ Usage) outcome used (λ is. cc) runs.0;
     faultless = λ outcome files before after told changed well. no_fault outcome changed.0;
   }

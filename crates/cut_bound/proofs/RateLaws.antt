@@ -30,7 +30,7 @@ use Rattle.cut_bound.proofs.HiddenLaws.{IsHidden-hidden}
 use Rattle.cut_bound.proofs.CutLaws.{zero_behind_cut}
 
 -- rows of one element each
-abbrev single_rows : List ℕ → List (List ℕ)
+abbrev pub single_rows : List ℕ → List (List ℕ)
 single_rows elements = map (λ element. element ∷ []) elements
 
 -- they are rows
@@ -42,17 +42,17 @@ AreRows-single_rows field (x ∷ xs) are = (
 )
 
 -- some rows of one element each have the width 1
-width_of-single_rows : (elements : List ℕ) → 1 ≤ length elements → width_of (single_rows elements) ≡ 1
+pub width_of-single_rows : (elements : List ℕ) → 1 ≤ length elements → width_of (single_rows elements) ≡ 1
 width_of-single_rows [] some = absurd (omega arith)
 width_of-single_rows (x ∷ xs) some = refl
 
 -- their elements
-column-single_rows : (elements : List ℕ) → column 0 (single_rows elements) ≡ elements
+pub column-single_rows : (elements : List ℕ) → column 0 (single_rows elements) ≡ elements
 column-single_rows [] = refl
 column-single_rows (x ∷ xs) = ap (λ (rest : List ℕ). x ∷ rest) (column-single_rows xs)
 
 -- as many rows of one element each as the rate are a block
-IsBlock-single_rows : (field : FieldKind) (rate : ℕ) (elements : List ℕ) → 1 ≤ rate → IsRow field rate elements → IsBlock field rate (single_rows elements)
+pub IsBlock-single_rows : (field : FieldKind) (rate : ℕ) (elements : List ℕ) → 1 ≤ rate → IsRow field rate elements → IsBlock field rate (single_rows elements)
 IsBlock-single_rows field rate elements some is =
     IsBlock-rows field rate 1 (single_rows elements) (length-map elements (λ element. element ∷ []) ∙ is.width)
     (width_of-single_rows elements (omega (arith, is.width))) (AreRows-single_rows field elements is.elements)
@@ -73,7 +73,7 @@ AreRows-vectors draft failed [] = tt
 AreRows-vectors draft failed (link ∷ links) = (IsRow-global_vector draft failed link, AreRows-vectors draft failed links)
 
 -- of a block with rows of one element each, a link carries the product of its vector and the elements
-value-single_rows : {net : Net} {rate : ℕ} {field : FieldKind} {operands : List (List Operand)} → IsDraft net rate field operands
+pub value-single_rows : {net : Net} {rate : ℕ} {field : FieldKind} {operands : List (List Operand)} → IsDraft net rate field operands
     → (failed elements : List ℕ) → IsRow field rate elements → (link : ℕ)
     → value net field operands failed (single_rows elements) link ≡ dot field (global_vector net field operands failed rate link) elements ∷ []
 value-single_rows {net} {rate} {field} {operands} draft failed elements is link =

@@ -2,3 +2,4 @@ pub mod Batches
 pub mod Demands
 pub mod UsedField
 pub mod Rate
+pub mod First

@@ -1,14 +1,16 @@
 //! The demands of a network in order, each a sink with a pattern, and the field that serves them.
 //!
-//! `demands` counts them, `demand_at` gives the one of a number and `number_of` its number, `used_field` the field.
-//! Read `specs/Demands.antt`, `specs/UsedField.antt`, and `specs/Rate.antt`, what the rate of a network is, and the
-//! first demand with a cut of a kind.
+//! `demands` counts them, `demand_at` gives the one of a number and `number_of` its number, `sinks_below` how many with
+//! a pattern are below a number, `used_field` the field. Read `specs/Demands.antt`, `specs/UsedField.antt`,
+//! `specs/Rate.antt`, what the rate of a network is, and the first demand with a cut of a kind, and `specs/First.antt`,
+//! the first demand that fails.
 #![tactic(auto)]
 
-ghost use Rattle.std.specs.Prelude.{◌≡◌, ◌↔◌, ◌/◌, ◌%◌, ◌<◌, ◌^◌, IsNone, length, slice_index};
+ghost use Rattle.std.specs.Prelude.{◌≡◌, ◌↔◌, ◌/◌, ◌%◌, ◌<◌, ◌≤◌, ◌^◌, IsNone, length, slice_index};
 ghost use Rattle.net_model.specs.Demands.{demand_count, pattern_of_demand, sink_of_demand};
 ghost use Rattle.failure_patterns.specs.Demands.{demand_of, number_of};
-ghost use Rattle.failure_patterns.specs.UsedField.{most_demands, used_field};
+ghost use Rattle.failure_patterns.specs.First.{sinks_below};
+ghost use Rattle.failure_patterns.specs.UsedField.{most_demands, pair_demands, used_field};
 
 mod batches;
 
@@ -66,6 +68,16 @@ fn demand_among(patterns: u64, i: u64) -> Demand
         sink: (i / patterns) as u32,
         pattern: (i % patterns) as u32,
     }
+}
+
+/// How many sinks' demands with a pattern are below a number. As many of the first sinks are those.
+pub fn sinks_below(net: &Net, pattern: u32, number: u32) -> u32
+    requires pattern { pattern < length net.now.patterns }
+    requires number { number ≤ pair_demands }
+    ensures { result ≡ sinks_below (length net.now.patterns) pattern number }
+{
+    let patterns = net.patterns.len() as u32;
+    (number + patterns - 1 - pattern) / patterns
 }
 
 /// The field for the network's demands: the one that is written, and else the smallest that serves them. `None`

@@ -10,19 +10,16 @@ use Rattle.std.proofs.lemmas.List.Folds.{list_any-append, list_any_at}
 use Rattle.std.proofs.lemmas.List.FromFn.{get_or-range_with_len, length-range_with_len}
 use Rattle.std.proofs.lemmas.List.Sorted.{All-permutation, length_permutation}
 use Rattle.std.proofs.lemmas.List.Sums.{list_all-from_AllPass}
-use Rattle.std.proofs.lemmas.Option.{slice_get_within}
 use Rattle.std.specs.declared.cmp.PartialEq.{Ghosts as EqualityWords}
 use Rattle.gf_tables.specs.declared.field.Field.{Ghosts as FieldWords}
 use Rattle.gf_tables.specs.Product.{size_of}
-use Rattle.gf_tables.specs.declared.kind.FieldKind.{FieldKind}
-use Rattle.failure_patterns.proofs.DemandLaws.{length-sinks_of_demands, slice_index-sinks_of_demands}
 use Rattle.failure_patterns.specs.Demands.{demand_of}
 use Rattle.field_vectors.specs.Elements.{column_of}
 use Rattle.field_vectors.proofs.InverseLaws.{column_of-elements}
 use Rattle.field_vectors.proofs.NumberLaws.{number-dot_of, numbers-column_of, numbers-matrix}
 use Rattle.linear_algebra.specs.Elements.{numbers}
 use Rattle.linear_algebra.specs.Rows.{AreRows, dot}
-use Rattle.net_model.specs.Demands.{demand_count, pattern_of_demand, sink_of_demand, sinks_of_demands}
+use Rattle.net_model.specs.Demands.{demand_count, pattern_of_demand, sink_of_demand}
 use Rattle.net_model.specs.Failed.{failed_links}
 use Rattle.net_model.specs.Flows.{IsPath, flow_network}
 use Rattle.net_model.proofs.ListLaws.{is_among-same}
@@ -30,7 +27,7 @@ use Rattle.net_model.specs.Lists.{are_distinct, is_among}
 use Rattle.net_model.proofs.WalkLaws.{IsWalk-below}
 use Rattle.net_model.specs.declared.net.Net.{Net}
 use Rattle.node_program.proofs.LinkLaws.{leads_into-head_of}
-use Rattle.node_program.specs.Code.{IsCode, IsDraft, are_decoders, is_decoder, leads_into}
+use Rattle.node_program.specs.Code.{IsCode, IsDraft, is_decoder, leads_into}
 use Rattle.node_program.specs.Decoding.{IsAccepted}
 use Rattle.node_program.specs.Value.{global_vector}
 use Rattle.node_program.specs.declared.Decoder.{Decoder}
@@ -50,6 +47,7 @@ use Rattle.lif_compiler.proofs.BasesLaws.{LawsOf}
 use Rattle.lif_compiler.specs.ReadOff.{AreApart, AreReached}
 use Rattle.lif_compiler.proofs.VisitLaws.{frontier-at}
 use Rattle.lif_compiler.specs.Visits.{AreRoutes, IsVisited, paths_of, vector_under}
+use Rattle.node_program.proofs.DecodingLaws.{are_decoders-demands}
 
 -- of numbers of which none stands twice, those at the front don't stand behind it
 apart_behind : (xs ys : List ℕ) (q : ℕ) → are_distinct nat_eq (xs ++ ys) ≡ true → is_among xs q ≡ true → is_among ys q ≡ false
@@ -100,26 +98,6 @@ module _ {X : Type 0} {F : FieldWords X} {E : EqualityWords X} (L : LawsOf F) wh
             ∙ ap F.number (dual.spans i j below inside)
             ∙ elim (i == j) as (λ b. F.number (if b then F.one else F.zero) ≡ (if b then 1 else 0)) [ true ↦ L.numbering.number_one | false ↦ L.numbering.number_zero ];
       }
-
--- a decoder for each sink, by their places
-are_decoders-each : (net : Net) (rate : ℕ) (field : FieldKind) (sinks : List ℕ) (decoders : List Decoder) → length decoders ≡ length sinks
-    → ((place : ℕ) (decoder : Decoder) → slice_get decoders place ≡ Some decoder → is_decoder net rate field (slice_index sinks place) decoder ≡ true)
-    → are_decoders net rate field sinks decoders ≡ true
-are_decoders-each net rate field [] [] count each = refl
-are_decoders-each net rate field [] (decoder ∷ decoders) count each = absurd (omega arith)
-are_decoders-each net rate field (sink ∷ sinks) [] count each = absurd (omega arith)
-are_decoders-each net rate field (sink ∷ sinks) (decoder ∷ decoders) count each =
-    and_from _ _ (each 0 decoder refl) (are_decoders-each net rate field sinks decoders (omega arith) (λ place one at. each (suc place) one at))
-
--- a decoder for each demand
-pub are_decoders-final : (net : Net) (rate : ℕ) (field : FieldKind) (decoders : List Decoder) → length decoders ≡ demand_count net
-    → ((demand : ℕ) (decoder : Decoder) → demand < demand_count net → slice_get decoders demand ≡ Some decoder → is_decoder net rate field (sink_of_demand net demand) decoder ≡ true)
-    → are_decoders net rate field (sinks_of_demands net) decoders ≡ true
-are_decoders-final net rate field decoders count each =
-    are_decoders-each net rate field (sinks_of_demands net) decoders (count ∙ sym (length-sinks_of_demands net))
-    (λ demand decoder at.
-    let within : demand < demand_count net = omega (arith, slice_get_within decoders demand decoder at, count) in
-    ap (λ sink. is_decoder net rate field sink decoder) (slice_index-sinks_of_demands net demand within) ∙ each demand decoder within at)
 
 module _ {X : Type 0} {F : FieldWords X} {E : EqualityWords X} {net : Net} {routes : Routes} {code : PartialCode X F E}
     (are : AreRoutes net code.rate routes) (whole : length code.operands.items ≡ length net.links) (is : IsVisited net routes code) where
@@ -247,7 +225,7 @@ module _ {X : Type 0} {F : FieldWords X} {E : EqualityWords X} {net : Net} {rout
     pub IsCode-final : size ≡ size_of (marked_kind F.MARK) → length decoders ≡ demand_count net → IsCode net code.rate (marked_kind F.MARK) code.operands.items decoders
     IsCode-final same count = record {
       draft = subst (IsDraft net code.rate (marked_kind F.MARK)) (draft_of-whole (length net.links) code.operands.items whole) is.chosen.draft;
-      demand_decoders = are_decoders-final net code.rate (marked_kind F.MARK) decoders count
+      demand_decoders = are_decoders-demands net code.rate (marked_kind F.MARK) decoders count
           (λ demand decoder within at. is_decoder-final demand decoder within (read demand decoder within at) same);
     }
 

@@ -14,6 +14,7 @@ pub use Rattle.top_base.specs.Accepting
 pub use Rattle.top_base.specs.Acting
 pub use Rattle.top_base.specs.Causes
 pub use Rattle.top_base.specs.CodeFiles
+pub use Rattle.top_base.specs.DraftFiles
 pub use Rattle.top_base.specs.Inputs
 pub use Rattle.top_base.specs.Inspecting
 pub use Rattle.top_base.specs.Lines
@@ -25,8 +26,10 @@ pub use Rattle.top_base.specs.Performs
 pub use Rattle.top_base.specs.Words
 pub use Rattle.source_turns.specs.Turns as SourceTurns
 pub use Rattle.top_tools.specs.Check
+pub use Rattle.top_tools.specs.CodeWriting
 pub use Rattle.top_tools.specs.Compile
 pub use Rattle.top_tools.specs.Cuts
+pub use Rattle.top_tools.specs.Finish
 pub use Rattle.top_tools.specs.Migrate
 pub use Rattle.top_tools.specs.Order
 pub use Rattle.command_steps.specs.Feeding
@@ -34,9 +37,14 @@ pub use Rattle.command_steps.specs.Filling
 pub use Rattle.command_steps.specs.Listed
 pub use Rattle.command_steps.specs.Steps
 pub use Rattle.code_checker.specs.Checking
+pub use Rattle.code_file.specs.Drafts
 pub use Rattle.code_file.specs.Items
 pub use Rattle.code_file.specs.Reading
+pub use Rattle.code_finish.specs.Finished
+pub use Rattle.code_finish.specs.Solved
+pub use Rattle.code_finish.specs.Taken
 pub use Rattle.cut_witness.specs.Certificate
+pub use Rattle.failure_patterns.specs.First
 pub use Rattle.failure_patterns.specs.Rate
 pub use Rattle.failure_patterns.specs.UsedField
 pub use Rattle.generation_frame.specs.Blocks

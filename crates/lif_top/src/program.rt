@@ -12,7 +12,7 @@ use top_base::{Command, Outcome, Status, command_of, conclude};
 use top_blind::blind;
 use top_nodes::{relay, sink};
 use top_runs::{demo, send};
-use top_tools::{check, compile, cuts, migrate, order};
+use top_tools::{check, compile, cuts, finish, migrate, order};
 
 // What the words come to: the command that they are, or the usage.
 fn carry_out<'a, S: Store, L: Links, G: Gate + Sync, R: Threads + Sync>(
@@ -42,6 +42,7 @@ fn carry_out<'a, S: Store, L: Links, G: Gate + Sync, R: Threads + Sync>(
         Command::Relay(given) => relay(rt, alloc, &given, store, gate),
         Command::Sink(given) => sink(rt, alloc, &given, store, gate),
         Command::Blind(given) => blind(alloc, &given, store),
+        Command::Finish(given) => finish(alloc, &given, store),
     }
 }
 
@@ -69,6 +70,8 @@ fn carry_out<'a, S: Store, L: Links, G: Gate + Sync, R: Threads + Sync>(
 /// - `blind CODE SRC PREFIX LINK`, with any number of links, reads a code file, accepted or not, and where these links fail makes
 ///   `PREFIX.<sink>` for each sink whose vectors have the rank of the code. It carries the file at SRC as headed frames of the
 ///   code and writes to each what the sink decodes by their vectors, and says the rank of each sink.
+/// - `finish DRAFT CODE` reads a draft's file, finds a decoder for each demand, and writes the code; or it says the first demand
+///   that doesn't decode, with a block that shows it.
 ///
 /// The jobs of certificates, of a compilation, of a check and of the sinks that decode enter the gate.
 pub fn lif<S: Store, C: Sink, L: Links, G: Gate + Sync, R: Threads + Sync>(

@@ -2,7 +2,8 @@
 -- identity, and then what the links into the sink carry tells the blocks apart.
 use Rattle.std.specs.Prelude.{◌≡◌, ℕ, zero, suc, ◌*◌, ◌<◌, ◌≤◌, ◌↔◌, true, nat_lt, Some, List, [], ◌∷◌, IsTrue, length, map, slice_get, slice_index}
 use Rattle.std.proofs.Common.{refl, sym, ap, ◌∙◌, subst, arith}
-use Rattle.std.proofs.lemmas.Bool.{and_parts, false≢true, eqb-true, ltb-true}
+use Rattle.std.proofs.lemmas.Bool.{and_from, and_parts, false≢true, eqb-true, ltb-true}
+use Rattle.std.proofs.lemmas.Option.{slice_get_within}
 use Rattle.item_list.proofs.Tests.{passes_at}
 use Rattle.item_list.proofs.Maps.{map-agree}
 use Rattle.gf_tables.specs.Product.{size_of}
@@ -68,6 +69,26 @@ decoder_of_demand {net} {rate} {field} {operands} {decoders} code demand within 
     let found = decoder_of_sink net rate field (sinks_of_demands net) decoders demand code.demand_decoders inside in
     let At : ℕ → Type 0 = λ sink. IsDecoder net rate field sink found.0 in
     (found.0, found.1, subst At (slice_index-sinks_of_demands net demand within) found.2)
+
+-- a decoder for each sink, by their places
+are_decoders-each : (net : Net) (rate : ℕ) (field : FieldKind) (sinks : List ℕ) (decoders : List Decoder) → length decoders ≡ length sinks
+    → ((place : ℕ) (decoder : Decoder) → slice_get decoders place ≡ Some decoder → is_decoder net rate field (slice_index sinks place) decoder ≡ true)
+    → are_decoders net rate field sinks decoders ≡ true
+are_decoders-each net rate field [] [] count each = refl
+are_decoders-each net rate field [] (decoder ∷ decoders) count each = absurd (omega arith)
+are_decoders-each net rate field (sink ∷ sinks) [] count each = absurd (omega arith)
+are_decoders-each net rate field (sink ∷ sinks) (decoder ∷ decoders) count each =
+    and_from _ _ (each 0 decoder refl) (are_decoders-each net rate field sinks decoders (omega arith) (λ place one at. each (suc place) one at))
+
+-- a decoder for each demand
+pub are_decoders-demands : (net : Net) (rate : ℕ) (field : FieldKind) (decoders : List Decoder) → length decoders ≡ demand_count net
+    → ((demand : ℕ) (decoder : Decoder) → demand < demand_count net → slice_get decoders demand ≡ Some decoder → is_decoder net rate field (sink_of_demand net demand) decoder ≡ true)
+    → are_decoders net rate field (sinks_of_demands net) decoders ≡ true
+are_decoders-demands net rate field decoders count each =
+    are_decoders-each net rate field (sinks_of_demands net) decoders (count ∙ sym (length-sinks_of_demands net))
+    (λ demand decoder at.
+    let within : demand < demand_count net = omega (arith, slice_get_within decoders demand decoder at, count) in
+    ap (λ sink. is_decoder net rate field sink decoder) (slice_index-sinks_of_demands net demand within) ∙ each demand decoder within at)
 
 -- so the decoder that a code has for a demand is one
 pub decoder_shape : (code : Code) (demand : ℕ) (decoder : Decoder) → demand < demand_count code.net → slice_get code.decoders demand ≡ Some decoder

@@ -7,3 +7,4 @@ pub mod ClearSteps
 pub mod LeadSteps
 pub mod HiddenSteps
 pub mod SpanSteps
+pub mod DecidedLaws

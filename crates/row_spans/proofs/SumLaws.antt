@@ -173,3 +173,9 @@ HaveSameSums-vectors field width rate rows others within are others_are same =
     same_sums field rate (vectors rate rows) (vectors rate others) (AreRows-vectors field width rate rows within are) (AreRows-vectors field width rate others within others_are)
     (each_vector field width rate others rows within (each_of_same field width rows others are same))
     (each_vector field width rate rows others within (each_of_same field width others rows others_are (HaveSameSums-back field width rows others same)))
+
+-- a sum of multiples of rows, put before them, adds no sum
+pub HaveSameSums-sum : (field : FieldKind) (width : ℕ) (rows : List (List ℕ)) (row : List ℕ) → AreRows field width rows → IsRow field width row → IsSum field width rows row
+    → HaveSameSums field width rows (row ∷ rows)
+HaveSameSums-sum field width rows row are is sum =
+    same_sums field width rows (row ∷ rows) are (is, are) (each_IsSum field width (row ∷ rows) (is, are)).1 (sum, each_IsSum field width rows are)

@@ -11,7 +11,7 @@ use Rattle.top_base.specs.Accepting.{IsCodeOf, RefusesCode}
 use Rattle.top_base.proofs.CodeFileLaws.{file_apart, same_file_refusal}
 use Rattle.top_base.proofs.InputLaws.{IsInput}
 use Rattle.top_base.specs.Inputs.{is_refusal}
-use Rattle.top_base.specs.Outcome.{any_cycle}
+use Rattle.top_base.specs.Outcome.{any_witness}
 use Rattle.top_base.proofs.SameCode.{same_code}
 use Rattle.top_base.specs.declared.status.Status.{Status}
 use Rattle.top_base.specs.declared.status.Status.TheVariants.{CodeRefused, CheckFailed}
@@ -27,7 +27,7 @@ same_entry size rows i j found k l other one two =
 -- the first demand that fails
 not_earlier : (code : Code) (demand i j found demand' k l other : ℕ) → FailsFirst code demand i j found → FailsFirst code demand' k l other → ¬ (demand < demand')
 not_earlier code demand i j found demand' k l other one two lt =
-    one.entry.differs (one.entry.value ∙ ap (λ (rows : List (List ℕ)). entry_at rows i j) (two.before demand one.from_on lt))
+    one.shown.differs (one.shown.value ∙ ap (λ (rows : List (List ℕ)). entry_at rows i j) (two.before demand one.from_on lt))
 
 -- the first demand that fails, and its first entry
 same_fails : (code : Code) (demand i j found demand' k l other : ℕ) → FailsFirst code demand i j found → FailsFirst code demand' k l other
@@ -35,7 +35,7 @@ same_fails : (code : Code) (demand i j found demand' k l other : ℕ) → FailsF
 same_fails code demand i j found demand' k l other one two =
     let same : demand ≡ demand' = neither_below demand demand' (not_earlier code demand i j found demand' k l other one two) (not_earlier code demand' k l other demand i j found two one) in
     let two_here : FailsFirst code demand k l other = subst (λ d. FailsFirst code d k l other) (sym same) two in
-    let entry = same_entry code.rate (demand_product code demand) i j found k l other one.entry two_here.entry in
+    let entry = same_entry code.rate (demand_product code demand) i j found k l other one.shown two_here.shown in
     (same, entry.0, entry.1, entry.2)
 
 -- bytes are refused by a refusal
@@ -73,5 +73,5 @@ code_input = record {
   kind = kind;
   same = λ bytes one other is_one is_other. same_code bytes one other is_one.spelled is_other.spelled;
   apart = apart;
-  alike = λ bytes status line status' line' one other. ap any_cycle (same_refusal bytes status line status' line' one other);
+  alike = λ bytes status line status' line' one other. ap any_witness (same_refusal bytes status line status' line' one other);
 }

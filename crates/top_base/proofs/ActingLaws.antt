@@ -18,7 +18,7 @@ use Rattle.top_base.specs.Acting.{Due, DueAfter, LeavesUnread, Owed, OwedAfter, 
 use Rattle.top_base.specs.Inputs.{HoldsInput, Loses, Reads, is_lost}
 use Rattle.top_base.proofs.InputLaws.{AreAlikeResults, IsInput, IsOfInputs, alike_results, loses-failed, loses-line, loses-lost, loses-rose, reads-held, reads-keep, reads-unfailed}
 use Rattle.top_base.proofs.LeavingLaws.{KeepAll, follow_later, happen_parts, keep_files, later_among, told_at, told_both}
-use Rattle.top_base.specs.Outcome.{AreAlike, any_cycle, fault_line, is_fault, is_of_inputs}
+use Rattle.top_base.specs.Outcome.{AreAlike, any_witness, fault_line, is_fault, is_of_inputs}
 use Rattle.top_base.specs.Performs.{Behaviour, LeavesAll, by_files}
 use Rattle.top_base.proofs.PerformingLaws.{HaveFailedBy, IsKnown, is_link_fault, is_read_fault, is_write_fault}
 use Rattle.top_base.specs.declared.outcome.Outcome.{Outcome}
@@ -200,7 +200,7 @@ module _ {X : Type 0} (limit : ℕ) (Is : List ℕ → X → Type 0) (Refuses : 
       alike_after files (Ok x) (Err refused) due owed same is is_owed = absurd same
       alike_after files (Err refused) (Ok y) due owed same is is_owed = absurd same
       alike_after files (Err refused) (Err refused') due owed same is is_owed =
-          ap (λ (o : Outcome). any_cycle o.status) is ∙ same ∙ ap any_cycle (sym is_owed)
+          ap (λ (o : Outcome). any_witness o.status) is ∙ same ∙ ap any_witness (sym is_owed)
 
       -- what has to be known of the command
       pub acts_known : IsKnown acts

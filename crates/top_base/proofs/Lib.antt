@@ -1,6 +1,7 @@
 pub mod ActingLaws
 pub mod AcceptingLaws
 pub mod CodeFileLaws
+pub mod DraftFileLaws
 pub mod Exits
 pub mod InputLaws
 pub mod InspectingLaws
@@ -14,6 +15,7 @@ pub mod SinkPathLaws
 pub mod PerformingLaws
 pub mod MigrationLaws
 pub mod SameCode
+pub mod SameDraft
 pub mod SameNet
 pub mod FileReadingLaws
 pub mod SayingLaws

@@ -21,11 +21,11 @@ use Rattle.lif_outside.specs.Told.{Told}
 use Rattle.lif_outside.specs.ToldLaws.{becomes_weaker}
 use Rattle.top_base.specs.Causes.{HasCauses}
 use Rattle.top_base.proofs.LeavingLaws.{keep_files, none_keep}
-use Rattle.top_base.specs.Outcome.{AddsOutcome, AreAlike, Concludes, SaysOutcome, SaysWell, any_cycle, fault_line, is_fault, is_of_inputs, status_unsaid}
+use Rattle.top_base.specs.Outcome.{AddsOutcome, AreAlike, Concludes, SaysOutcome, SaysWell, any_witness, fault_line, is_fault, is_of_inputs, status_unsaid}
 use Rattle.top_base.specs.Performs.{Answers, Behaviour, Decision, IsDueAsTold, IsOwed, Leaves, Performs, RunsOn, RunsOnStore, at_once, by_files, by_words}
 use Rattle.top_base.specs.declared.outcome.Outcome.{Outcome}
 use Rattle.top_base.specs.declared.status.Status.{Status}
-use Rattle.top_base.specs.declared.status.Status.TheVariants.{Done, NetRefused, ReadFault, WriteFault, OutOfMemory, LinkFault}
+use Rattle.top_base.specs.declared.status.Status.TheVariants.{Done, LinkFault, NetRefused, NotDecoding, OutOfMemory, ReadFault, WriteFault}
 use Rattle.top_base.specs.declared.status.NetWhy.TheVariants.{Text, Cycle}
 
 -- whether a status is that of a read that failed, of a write, and of a call on links
@@ -152,9 +152,10 @@ said_status outcome status before after well says = ⊎_elim (λ all. all.0) (λ
     by_status status undone = refl
 
 -- only a command that is done is alike one that is
-done_alike : (status : Status) → any_cycle status ≡ Done → status ≡ Done
+pub done_alike : (status : Status) → any_witness status ≡ Done → status ≡ Done
 done_alike (NetRefused (Text why)) e = cc
 done_alike (NetRefused (Cycle links)) e = cc
+done_alike (NotDecoding demand block) e = cc
 done_alike status e = e
 
 -- a status of no fault and no want of memory is that of the inputs
@@ -215,7 +216,7 @@ module _ (command : Behaviour) (of_command : IsKnown command) where
     -- the status that is owed, where it's alike the command's
     owed_comes : (owed : Status) → AreAlike is.outcome.status owed → (owed ≡ Done → SaysWell before after) → AreAlike status owed
     owed_comes owed alike well =
-        ap any_cycle (said_status is.outcome status before after (λ done. well (done_alike owed (sym alike ∙ ap any_cycle done))) says) ∙ alike
+        ap any_witness (said_status is.outcome status before after (λ done. well (done_alike owed (sym alike ∙ ap any_witness done))) says) ∙ alike
 
     -- which status comes
     answers : Answers command status before after
@@ -256,7 +257,7 @@ at_once_known expected no_fault line = record {
   due = λ outcome deeds before after accounted runs inputs. runs.0;
   lines = λ outcome calls runs not. subst (λ (o : Outcome). o.line ≡ fault_line o.status) (sym runs.0) (line (subst (λ (o : Outcome). IsFalse (is_of_inputs o.status)) runs.0 not));
   causes = λ outcome calls runs. subst (λ (o : Outcome). HaveFailedBy o.status calls) (sym runs.0) (none_failed-by expected.status calls no_fault runs.1);
-  alike = λ due owed is is'. ap (λ (o : Outcome). any_cycle o.status) is ∙ sym (ap any_cycle is');
+  alike = λ due owed is is'. ap (λ (o : Outcome). any_witness o.status) is ∙ sym (ap any_witness is');
   faultless = λ owed outcome calls before after is runs change well. subst (λ (o : Outcome). IsFalse (is_fault o.status)) (sym runs.0) no_fault;
 }
 

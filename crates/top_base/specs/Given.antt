@@ -1,8 +1,9 @@
 -- The commands that words were read as.
 use Rattle.std.specs.Prelude.{map, string_bytes}
-use Rattle.top_base.specs.Words.{AtNode, Blind, Compile, Demo, Migrate, Send, Command as Form, blind, check, compile, cuts, demo, migrate, order, relay, send, sink}
+use Rattle.top_base.specs.Words.{AtNode, Blind, Compile, Demo, Finish, Migrate, Send, Command as Form, blind, check, compile, cuts, demo, finish, migrate, order, relay, send, sink}
 use Rattle.top_base.specs.declared.words.BlindWords.{BlindWords}
 use Rattle.top_base.specs.declared.words.CompileWords.{CompileWords}
+use Rattle.top_base.specs.declared.words.FinishWords.{FinishWords}
 use Rattle.top_base.specs.declared.demo_words.DemoWords.{DemoWords}
 use Rattle.top_base.specs.declared.words.MigrateWords.{MigrateWords}
 use Rattle.top_base.specs.declared.words.NodeWords.{NodeWords}
@@ -30,6 +31,10 @@ node_given_in words = record { code = words.code.now; pattern = words.pattern.no
 abbrev pub blind_given_in : BlindWords → Blind
 blind_given_in words = record { code = words.code.now; source = words.source.now; prefix = words.prefix.now; links = map string_bytes words.links.now }
 
+-- what a command `finish` is given, by its words
+abbrev pub finish_given_in : FinishWords → Finish
+finish_given_in words = record { draft = words.draft.now; code = words.code.now }
+
 -- what a command `demo` is given, by its words
 abbrev pub demo_given_in : DemoWords → Demo
 demo_given_in words = record { n = words.n; k = words.k; bytes = words.bytes }
@@ -45,3 +50,4 @@ command_in (read.Migrate words) = migrate (migrate_given_in words)
 command_in (read.Relay words) = relay (node_given_in words)
 command_in (read.Sink words) = sink (node_given_in words)
 command_in (read.Blind words) = blind (blind_given_in words)
+command_in (read.Finish words) = finish (finish_given_in words)

@@ -3,6 +3,7 @@ pub mod Accepting
 pub mod Causes
 pub mod CodeFiles
 pub mod Codes
+pub mod DraftFiles
 pub mod FileReading
 pub mod Given
 pub mod Inputs

@@ -1,5 +1,5 @@
 -- The lines said.
-use Rattle.std.specs.Prelude.{◌==◌, ℕ, Bool, if◌then◌else◌, List, [], ◌∷◌, ◌++◌, codes, decimal, length, map, unwrap_or, slice_get}
+use Rattle.std.specs.Prelude.{◌==◌, ℕ, Bool, if◌then◌else◌, List, [], ◌∷◌, ◌++◌, codes, decimal, flat_map, length, map, unwrap_or, slice_get}
 use Rattle.std.specs.Option.{option_map_or}
 use Rattle.code_file.specs.declared.CodeRefusal.{CodeRefusal}
 use Rattle.code_file.specs.RefusalNames as code
@@ -20,7 +20,7 @@ use Rattle.node_program.specs.declared.code.Code.{Code}
 use Rattle.top_base.specs.Words.{Demo}
 
 abbrev pub usage_line : List ℕ
-usage_line = codes "usage: lif order NET | cuts NET | compile NET CODE REPORT | check CODE | send CODE PATTERN SEED SRC PREFIX | demo N K BYTES | migrate OLD NEW | relay CODE PATTERN NODE IN OUT | sink CODE PATTERN SINK IN DST | blind CODE SRC PREFIX LINK\n"
+usage_line = codes "usage: lif order NET | cuts NET | compile NET CODE REPORT | check CODE | send CODE PATTERN SEED SRC PREFIX | demo N K BYTES | migrate OLD NEW | relay CODE PATTERN NODE IN OUT | sink CODE PATTERN SINK IN DST | blind CODE SRC PREFIX LINK | finish DRAFT CODE\n"
 
 abbrev pub read_fault_line : List ℕ
 read_fault_line = codes "read fault\n"
@@ -146,6 +146,15 @@ compiled_line rate field demands = codes "compiled " ++ rate_text rate field dem
 -- the line of a code that was written anew
 abbrev pub migrated_line : Code → List ℕ
 migrated_line code = codes "migrated " ++ code_text code
+
+-- a draft that was finished
+abbrev pub finished_line : ℕ → FieldKind → ℕ → List ℕ
+finished_line rate field demands = codes "finished " ++ rate_text rate field demands
+
+-- a demand of a draft doesn't decode: its sink and its pattern, and the elements of a block
+abbrev pub not_decoding_line : Net → ℕ → List ℕ → List ℕ
+not_decoding_line net demand block =
+    codes "not decoding: demand " ++ demand_text net (demand_of net demand) ++ codes " block" ++ flat_map (λ x. 32 ∷ decimal x) block ++ codes "\n"
 
 -- the rank of a sink where links fail, and whether that is all of a rate
 abbrev pub rank_line : Net → ℕ → ℕ → ℕ → List ℕ

@@ -7,7 +7,7 @@ use Rattle.lif_outside.specs.Told.{Becomes}
 use Rattle.top_base.specs.Lines.{link_fault_line, out_of_memory_line, read_fault_line, write_fault_line}
 use Rattle.top_base.specs.declared.outcome.Outcome.{Outcome}
 use Rattle.top_base.specs.declared.status.Status.{Status}
-use Rattle.top_base.specs.declared.status.Status.TheVariants.{Done, LinkFault, NetRefused, OutOfMemory, ReadFault, WriteFault}
+use Rattle.top_base.specs.declared.status.Status.TheVariants.{Done, LinkFault, NetRefused, NotDecoding, OutOfMemory, ReadFault, WriteFault}
 use Rattle.top_base.specs.declared.status.NetWhy.TheVariants.{Cycle}
 
 -- The status where the line couldn't be said to its end: a command that is done has a write fault then, and a refusal
@@ -73,11 +73,12 @@ fault_line status = out_of_memory_line
 abbrev pub SaysWell : Outside → Outside → Type 0
 SaysWell before after = ¬ Rose before.say_faults after.say_faults
 
--- A status, whichever cycle of a network it shows.
-abbrev pub any_cycle : Status → Status
-any_cycle (NetRefused (Cycle links)) = NetRefused (Cycle [])
-any_cycle status = status
+-- A status, whichever cycle of a network it shows, or block of a demand that doesn't decode.
+abbrev pub any_witness : Status → Status
+any_witness (NetRefused (Cycle links)) = NetRefused (Cycle [])
+any_witness (NotDecoding demand block) = NotDecoding demand []
+any_witness status = status
 
--- two statuses are one, whichever cycle of a network they show
+-- two statuses are one, whichever of these they show
 abbrev pub AreAlike : Status → Status → Type 0
-AreAlike one other = any_cycle one ≡ any_cycle other
+AreAlike one other = any_witness one ≡ any_witness other

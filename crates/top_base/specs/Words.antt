@@ -16,6 +16,11 @@ pub record Migrate : Type 0 where
   pub old : List ℕ
   pub new : List ℕ
 
+-- what a command `finish` is given
+pub record Finish : Type 0 where
+  pub draft : List ℕ
+  pub code : List ℕ
+
 -- what a command `relay` or `sink` is given: a code, a pattern, a node, and what is read and written
 pub record AtNode : Type 0 where
   pub code : List ℕ
@@ -65,6 +70,7 @@ pub data Command : Type 0 where
   relay : (given : AtNode) → Command
   sink : (given : AtNode) → Command
   blind : (given : Blind) → Command
+  finish : (given : Finish) → Command
 
 -- `order NET`
 abbrev pub order_of : List (List ℕ) → Option Command
@@ -125,6 +131,11 @@ blind_of (code ∷ source ∷ prefix ∷ links) =
     Some (blind (record { code = code; source = source; prefix = prefix; links = links }))
 blind_of _ = None
 
+-- `finish DRAFT CODE`
+abbrev pub finish_of : List (List ℕ) → Option Command
+finish_of (draft ∷ code ∷ []) = Some (finish (record { draft = draft; code = code }))
+finish_of _ = None
+
 -- the command that words are
 abbrev pub command_of : List (List ℕ) → Option Command
 command_of [] = None
@@ -139,4 +150,5 @@ command_of (name ∷ given) =
     else if bytes_eq name (codes "relay") then relay_of given
     else if bytes_eq name (codes "sink") then sink_of given
     else if bytes_eq name (codes "blind") then blind_of given
+    else if bytes_eq name (codes "finish") then finish_of given
     else None

@@ -14,20 +14,31 @@ use lif_outside::Store;
 use node_program::Code;
 use std::alloc::Global;
 
+// A refused file of a code, or of a draft.
+impl<'a> From<CodeRefusal> for Outcome<'a> {
+    ghost use Rattle.std.specs.Prelude.{◌≡◌};
+    ghost use Rattle.top_base.specs.CodeFiles.{outcome_of_refusal};
+
+    ghost from_gives = { λ why outcome. outcome ≡ outcome_of_refusal why };
+
+    fn from(why: CodeRefusal) -> Outcome<'a> {
+        match why {
+            CodeRefusal::OutOfMemory => Outcome::out_of_memory(),
+            why => Outcome {
+                status: Status::CodeRefused(why),
+                line: Line::code_refused(why),
+            },
+        }
+    }
+}
+
 /// The code of which the bytes are a file.
 pub(crate) fn parse<'a>(alloc: Global, bytes: &[u8]) -> Result<Code, Outcome<'a>>
     requires { length bytes.now ≤ code_limit }
     ensures code { IfOk result (IsFileOf bytes.now) }
     ensures refused { IfErr result (RefusesFileOrLosesIt bytes.now) }
 {
-    match read_code(alloc, bytes) {
-        Ok(code) => Ok(code),
-        Err(CodeRefusal::OutOfMemory) => Err(Outcome::out_of_memory()),
-        Err(why) => Err(Outcome {
-            status: Status::CodeRefused(why),
-            line: Line::code_refused(why),
-        }),
-    }
+    Ok(read_code(alloc, bytes)?)
 }
 
 /// Reads the code at a path.

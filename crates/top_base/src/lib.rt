@@ -9,6 +9,7 @@
 mod accepting;
 mod code_files;
 mod demo_words;
+mod draft_files;
 mod lines;
 mod long_texts;
 mod named;
@@ -23,6 +24,7 @@ mod words;
 pub use accepting::read_accepted;
 pub use code_files::read_file_of_code;
 pub use demo_words::DemoWords;
+pub use draft_files::read_file_of_draft;
 pub use lines::Line;
 pub use long_texts::{order_text, push_rank, rate_unmet_line, zero_rate_line};
 pub use named::{dotted_path, link_named, node_named, pattern_named, sink_named};
@@ -33,5 +35,6 @@ pub use reading::{FileRefusal, read_next, read_whole};
 pub use status::{NetWhy, Status};
 pub use text::ROOM as LINE_ROOM;
 pub use words::{
-    BlindWords, Command, CompileWords, MigrateWords, NodeWords, SOURCE_LIMIT, SendWords, command_of,
+    BlindWords, Command, CompileWords, FinishWords, MigrateWords, NodeWords, SOURCE_LIMIT,
+    SendWords, command_of,
 };

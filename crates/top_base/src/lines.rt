@@ -1,12 +1,12 @@
 //! The lines that are said.
-ghost use Rattle.std.specs.Prelude.{◌≡◌, ◌<◌, ◌≤◌, ◌+◌, ◌++◌, ◌∷◌, [], IfSome, IfNone, codes, decimal, length, vec_capacity, vec_len};
+ghost use Rattle.std.specs.Prelude.{◌≡◌, ◌<◌, ◌≤◌, ◌+◌, ◌*◌, ◌++◌, ◌∷◌, [], IfSome, IfNone, codes, decimal, flat_map, length, vec_capacity, vec_len};
 ghost use Rattle.std.specs.Option.{option_map_or};
 ghost use Rattle.failure_patterns.specs.Demands.{demand_of};
 ghost use Rattle.name_texts.specs.Names.{demand_text};
 ghost use Rattle.net_model.specs.Demands.{demand_count};
 ghost use Rattle.net_model.specs.Limits.{longest_name};
 ghost use Rattle.top_base.specs.Given.{demo_given_in};
-ghost use Rattle.top_base.specs.Lines.{accepted_line, check_failed_line, code_refused_line, code_text, compiled_line, demo_lines, detail_text, link_fault_line, migrated_line, net_refused_line, out_of_memory_line, rate_over_line, received_line, relayed_line, stream_refused_line, stream_why_text, bad_blocks_line, unknown_link_line, unknown_node_line, read_fault_line, same_path_line, sent_line, too_long_line, too_many_demands_line, unknown_pattern_line, usage_line, write_fault_line};
+ghost use Rattle.top_base.specs.Lines.{accepted_line, check_failed_line, code_refused_line, code_text, compiled_line, demo_lines, detail_text, finished_line, link_fault_line, migrated_line, net_refused_line, not_decoding_line, out_of_memory_line, rate_over_line, received_line, relayed_line, stream_refused_line, stream_why_text, bad_blocks_line, unknown_link_line, unknown_node_line, read_fault_line, same_path_line, sent_line, too_long_line, too_many_demands_line, unknown_pattern_line, usage_line, write_fault_line};
 
 use crate::demo_words::DemoWords;
 use crate::text::{ROOM, ShortText, Text};
@@ -146,6 +146,19 @@ fn push_demand(text: &mut ShortText, net: &Net, demand: u32)
     push(text, pattern_name(net, pattern as usize));
 }
 
+// Adds elements, each behind a space, to a text that has room for them.
+fn push_elements(text: &mut ShortText, elements: &[u32])
+    requires { length text.old.items + 21 * length elements.now ≤ ROOM }
+    ensures text { text.new.items ≡ text.old.items ++ flat_map (λ x. 32 ∷ decimal x) elements.now }
+    ensures grown { length text.new.items
+        ≤ length text.old.items + 21 * length elements.now }
+{
+    for element in elements {
+        push(text, b" ");
+        push_number(text, u64::from(*element));
+    }
+}
+
 // What was sent.
 fn sent_text(bytes: u64, generations: u64, sinks: u64) -> ShortText
     ensures { result.items ≡ sent_line bytes generations sinks }
@@ -210,7 +223,7 @@ impl<'a> Line<'a> {
         ensures { result ≡ usage_line }
     {
         Line::of(begin(
-            b"usage: lif order NET | cuts NET | compile NET CODE REPORT | check CODE | send CODE PATTERN SEED SRC PREFIX | demo N K BYTES | migrate OLD NEW | relay CODE PATTERN NODE IN OUT | sink CODE PATTERN SINK IN DST | blind CODE SRC PREFIX LINK\n",
+            b"usage: lif order NET | cuts NET | compile NET CODE REPORT | check CODE | send CODE PATTERN SEED SRC PREFIX | demo N K BYTES | migrate OLD NEW | relay CODE PATTERN NODE IN OUT | sink CODE PATTERN SINK IN DST | blind CODE SRC PREFIX LINK | finish DRAFT CODE\n",
         ))
     }
 
@@ -341,6 +354,20 @@ impl<'a> Line<'a> {
         Line::quoting(b"unknown link: ", word)
     }
 
+    /// A demand of a draft doesn't decode, with a block that shows it.
+    pub fn not_decoding(net: &Net, demand: u32, block: &[u32]) -> Line<'a>
+        requires demand { demand < demand_count net.now }
+        requires block { length block.now ≤ 32 }
+        ensures { result ≡ not_decoding_line net.now demand block.now }
+    {
+        let mut text = begin(b"not decoding: demand ");
+        push_demand(&mut text, net, demand);
+        push(&mut text, b" block");
+        push_elements(&mut text, block);
+        push(&mut text, b"\n");
+        Line::of(text)
+    }
+
     /// The file of a link is refused as a stream of it.
     pub fn stream_refused(net: &Net, link: u32, why: StreamWhy) -> Line<'a>
         requires { link < length net.now.links }
@@ -411,6 +438,13 @@ impl<'a> Line<'a> {
         ensures { result ≡ compiled_line code.now.rate code.now.field (demand_count code.now.net) }
     {
         Line::of_code(b"compiled ", code)
+    }
+
+    /// A draft was finished.
+    pub fn finished(code: &Code) -> Line<'a>
+        ensures { result ≡ finished_line code.now.rate code.now.field (demand_count code.now.net) }
+    {
+        Line::of_code(b"finished ", code)
     }
 
     /// A code was written anew.

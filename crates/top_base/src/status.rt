@@ -3,6 +3,7 @@ use code_file::CodeRefusal;
 use generation_frame::StreamWhy;
 use net_model::{LinkList, Side};
 use net_reader::ReadRefusal;
+use node_program::Entries;
 
 /// Why a network is refused.
 #[derive(Drop, Debug, PartialEq, Eq)]
@@ -95,6 +96,14 @@ pub enum Status {
     },
     /// No link of the code has the name.
     UnknownLink,
+    /// A demand of the draft doesn't decode.
+    NotDecoding {
+        /// The first such demand.
+        demand: u32,
+        /// Elements, as many as the rate and not all zero, by their numbers. As a block of rows of one element each they give zero on
+        /// all links into the sink, as zeros do.
+        block: Entries,
+    },
 }
 
 impl Status {
@@ -126,6 +135,7 @@ impl Status {
             Status::UnknownNode => 18,
             Status::BadBlocks { .. } => 19,
             Status::UnknownLink => 20,
+            Status::NotDecoding { .. } => 21,
         }
     }
 }

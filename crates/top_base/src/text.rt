@@ -1,8 +1,8 @@
 //! The text of a line: short ones in place, and long ones in memory.
 use arrayvec::ArrayVec;
 
-/// Room for a short text: for the names of a sink and a pattern, or a dozen numbers with their words.
-pub const ROOM: usize = 384;
+/// Room for a short text: for the names of a sink and a pattern with as many numbers as the greatest rate.
+pub const ROOM: usize = 768;
 
 /// A text that grows in place.
 pub type ShortText = ArrayVec<u8, ROOM>;

@@ -1,7 +1,7 @@
 //! The words that the program is called with.
 ghost use Rattle.std.specs.Prelude.{◌≡◌, Some, map, string_bytes};
 ghost use Rattle.std.specs.Option.{option_map};
-ghost use Rattle.top_base.specs.Words.{blind_of, check_of, command_of, compile_of, cuts_of, demo_of, demo_with, migrate_of, order_of, relay_of, send_of, sink_of};
+ghost use Rattle.top_base.specs.Words.{blind_of, check_of, command_of, compile_of, cuts_of, demo_of, demo_with, finish_of, migrate_of, order_of, relay_of, send_of, sink_of};
 ghost use Rattle.top_base.specs.Given.{command_in};
 
 use crate::demo_words::{DEMO_LIMIT, DemoWords};
@@ -44,6 +44,15 @@ pub struct NodeWords<'a> {
     pub input: &'a str,
     /// What the paths of the streams that are written begin with; of a sink the path of its file.
     pub output: &'a str,
+}
+
+/// What a command `finish` is given.
+#[derive(Clone, Copy)]
+pub struct FinishWords<'a> {
+    /// The path of the draft.
+    pub draft: &'a str,
+    /// The path of the code.
+    pub code: &'a str,
 }
 
 /// What a command `blind` is given.
@@ -97,6 +106,8 @@ pub enum Command<'a> {
     Sink(NodeWords<'a>),
     /// `blind CODE SRC PREFIX LINK`, with any number of links.
     Blind(BlindWords<'a>),
+    /// `finish DRAFT CODE`.
+    Finish(FinishWords<'a>),
 }
 
 /// The command that the words are, if they are one.
@@ -117,6 +128,7 @@ pub fn command_of(words: &[String]) -> Option<Command<'_>>
         "relay" => relay_of(given),
         "sink" => sink_of(given),
         "blind" => blind_of(given),
+        "finish" => finish_of(given),
         _ => None,
     }
 }
@@ -266,5 +278,18 @@ fn blind_of(given: &[String]) -> Option<Command<'_>>
         source: source.as_str(),
         prefix: prefix.as_str(),
         links,
+    }))
+}
+
+// `finish DRAFT CODE`.
+fn finish_of(given: &[String]) -> Option<Command<'_>>
+    ensures { option_map command_in result ≡ finish_of (map string_bytes given.now) }
+{
+    let [draft, code] = given else {
+        return None;
+    };
+    Some(Command::Finish(FinishWords {
+        draft: draft.as_str(),
+        code: code.as_str(),
     }))
 }

@@ -11,7 +11,7 @@ use Rattle.lif_outside.specs.Moves as moves
 use Rattle.node_program.specs.declared.code.Code.{Code}
 use Rattle.top_base.proofs.LeavingLaws.{keep_files, none_keep}
 use Rattle.top_base.proofs.PerformingLaws.{HaveFailedBy, IsKnown}
-use Rattle.top_base.specs.Outcome.{any_cycle, fault_line, is_fault, is_of_inputs}
+use Rattle.top_base.specs.Outcome.{any_witness, fault_line, is_fault, is_of_inputs}
 use Rattle.top_base.specs.Performs.{LeavesAll}
 use Rattle.top_base.specs.Words.{Demo}
 use Rattle.top_base.specs.declared.outcome.Outcome.{Outcome}
@@ -93,7 +93,7 @@ module _ (faithful : Bool) (demo : Demo) where
     due = λ outcome deeds before after accounted runs inputs. due_with outcome.status outcome.line deeds.calls inputs runs;
     lines = λ outcome calls runs not. line_with outcome.status outcome.line calls runs not;
     causes = λ outcome calls runs. failed_with outcome.status outcome.line calls runs;
-    alike = λ due owed is is_owed. ap any_cycle (is.0 ∙ sym is_owed);
+    alike = λ due owed is is_owed. ap any_witness (is.0 ∙ sym is_owed);
     faultless = λ owed outcome calls before after is_owed runs change works. faultless_with outcome.status outcome.line calls before after runs change works;
   }
 

@@ -26,7 +26,7 @@ use Rattle.top_base.proofs.ActingLaws.{ActsWell, acts_known, acts_used}
 use Rattle.top_base.specs.Inputs.{ReadsAny, is_lost}
 use Rattle.top_base.proofs.InputLaws.{any-unfailed, not_long}
 use Rattle.top_base.proofs.LeavingLaws.{told_at}
-use Rattle.top_base.specs.Outcome.{any_cycle, fault_line, is_fault, is_of_inputs}
+use Rattle.top_base.specs.Outcome.{any_witness, fault_line, is_fault, is_of_inputs}
 use Rattle.top_base.proofs.PerformingLaws.{HaveFailedBy, IsKnown, known, none_failed-by}
 use Rattle.top_base.specs.Words.{Send, source_limit}
 use Rattle.top_base.specs.declared.outcome.Outcome.{Outcome}
@@ -203,7 +203,7 @@ module _ (faithful : Bool) (send : Send) where
     lines = λ code outcome calls runs not. line_with code outcome.status outcome.line calls runs not;
     causes = λ code outcome calls runs. failed_with code outcome.status outcome.line calls runs;
     used = λ code outcome calls runs is. subst (λ status. RunsCode faithful send code status outcome.line calls) is runs;
-    alike = λ code files due owed is is_owed. ap any_cycle (same_due code (files send.source) due.status due.line owed is_owed.0 is is_owed.1);
+    alike = λ code files due owed is is_owed. ap any_witness (same_due code (files send.source) due.status due.line owed is_owed.0 is is_owed.1);
     lost = λ outcome before after. lost outcome.status outcome.line before after;
     faultless = λ outcome files before after. faultless outcome.status outcome.line files before after;
   }

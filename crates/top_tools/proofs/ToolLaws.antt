@@ -24,7 +24,7 @@ use Rattle.top_base.specs.Making.{DueMaking}
 use Rattle.top_base.proofs.MakingLaws.{MakesWell, makes_known, makes_used}
 use Rattle.top_base.proofs.NetworkLaws.{net_input}
 use Rattle.top_base.specs.Networks.{IsNetOf, RefusesNet}
-use Rattle.top_base.specs.Outcome.{any_cycle, is_of_inputs}
+use Rattle.top_base.specs.Outcome.{any_witness, is_of_inputs}
 use Rattle.top_base.proofs.PerformingLaws.{IsKnown}
 use Rattle.top_base.specs.Words.{Compile, Migrate}
 use Rattle.top_base.specs.declared.outcome.Outcome.{Outcome}
@@ -35,7 +35,8 @@ use Rattle.top_tools.specs.Compile.Command.{compile_command}
 use Rattle.top_tools.specs.Compile.Given.{outputs_of}
 use Rattle.top_tools.specs.Compile.Made.{IsGood, IsMade, RefusesMaking}
 use Rattle.top_tools.specs.Cuts.{IsCrowded, IsWitnessed, OwesCuts, cuts_command}
-use Rattle.top_tools.specs.Migrate.{CanMigrate, DeclinesLong, IsMigrated, migrate_command}
+use Rattle.top_tools.specs.CodeWriting.{DeclinesLong}
+use Rattle.top_tools.specs.Migrate.{CanMigrate, IsMigrated, migrate_command}
 use Rattle.top_tools.specs.Order.{IsOrdered, order_command}
 use Rattle.top_tools.proofs.RefusalLaws.{same_due}
 
@@ -48,7 +49,7 @@ module _ {X : Type 0} (limit : ℕ) (Is : List ℕ → X → Type 0) (Refuses : 
   ends_done = record {
     of_inputs = λ x outcome is. ap is_of_inputs (done x outcome is);
     used = λ x outcome is used. let both : Done ≡ Usage = sym (done x outcome is) ∙ used in cc;
-    alike = λ x outcome owed is is_owed. ap any_cycle (done x outcome is ∙ sym is_owed);
+    alike = λ x outcome owed is is_owed. ap any_witness (done x outcome is ∙ sym is_owed);
   }
 
 -- the command `check`
@@ -74,12 +75,12 @@ cuts_well = record {
       is;
   alike = λ net outcome owed is is_owed. ⊎_elim
       (λ crowded. ⊎_elim
-      (λ many. ap any_cycle (counted net outcome crowded ∙ sym many.1))
+      (λ many. ap any_witness (counted net outcome crowded ∙ sym many.1))
       (λ served. absurd (false≢true (sym crowded.0 ∙ served.0)))
       is_owed)
       (λ reported. ⊎_elim
       (λ many. absurd (false≢true (sym many.0 ∙ reported.0)))
-      (λ served. ap any_cycle (reported.1 ∙ sym served.1))
+      (λ served. ap any_witness (reported.1 ∙ sym served.1))
       is_owed)
       is;
 }
@@ -130,7 +131,7 @@ module _ (given : Compile) where
     of_inputs = of_inputs;
     undone = λ net line refused. refused;
     used = λ net line refused. refused;
-    alike = λ net status line status' line' one other. ap any_cycle (same_due net status line status' line' one other);
+    alike = λ net status line status' line' one other. ap any_witness (same_due net status line status' line' one other);
   }
 
   pub compile_known : IsKnown (compile_command given)
@@ -167,7 +168,7 @@ module _ (given : Migrate) where
     of_inputs = long_of_inputs;
     undone = λ code line long. long;
     used = λ code line long. long;
-    alike = λ code status line status' line' one other. ap any_cycle (due_once code status line status' line' one other);
+    alike = λ code status line status' line' one other. ap any_witness (due_once code status line status' line' one other);
   }
 
   pub migrate_known : IsKnown (migrate_command given)

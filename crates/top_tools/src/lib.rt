@@ -1,9 +1,9 @@
 //! The commands `order`, `cuts` and `check`, which read one input and say what they find; `compile`, which makes a code
-//! of a network and writes it with the report, and `migrate`, which writes a code's file anew; and the codes of combination
-//! networks.
+//! of a network and writes it with the report; `migrate`, which writes a code's file anew, and `finish`, which makes a code of a
+//! draft; and the codes of combination networks.
 //!
 //! There is a call for each command, of that name, and `combination_code`. Read `specs/Order.antt`, `specs/Cuts.antt`,
-//! `specs/Check.antt`, `specs/Compile.antt` and `specs/Migrate.antt`, each the four words of its command.
+//! `specs/Check.antt`, `specs/Compile.antt`, `specs/Migrate.antt` and `specs/Finish.antt`, each the four words of its command.
 #![tactic(auto)]
 
 mod checking;
@@ -11,6 +11,7 @@ mod combining;
 mod compiling;
 mod cutting;
 mod files;
+mod finishing;
 mod making;
 mod migrating;
 mod ordering;
@@ -20,5 +21,6 @@ pub use checking::check;
 pub use combining::combination_code;
 pub use compiling::compile;
 pub use cutting::cuts;
+pub use finishing::finish;
 pub use migrating::migrate;
 pub use ordering::order;

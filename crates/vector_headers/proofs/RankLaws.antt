@@ -5,23 +5,13 @@ use Rattle.gf_tables.specs.declared.kind.FieldKind.{FieldKind}
 use Rattle.linear_algebra.specs.Rows.{combination, scale_row, add_rows, AreElements}
 use Rattle.linear_algebra.proofs.RowLaws.{AreElements-head, AreElements-tail, AreElements-cons}
 use Rattle.row_spans.proofs.SumLaws.{HaveSameSums-same}
+use Rattle.row_spans.proofs.DecidedLaws.{is_sum-false, is_sum-true}
+use Rattle.row_spans.specs.Decided.{IsSum-decided, is_sum}
 use Rattle.row_spans.specs.Spans.{HaveSameSums, IsSum}
-use Rattle.vector_headers.specs.Ranks.{AreAccepted, IsAccepted, IsSum-decided, is_sum, rank_of}
+use Rattle.vector_headers.specs.Ranks.{AreAccepted, IsAccepted, rank_of}
 use Rattle.vector_headers.specs.Rows.{CodedRow, vectors_of}
 use Rattle.vector_headers.specs.declared.blind.Gain.{Gain}
 use Rattle.vector_headers.specs.declared.blind.Gain.TheVariants.{Raised, Same}
-
--- the answer where a row is a sum
-is_sum-true : (field : FieldKind) (width : ℕ) (rows : List (List ℕ)) (row : List ℕ) → IsSum field width rows row → is_sum field width rows row ≡ true
-unfolding is_sum
-is_sum-true field width rows row sum =
-    elim (IsSum-decided field width rows row) as (λ d. (elim d [ inl s ↦ true | inr n ↦ false ]) ≡ true) [ inl s ↦ refl | inr n ↦ absurd (n sum) ]
-
--- and where it is none
-is_sum-false : (field : FieldKind) (width : ℕ) (rows : List (List ℕ)) (row : List ℕ) → (¬ IsSum field width rows row) → is_sum field width rows row ≡ false
-unfolding is_sum
-is_sum-false field width rows row other =
-    elim (IsSum-decided field width rows row) as (λ d. (elim d [ inl s ↦ true | inr n ↦ false ]) ≡ false) [ inl s ↦ absurd (other s) | inr n ↦ refl ]
 
 -- a sum with a row before others, where those have the sums of the first
 sum_behind : (field : FieldKind) (width : ℕ) (first : List ℕ) (rows others : List (List ℕ)) → HaveSameSums field width rows others

@@ -10,13 +10,13 @@ use Rattle.gf_tables.specs.declared.kind.Width.TheVariants.{One, Two}
 use Rattle.linear_algebra.proofs.ElementsLaws.{elements_of-append, elements_of-bytes_of_row, length-bytes_of_row, length-elements_of}
 use Rattle.linear_algebra.specs.Elements.{bytes_of_row, elements_of}
 use Rattle.linear_algebra.specs.Rows.{AreRows, IsRow}
-use Rattle.row_spans.proofs.SumLaws.{each_IsSum, same_sums, AreRows-vectors, HaveSameSums-vectors, IsRow-take}
+use Rattle.row_spans.proofs.SumLaws.{AreRows-vectors, HaveSameSums-vectors, IsRow-take, HaveSameSums-sum}
 use Rattle.row_spans.specs.Spans.{HaveSameSums, IsSum, vectors}
 use Rattle.field_rows.specs.Widths.{width_in}
 use Rattle.vector_headers.proofs.AdmitLaws.{AdmitTheSame-sums, vector_in_row, vector_within, vectors_of-coded}
 use Rattle.vector_headers.specs.Heads.{width_of_bytes}
 use Rattle.vector_headers.specs.Held.{IsTaken, coded, gain_of, held_bytes, held_row, vector_bytes}
-use Rattle.vector_headers.specs.Ranks.{IsSum-decided}
+use Rattle.row_spans.specs.Decided.{IsSum-decided}
 use Rattle.vector_headers.specs.Rows.{CodedRow, row_of_bytes}
 use Rattle.vector_headers.specs.declared.blind.Gain.TheVariants.{Raised, Same}
 
@@ -55,12 +55,6 @@ coded-held_row field rate bytes vector payload wide low count =
     ap (λ (row : List ℕ). coded field rate (elements_of field row)) written
     ∙ ap₂ (λ (v p : List ℕ). let row : CodedRow = record { vector = v; payload = p } in row) vector_is payload_is
 
--- a sum of multiples of rows, put before them, adds no sum
-sum_before : (field : FieldKind) (width : ℕ) (rows : List (List ℕ)) (row : List ℕ) → AreRows field width rows → IsRow field width row → IsSum field width rows row
-    → HaveSameSums field width rows (row ∷ rows)
-sum_before field width rows row are is sum =
-    same_sums field width rows (row ∷ rows) are (is, are) (each_IsSum field width (row ∷ rows) (is, are)).1 (sum, each_IsSum field width rows are)
-
 module _ (field : FieldKind) (rate : ℕ) (low : rate ≤ 32) (old new : List (List ℕ)) (row : List ℕ) (old_are : AreRows field (width_in field held_bytes) old) (is : IsRow field (width_in field held_bytes) row) where
   -- a row came whose vector is no sum of the vectors
   taken_raised : ¬ IsSum field rate (vectors rate old) (take rate row) → HaveSameSums field (width_in field held_bytes) new (row ∷ old) → length new ≡ suc (length old)
@@ -82,7 +76,7 @@ module _ (field : FieldKind) (rate : ℕ) (low : rate ≤ 32) (old new : List (L
   taken_same sum unchanged =
       let within = vector_in_row field rate low in
       let P : List (List ℕ) → Type 0 = λ vectors. IsSum field rate vectors (take rate row) in
-      let same = sum_before field rate (vectors rate old) (take rate row) (AreRows-vectors field (width_in field held_bytes) rate old within old_are) (IsRow-take field (width_in field held_bytes) rate row within is) sum in
+      let same = HaveSameSums-sum field rate (vectors rate old) (take rate row) (AreRows-vectors field (width_in field held_bytes) rate old within old_are) (IsRow-take field (width_in field held_bytes) rate row within is) sum in
       record {
         raised = (λ e. absurd (cc), λ other. absurd (other (subst P (sym (vectors_of-coded field rate old)) sum)));
         spans = rw (unchanged, vectors_of-coded field rate old) same;

@@ -11,6 +11,7 @@ mod counting;
 mod demands;
 mod drafts;
 mod fields;
+mod finishing;
 mod flows;
 mod gates;
 mod limits;

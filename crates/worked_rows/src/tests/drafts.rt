@@ -12,22 +12,22 @@ use test_support::files::{
     BUTTERFLY, CUT_BUTTERFLY, CUT_BUTTERFLY_TWO, ONE_LINK, ONE_LINK_TWO, WIDE_ONE_LINK,
 };
 
-// A code file of version 1, and how many bytes stand before its decoders.
-type Begun = (&'static [u8], usize);
+/// A code file of version 1, and how many bytes stand before its decoders.
+pub(crate) type Begun = (&'static [u8], usize);
 
-const ONE: Begun = (ONE_LINK, 34);
+pub(crate) const ONE: Begun = (ONE_LINK, 34);
 
 const WIDE: Begun = (WIDE_ONE_LINK, 35);
 
-const FLY: Begun = (BUTTERFLY, 161);
+pub(crate) const FLY: Begun = (BUTTERFLY, 161);
 
-const CUT: Begun = (CUT_BUTTERFLY, 169);
+pub(crate) const CUT: Begun = (CUT_BUTTERFLY, 169);
 
 // The mark and the version of a draft.
 const DRAFT: &[(usize, u8)] = &[(3, b'K'), (4, 2)];
 
-// The file of the draft that a code file begins with.
-fn draft_file(alloc: Global, begun: Begun) -> Option<Vec<u8>> {
+/// The file of the draft that a code file begins with.
+pub(crate) fn draft_file(alloc: Global, begun: Begun) -> Option<Vec<u8>> {
     let (file, len) = begun;
     if len > file.len() {
         return None;
@@ -41,8 +41,8 @@ fn changed_draft(alloc: Global, begun: Begun, others: &[(usize, u8)]) -> Option<
     changed(alloc, &file, others).ok()
 }
 
-// Whether a file is that of a draft.
-fn is_file_of(alloc: Global, file: &[u8], draft: &Draft) -> bool {
+/// Whether a file is that of a draft.
+pub(crate) fn is_written(alloc: Global, file: &[u8], draft: &Draft) -> bool {
     match write_draft(alloc, draft) {
         Ok(written) => written.as_slice() == file,
         Err(_) => false,
@@ -55,7 +55,7 @@ fn is_kept(alloc: Global, begun: Begun) -> bool {
         return false;
     };
     match draft_of(alloc, &file) {
-        Ok(draft) => is_file_of(alloc, &file, &draft),
+        Ok(draft) => is_written(alloc, &file, &draft),
         Err(_) => false,
     }
 }
@@ -75,8 +75,8 @@ fn drafts_are_read_and_written_back(rt: HostRuntime) {
     assert_eq!(rt; first_not_kept(rt.alloc()), None);
 }
 
-// The draft of a code.
-fn draft_of_code(code: Code) -> Draft {
+/// The draft of a code.
+pub(crate) fn draft_of_code(code: Code) -> Draft {
     let Code {
         net,
         rate,
@@ -93,7 +93,7 @@ fn is_draft_of_code(alloc: Global, begun: Begun) -> Option<bool> {
     let draft = draft_of_code(code_of(alloc, begun.0).ok()?);
     let coding = draft.coding();
     let lends = coding.rate == draft.rate && coding.operands.len() == coding.net.links.len();
-    Some(lends && is_file_of(alloc, &file, &draft))
+    Some(lends && is_written(alloc, &file, &draft))
 }
 
 #[test]
@@ -106,7 +106,7 @@ fn a_code_without_decoders_is_a_draft(rt: HostRuntime) {
 fn is_of_field_nine(alloc: Global) -> Option<bool> {
     let file = changed_draft(alloc, ONE, &[(5, 9)])?;
     let draft = draft_of(alloc, &file).ok()?;
-    Some(is_file_of(alloc, &file, &draft))
+    Some(is_written(alloc, &file, &draft))
 }
 
 #[test]

@@ -1,0 +1,32 @@
+-- A code's file that is written at a path, with a line that is said of it.
+use Rattle.std.specs.Prelude.{◌≡◌, ◌≤◌, ◌<◌, ℕ, List, [], ◌∷◌, length}
+use Rattle.code_file.specs.Items.{IsFileOf, bytes_of}
+use Rattle.code_file.specs.Limits.{code_limit}
+use Rattle.lif_outside.specs.Events.{Event}
+use Rattle.lif_outside.specs.FileCalls.{Written}
+use Rattle.node_program.specs.declared.code.Code.{Code}
+use Rattle.top_base.specs.CodeFiles.{RefusesFile}
+use Rattle.top_base.specs.Lines.{too_long_line}
+use Rattle.top_base.specs.Making.{RunsMaking}
+use Rattle.top_base.specs.declared.status.Status.{Status}
+use Rattle.top_base.specs.declared.status.Status.TheVariants.{TooLong}
+
+-- what is written and said of a code: its file, which is within the limit of code files
+pub record IsWritten (path said : List ℕ) (code : Code) (files : List Written) (line : List ℕ) : Type 0 where
+  pub within : length (bytes_of code) ≤ code_limit
+  pub files_are : files ≡ (path, bytes_of code) ∷ []
+  pub line_is : line ≡ said
+
+-- a code whose file is within the limit
+pub record CanWrite (said : List ℕ) (code : Code) (line : List ℕ) : Type 0 where
+  pub within : length (bytes_of code) ≤ code_limit
+  pub line_is : line ≡ said
+
+-- one whose file isn't, by the status and the line
+abbrev pub DeclinesLong : Code → Status → List ℕ → Type 0
+DeclinesLong code TooLong line = (code_limit < length (bytes_of code)) × (line ≡ too_long_line)
+DeclinesLong code status line = ⊥
+
+-- the calls by which it is written, by the status and the line
+abbrev pub WritesCode : List ℕ → List ℕ → Code → Status → List ℕ → List Event → Type 0
+WritesCode path said = RunsMaking code_limit IsFileOf RefusesFile (IsWritten path said) (CanWrite said) DeclinesLong
