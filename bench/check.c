@@ -3,8 +3,8 @@
 // be the identity. Products of elements are made by tables of logarithms: of a vector the logarithms are kept, and that of
 // an entry of a decoder is looked up once for a row. The logarithm of zero stands where the table of powers has zeros.
 //
-// What is read is taken as it stands, as far as code_file.h goes.
-#include "code_file.h"
+// What is read is taken as it stands, as far as whole_code.h goes.
+#include "whole_code.h"
 
 // The fields of octets of 0x11D and of 0x11B, and over the first one that of pairs in which y * y = y + 0x20.
 enum { POLYNOMIAL = 0x11D, OTHER_POLYNOMIAL = 0x11B, CONSTANT = 0x20, MOST_ELEMENTS = 65536 };
@@ -13,24 +13,6 @@ struct field {
     unsigned order;
     uint32_t logs[MOST_ELEMENTS];
     uint16_t powers[4 * MOST_ELEMENTS];
-};
-
-// A listed pattern: the links that fail. All operands of a link, and the decoders as their bytes.
-struct pattern {
-    unsigned count;
-    unsigned *links;
-};
-
-struct operands {
-    unsigned count;
-    struct operand *at;
-};
-
-struct file {
-    struct code code;
-    struct pattern *patterns;
-    struct operands *operands;
-    const uint8_t **decoders;
 };
 
 static unsigned octet_product(unsigned polynomial, unsigned a, unsigned b) {
@@ -76,47 +58,6 @@ static struct field *new_field(unsigned kind) {
     return field;
 }
 
-static void take_listed(struct file *file, struct bytes *rest) {
-    unsigned listed = take(rest, 2);
-    file->code.pattern_count = listed + 1;
-    file->patterns = room(listed + 1, sizeof *file->patterns);
-    for (unsigned number = 1; number <= listed; number++) {
-        struct pattern *pattern = &file->patterns[number];
-        free(take_name(rest));
-        pattern->count = take(rest, 2);
-        pattern->links = room(pattern->count, sizeof *pattern->links);
-        for (unsigned place = 0; place < pattern->count; place++) {
-            pattern->links[place] = take_below(rest, 2, file->code.link_count);
-        }
-    }
-}
-
-static void take_all_operands(struct file *file, struct bytes *rest) {
-    const struct code *code = &file->code;
-    file->operands = room(code->link_count, sizeof *file->operands);
-    for (unsigned link = 0; link < code->link_count; link++) {
-        struct operands *operands = &file->operands[link];
-        unsigned bound = code->links[link].tail == code->source ? code->rate : code->link_count;
-        operands->count = take_below(rest, 2, MOST_OPERANDS + 1);
-        operands->at = room(operands->count, sizeof *operands->at);
-        for (unsigned place = 0; place < operands->count; place++) {
-            operands->at[place].from = take_below(rest, 2, bound);
-            operands->at[place].times = take(rest, width_of(code));
-        }
-    }
-}
-
-static void take_whole(struct file *file, struct bytes rest) {
-    struct code *code = &file->code;
-    take_front(code, &rest);
-    take_links(code, &rest);
-    take_sinks(code, &rest);
-    take_listed(file, &rest);
-    take_all_operands(file, &rest);
-    file->decoders = take_all_decoders(code, &rest);
-    if (rest.length != 0) fail("the code file is too long");
-}
-
 // Makes the logarithms of a link's vector of those of its operands.
 static void make_vector(const struct file *file, const struct field *field, uint32_t *vectors, unsigned link) {
     const struct code *code = &file->code;
@@ -137,10 +78,7 @@ static void make_vector(const struct file *file, const struct field *field, uint
 
 static void make_vectors(const struct file *file, const struct field *field, uint32_t *vectors, unsigned pattern) {
     const struct code *code = &file->code;
-    for (unsigned link = 0; link < code->link_count; link++) code->links[link].has_failed = false;
-    for (unsigned place = 0; place < file->patterns[pattern].count; place++) {
-        code->links[file->patterns[pattern].links[place]].has_failed = true;
-    }
+    fail_links(file, pattern);
     for (unsigned link = 0; link < code->link_count; link++) {
         if (!code->links[link].has_failed) {
             make_vector(file, field, vectors, link);
@@ -188,7 +126,7 @@ int main(int count, char **words) {
         fprintf(stderr, "usage: check CODE\n");
         return 2;
     }
-    take_whole(&file, read_file(words[1]));
+    take_whole(&file, read_file(words[1]), CODE_MARK);
     const struct code *code = &file.code;
     struct field *field = new_field(code->field);
     uint32_t *vectors = room((size_t)code->link_count * code->rate, sizeof *vectors);

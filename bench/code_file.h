@@ -14,6 +14,7 @@
 #include <string.h>
 #include <unistd.h>
 
+enum { CODE_MARK = 0x4C494643, DRAFT_MARK = 0x4C49464B };
 enum { READ_AT_ONCE = 65536, MOST_RATE = 32, MOST_NODES = 4096, MOST_LINKS = 8192, MOST_OPERANDS = 8192 };
 
 struct bytes {
@@ -118,10 +119,10 @@ static unsigned width_of(const struct code *code) {
     return code->field == 16 ? 2 : 1;
 }
 
-static void take_front(struct code *code, struct bytes *rest) {
-    if (take(rest, 4) != 0x4C494643) fail("that is no code file");
+static void take_front(struct code *code, struct bytes *rest, unsigned mark) {
+    if (take(rest, 4) != mark) fail("a file has another mark");
     code->version = take(rest, 1);
-    if (code->version != 1 && code->version != 2) fail("the code file has another version");
+    if (code->version != 2 && (code->version != 1 || mark == DRAFT_MARK)) fail("a file has another version");
     code->field = take(rest, 1);
     code->rate = take_below(rest, 1, MOST_RATE + 1);
     if (!is_field(code) || code->rate == 0) fail("there is no such field or rate");
@@ -225,7 +226,7 @@ static void take_decoders(const struct code *code, struct bytes *rest) {
 
 // Takes what stands before the operands. The links of the pattern that is named fail then.
 static void take_named(struct code *code, struct bytes *rest, const char *pattern) {
-    take_front(code, rest);
+    take_front(code, rest, CODE_MARK);
     take_links(code, rest);
     take_sinks(code, rest);
     take_patterns(code, rest, pattern);

@@ -29,6 +29,13 @@ head_rounds=20
 head_rates="2 8 32"
 heads_each=500000
 
+# How often a draft of many demands is finished by the program and by C, and how often one of few. How many patterns are listed
+# where there are many demands, and which of these have an inverse made by jerasure: each whose number the last one divides.
+finish_rounds=5
+fan_rounds=25
+finish_patterns=4095
+inverse_step=16
+
 # How often each network text is gone through by the program and by C++, and how often each size is taken where there are many.
 net_rounds=15
 size_rounds=5
@@ -68,6 +75,7 @@ be_quick() {
     copy_rounds=1 row_rounds=1 code_rounds=1 read_rounds=1 check_rounds=1 migrate_rounds=1 frame_rounds=1 net_rounds=1
     size_rounds=1 alone_rounds=1 node_rounds=1 node_generations=4000 node_appends=10240
     head_rounds=1 heads_each=50000
+    finish_rounds=1 fan_rounds=1 finish_patterns=255
     frames_each=50000 source_bytes=4194304 layer_bytes=65536
     alone_links=250 size_layers="2 4 8" size_patterns="0 3 15" size_bytes="1024 16384 262144"
 }
@@ -178,6 +186,9 @@ build() {
         c-blind) cc -O3 -march="$own_level" -o "$folder/c-blind" "$top/bench/blind.c" -lisal ;;
         c-nodes) cc -O3 -o "$folder/c-nodes" "$top/bench/nodes.c" -lisal ;;
         c-send) cc -O3 -o "$folder/c-send" "$top/bench/send_frames.c" -lisal ;;
+        c-finish)
+            cc -O3 -march="$own_level" -I/usr/include/jerasure -o "$folder/c-finish" "$top/bench/finish.c" -lJerasure
+            ;;
         c-check) cc -O3 -march="$own_level" -o "$folder/c-check" "$top/bench/check.c" ;;
         cpp-*) c++ -std=c++17 -O3 -o "$folder/$name" "$top/bench/${name#cpp-}.cpp" ;;
         esac
@@ -530,6 +541,85 @@ measure_versions() {
     measure_length "1,023 parallel links, each of which fails" parallel 1023 fail-each rate 32
     measure_length "the mixed network, each link of which fails" mixed 4 32 4 16 8 0 fail-each
     for links in $alone_links; do measure_length "$links links, each of which fails" sized "$links" 16 4 16 4 fail-each; done
+}
+
+# Runs a command that finishes the draft, and keeps under a name the least of its times. What it says and makes is at that name.
+declare -A finish_time
+run_finish() {
+    local name=$1
+    shift
+    time_command "$@" finish "$files/draft" "$files/code-$name"
+    finish_time[$name]=$(least "${finish_time[$name]:-}" "$elapsed")
+    mv "$folder/log" "$files/said-$name"
+}
+
+# Finishes the draft of a code by the program and by C, and checks the code by the program, so often in turn, all on one processor.
+# Both must make the same file. The words from the third one on are those of bench/codes.c.
+finish_code() {
+    local title=$1 rounds=$2 round
+    shift 2
+    "$folder/codes" -2 "$@" >"$files/code"
+    "$top/tools/lif-draft" "$files/code" -o "$files/draft" >"$folder/log" 2>&1 || fail "$(cat "$folder/log")"
+    finish_time=() check_time=()
+    for ((round = 0; round < rounds; round++)); do
+        pin "$one_processor"
+        run_finish lif "$program"
+        run_finish c "$folder/c-finish"
+        pin "$all_processors"
+        cmp "$files/said-lif" "$files/said-c"
+        cmp "$files/code-lif" "$files/code-c"
+        rm "$files/code-c"
+        mv "$files/code-lif" "$files/code"
+        run_pinned lif "$(sed 's/^finished /accepted /' "$files/said-lif")" "$program" check
+    done
+    note "\`finish\` of $title" "" ms 1000000 "${finish_time[lif]}" "${finish_time[c]}" "C"
+    note "\`finish\` of $title, beside \`check\`" "" ms 1000000 "${finish_time[lif]}" "${check_time[lif]}" \
+        "\`check\` on one processor"
+}
+
+# Sets `memory` to the bytes that the program holds at most with these words.
+memory_of() {
+    /usr/bin/time -q -f %M -o "$folder/memory" "$program" "$@" >"$folder/log" || fail "$(cat "$folder/log")"
+    memory=$(($(cat "$folder/memory") * 1024))
+}
+
+# Inverts by jerasure what the links of the code's decoders carry, and sets the least time for as many demands as there are. An
+# inverse that isn't the decoder's matrix is a failure.
+invert_code() {
+    local demands=$1 round time count
+    inverted=''
+    for ((round = 0; round < finish_rounds; round++)); do
+        pin "$one_processor"
+        read -r time count < <("$folder/c-finish" inverses "$files/code" "$inverse_step") || fail "jerasure gives no decoder"
+        pin "$all_processors"
+        inverted=$(least "$inverted" $((time * demands / count)))
+    done
+}
+
+# The same of a code of rate 32 with many demands. Then the time for a demand is noted beside that for an inverse alone, and the
+# program's memory beside that for `check`.
+finish_many() {
+    local field=$1 demands=$((16 * (finish_patterns + 1))) title held
+    title="$(commas "$demands") demands of rate 32, field $field"
+    finish_code "$title" "$finish_rounds" fan "$field" 32 33 16 33 "$finish_patterns"
+    invert_code "$demands"
+    note "\`finish\` of $title, for each" "" "us a demand" $((demands * 1000)) "${finish_time[lif]}" "$inverted" \
+        "\`jerasure_invert_matrix\` alone"
+    memory_of finish "$files/draft" "$files/code-lif"
+    held=$memory
+    memory_of check "$files/code"
+    note "memory for \`finish\` of $title" "" MB 1000000 "$held" "$memory" "\`check\`"
+    rm "$files/code-lif"
+}
+
+measure_finish() {
+    local field
+    build codes c-finish
+    for field in 8 16; do finish_many "$field"; done
+    finish_code "the fan of field 8" "$fan_rounds" fan 8 8 16 16 8 0
+    finish_code "the fan of field 9" "$fan_rounds" fan 9 8 16 16 8 0
+    finish_code "the fan of field 16" "$fan_rounds" fan 16 8 16 16 8 0
+    rm "$files/draft" "$files/code"
 }
 
 # Runs a command over the network text, and keeps under a name the least of its times and what it said last.
