@@ -38,18 +38,24 @@ _lif_nodes() {
     _lif_words "$1" "$("$_lif_estimate" "$(_lif_path "$2")" "$3" 2>/dev/null)"
 }
 
+# The nodes of a network text; nothing where no file is there.
+_lif_ends() {
+    if [[ -f $1 ]]; then awk '$1 == "link" { print $3; print $4 } $1 == "source" || $1 == "sink" { print $2 }' "$1" | sort -u; fi
+}
+
 _lif() {
     local word=${COMP_WORDS[COMP_CWORD]}
     COMPREPLY=()
     if ((COMP_CWORD == 1)); then
-        _lif_words "$word" "order cuts compile check send demo migrate relay sink blind finish"
+        _lif_words "$word" "order cuts compile check send demo migrate relay sink blind finish twin"
         return
     fi
     case ${COMP_WORDS[1]},$COMP_CWORD in
-    order,2 | cuts,2 | compile,2) _lif_files "$word" .net ;;
-    compile,3 | check,2 | send,2 | migrate,2 | migrate,3 | relay,2 | sink,2 | blind,2 | finish,3) _lif_files "$word" .lif ;;
+    order,2 | cuts,2 | compile,2 | twin,2) _lif_files "$word" .net ;;
+    compile,3 | check,2 | send,2 | migrate,2 | migrate,3 | relay,2 | sink,2 | blind,2 | finish,3 | twin,6) _lif_files "$word" .lif ;;
     finish,2) _lif_files "$word" .draft ;;
-    compile,4) _lif_files "$word" .txt ;;
+    compile,4 | twin,7) _lif_files "$word" .txt ;;
+    twin,3) _lif_words "$word" "$(_lif_ends "$(_lif_path "${COMP_WORDS[2]}")")" ;;
     send,3 | relay,3 | sink,3) _lif_patterns "$word" "${COMP_WORDS[2]}" ;;
     relay,4) _lif_nodes "$word" "${COMP_WORDS[2]}" --nodes ;;
     sink,4) _lif_nodes "$word" "${COMP_WORDS[2]}" --sinks ;;
@@ -94,6 +100,7 @@ _lif_tool() {
     lif-estimate,--pattern | lif-plan,--pattern) _lif_patterns "$word" "$(_lif_given .lif)" ;;
     *,--pattern) _lif_words "$word" "none $(_lif_names pattern)" ;;
     lif-draw,--sink) _lif_words "$word" "$(_lif_names sink)" ;;
+    lif-gain,--second) _lif_words "$word" "$(_lif_ends "$(_lif_given .net)")" ;;
     lif-draw,--failed)
         # Names with a comma between each two: the last one is completed.
         value=${word%"${word##*,}"}

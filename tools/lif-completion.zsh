@@ -16,16 +16,24 @@ _lif_nodes() {
     compadd -a names
 }
 
+# Offers the nodes of a network text; nothing where no file is there.
+_lif_ends() {
+    local -aU names
+    names=(${(f)"$(awk '$1 == "link" { print $3; print $4 } $1 == "source" || $1 == "sink" { print $2 }' ${~${(Q)1}} 2>/dev/null)"})
+    compadd -a names
+}
+
 _lif_program() {
     if ((CURRENT == 2)); then
-        compadd order cuts compile check send demo migrate relay sink blind finish
+        compadd order cuts compile check send demo migrate relay sink blind finish twin
         return
     fi
     case $words[2],$CURRENT in
-    order,3 | cuts,3 | compile,3) _files -g '*.net' ;;
-    compile,4 | check,3 | send,3 | migrate,3 | migrate,4 | relay,3 | sink,3 | blind,3 | finish,4) _files -g '*.lif' ;;
+    order,3 | cuts,3 | compile,3 | twin,3) _files -g '*.net' ;;
+    compile,4 | check,3 | send,3 | migrate,3 | migrate,4 | relay,3 | sink,3 | blind,3 | finish,4 | twin,7) _files -g '*.lif' ;;
     finish,3) _files -g '*.draft' ;;
-    compile,5) _files -g '*.txt' ;;
+    compile,5 | twin,8) _files -g '*.txt' ;;
+    twin,4) _lif_ends $words[3] ;;
     send,4 | relay,4 | sink,4) _lif_patterns $words[3] ;;
     relay,5) _lif_nodes $words[3] --nodes ;;
     sink,5) _lif_nodes $words[3] --sinks ;;
@@ -65,6 +73,10 @@ _lif_tool() {
         ;;
     *,--pattern) _lif_names pattern none ;;
     lif-draw,--sink) _lif_names sink ;;
+    lif-gain,--second)
+        codes=(${(M)words:#*.net})
+        _lif_ends $codes[1]
+        ;;
     lif-draw,--failed) _lif_links ;;
     lif-draw,--report) _files -g '*.txt' ;;
     lif-draw,--code) _files -g '*.lif' ;;

@@ -33,21 +33,24 @@ FORMS = {
     "sink": ("CODE", "PATTERN", "SINK", "IN", "DST"),
     "blind": ("CODE", "SRC", "PREFIX"),
     "finish": ("DRAFT", "CODE"),
+    "twin": ("NET", "SECOND", "R1", "R2", "CODE", "REPORT"),
 }
 # What a command takes behind the words of its form, as many as there are.
 MORE = {"blind": "LINK"}
 INPUTS = ("NET", "CODE", "SRC", "OLD")
 # What is read by those commands that make CODE.
-INPUTS_OF = {"compile": ("NET",), "finish": ("DRAFT",)}
+INPUTS_OF = {"compile": ("NET",), "finish": ("DRAFT",), "twin": ("NET",)}
 NODE_COMMANDS = ("relay", "sink")
 # Those that carry a source to the files of sinks.
 SENDING = ("send", "blind")
-NUMBERS = ("SEED", "N", "K", "BYTES")
+# Those that make a code and a report of a network.
+MAKING = ("compile", "twin")
+NUMBERS = ("SEED", "N", "K", "BYTES", "R1", "R2")
 
 # The statuses, as docs/FORMATS.md has them.
 USAGE, NET_REFUSED, ZERO_RATE, TOO_MANY_DEMANDS, RATE_OVER, CODE_REFUSED, CHECK_FAILED, UNKNOWN_PATTERN = range(2, 10)
 READ_FAULT, WRITE_FAULT, TOO_LONG, OUT_OF_MEMORY, SAME_PATH, LINK_FAULT, RATE_UNMET = range(10, 17)
-STREAM_REFUSED, UNKNOWN_NODE, BAD_BLOCKS, UNKNOWN_LINK, NOT_DECODING = range(17, 22)
+STREAM_REFUSED, UNKNOWN_NODE, BAD_BLOCKS, UNKNOWN_LINK, NOT_DECODING, TWIN_REFUSED = range(17, 23)
 
 # Signals that are passed on to the program.
 PASSED = (signal.SIGHUP, signal.SIGINT, signal.SIGQUIT, signal.SIGTERM, signal.SIGUSR1, signal.SIGUSR2)
@@ -179,7 +182,7 @@ class Call:
         from lif_tools.formats import Refused, read_sinks
 
         given = self.given
-        if self.command == "compile" and given:
+        if self.command in MAKING and given:
             return [given["CODE"], given["REPORT"]]
         if self.command == "migrate" and given:
             return [given["NEW"]]
@@ -269,6 +272,9 @@ def cause(call: Call, status: int) -> str | None:
     if status == RATE_OVER:
         return f"{net}: each sink can get more than 32 symbols a use, and no code has a higher rate"
     if status == RATE_UNMET:
+        if call.command == "twin":
+            second = given.get("SECOND", "")
+            return f"{net}: so much doesn't come to that sink; `lif-gain {net} --second {second}` says which R1 and R2 do"
         return f"{net}: its line `rate` wants more than that sink can get; without the line the greatest rate is taken"
     if status == CODE_REFUSED:
         return draft_cause(draft) if draft else code_cause(code)
@@ -298,6 +304,8 @@ def cause(call: Call, status: int) -> str | None:
         return link_cause(code, call.failed)
     if status == NOT_DECODING:
         return f"{draft}: what comes to that sink under that pattern is the same for that block as for zeros"
+    if status == TWIN_REFUSED:
+        return twin_cause(net, given)
     return None
 
 
@@ -316,6 +324,8 @@ def usage_cause(call: Call) -> str | None:
             return f"{name} is {word}, and has to be a number below 2^64"
         if not is_text(word):
             return f"{name} is {word}, and has to be text in UTF-8, also where it is a path"
+    if call.command == "twin":
+        return "R1 and R2 are at least 1, and at most 32 together"
     if call.command == "demo":
         return "N is at most 64, K from 1 to 32 and at most N, and BYTES at most 67,108,864; links and nodes have their limits"
     return None
@@ -343,6 +353,26 @@ def net_cause(net: str) -> str | None:
     if cycle is None:
         return None
     return f"{net}: these links form a cycle: {listed([network.links[link].name for link in cycle])}"
+
+
+def twin_cause(net: str, given: dict[str, str]) -> str | None:
+    """Why two sources aren't joined, where the network can be read here."""
+    from lif_tools.formats import MOST_LINKS, MOST_NODES, MOST_TEXT_BYTES, SUPER, Refused, read_network, taken_name
+
+    try:
+        network = read_network(content_of(net, MOST_TEXT_BYTES))
+        r1, r2 = int(given["R1"]), int(given["R2"])
+    except (Refused, KeyError, ValueError):
+        return None
+    if given["SECOND"] not in network.nodes:
+        return f"{net}: no node is named {given['SECOND']}; its nodes: {', '.join(network.nodes[:MOST_LISTED])}"
+    taken = taken_name(network, r1, r2)
+    if taken is not None:
+        return f"{net}: {taken} has a name that twin gives to what it puts before both nodes"
+    nodes, links = len(network.nodes), len(network.links)
+    if nodes >= MOST_NODES:
+        return f"{net}: {nodes:,} nodes, and with the node {SUPER} there may be {MOST_NODES:,}"
+    return f"{net}: {links:,} links, and with those of the node {SUPER} there may be {MOST_LINKS:,}"
 
 
 def code_cause(code: str) -> str | None:
@@ -470,13 +500,14 @@ def beginnings(call: Call) -> str | None:
         what = "only a beginning" if length is not None else "perhaps only a beginning"
         return f"{what} of {call.given['SRC']} stands in {listed(short)}" if short else None
     # The code is whole where the report was begun.
-    begun = written[-1:] if call.command == "compile" else written
+    begun = written[-1:] if call.command in MAKING else written
     return f"perhaps only a beginning stands in {listed(begun)}" if begun else None
 
 
 def with_line(call: Call) -> str | None:
     """Which output is standard output too, once the program has said its line there."""
-    names = {"compile": ("CODE", "REPORT"), "migrate": ("NEW",), "sink": ("DST",), "finish": ("CODE",)}.get(call.command, ())
+    one = {"migrate": "NEW", "sink": "DST", "finish": "CODE"}.get(call.command)
+    names = ("CODE", "REPORT") if call.command in MAKING else (one,) if one else ()
     for path in (call.given[name] for name in names if call.given):
         try:
             found = os.stat(path)

@@ -13,6 +13,9 @@ other paths.
 By --failed any links fail, which needs no pattern, and no demand is drawn. Each sink is filled by the rank of what comes
 to it: those are whole whose rank is the code's rate, and `lif blind` writes their files alone. The code may decode or not.
 
+With a code of `lif twin` for the network the node `super` and its links are drawn too. It is no node of the network, and
+has a dashed frame; both sources have roofs.
+
 A legend below the drawing says so too. The drawing is SVG, PNG or PDF, by the ending of FILE. A drawing of more than
 some hundred links can't be read: --live draws the links alone that carry something, by the code, or else those of the
 flow.
@@ -45,16 +48,22 @@ from lif_tools.common import (
 )
 from lif_tools.flows import Certificate, certificate, fault_of
 from lif_tools.formats import (
+    INTO_SECOND,
+    INTO_SOURCE,
     NONE,
+    SUPER,
     Code,
     Network,
     Vector,
     check_failure,
+    join_sources,
     live_links,
     live_where,
     ranks_where,
+    super_links,
     vectors_of,
     vectors_where,
+    why_unjoined,
 )
 
 PATH_COLOURS = ("#1f6fb4", "#c2610c", "#2e8540", "#6b3fa0", "#a3195b", "#0f7b7b", "#7a6a00", "#444444")
@@ -132,9 +141,8 @@ class Carried:
         return [f"x{row} = {sum_text(decoder.entries[row * rate:(row + 1) * rate], names)}" for row in range(rate)]
 
 
-def carried_by(path: str, network: Network, pattern: str) -> Carried:
-    """What the code of a file does with a pattern; the file is that of an accepted code of the network."""
-    code = load_code(path)
+def carried_by(path: str, code: Code, network: Network, pattern: str) -> Carried:
+    """What the code of a file does with a pattern; it has to be an accepted code of the network."""
     refuse_other(path, code.network, network)
     failure = check_failure(code)
     if failure is not None:
@@ -144,14 +152,44 @@ def carried_by(path: str, network: Network, pattern: str) -> Carried:
     return Carried(code, dict(zip(names, vectors_of(code, number))), dict(zip(names, live_links(code, number))), number)
 
 
-def carried_where(path: str, network: Network, failing: Collection[str]) -> Carried:
-    """What the code of a file does where these links fail; the file is that of a code of the network, accepted or not."""
-    code = load_code(path)
+def carried_where(path: str, code: Code, network: Network, failing: Collection[str]) -> Carried:
+    """What the code of a file does where these links fail; it has to be a code of the network, accepted or not."""
     refuse_other(path, code.network, network)
     names = [link.name for link in code.network.links]
     failed = [number for number, name in enumerate(names) if name in failing]
     vectors, live = vectors_where(code, failed), live_where(code, failed)
     return Carried(code, dict(zip(names, vectors)), dict(zip(names, live)), ranks=tuple(ranks_where(code, failed)))
+
+
+def joined_as(network: Network, coded: Network) -> Network:
+    """The network, or where the one of a code joins its source and a second node as `lif twin` does, that one."""
+    ends = [(link.name, coded.nodes[link.head]) for link in coded.links if link.tail == coded.source]
+    r1 = sum(name.startswith(f"{INTO_SOURCE}.") for name, _ in ends)
+    second = next((head for name, head in ends if name == f"{INTO_SECOND}.1"), None)
+    if coded.nodes[coded.source] != SUPER or second is None or why_unjoined(network, second, r1, len(ends) - r1) is not None:
+        return network
+    return join_sources(network, second, r1, len(ends) - r1)
+
+
+@dataclass(frozen=True)
+class Joined:
+    """The two nodes that `super` feeds, by their numbers, and how many rows each gets."""
+
+    nodes: tuple[int, int]
+    rates: tuple[int, int]
+
+
+def joined_in(network: Network) -> Joined | None:
+    """What the source of a network feeds, where it is the node that `lif twin` joins."""
+    ends = {link.name: link.head for link in network.links if link.tail == network.source}
+    r1 = sum(name.startswith(f"{INTO_SOURCE}.") for name in ends)
+    made = super_links(r1, len(ends) - r1)
+    if network.nodes[network.source] != SUPER or not 0 < r1 < len(ends) or set(ends) != set(made):
+        return None
+    first, second = ends[made[0]], ends[made[-1]]
+    if [ends[name] for name in made] != [first] * r1 + [second] * (len(ends) - r1):
+        return None
+    return Joined((first, second), (r1, len(ends) - r1))
 
 
 def parts_of(network: Network) -> dict[str, set[str]]:
@@ -218,6 +256,10 @@ class Drawing:
         failing = listed([network.links[link].name for link in self.failing]) or "no link"
         return f"{failing} failed: {self.whole_count()} of {counted(len(network.sinks), 'sink')} whole{drawn}"
 
+    @functools.cached_property
+    def joined(self) -> Joined | None:
+        return joined_in(self.network)
+
     def whole_count(self) -> int:
         return sum(rank == self.carried.code.rate for rank in self.carried.ranks) if self.carried else 0
 
@@ -263,7 +305,9 @@ def node_line(drawing: Drawing, node: int) -> str:
     network, demand = drawing.network, drawing.demand
     lines = [network.nodes[node]]
     values = {"fillcolor": quoted(SIDE_FILL if demand and node in demand.certificate.side else NODE_FILL)}
-    if node == network.source:
+    if drawing.joined and node == network.source:
+        values |= {"shape": "box", "style": quoted("filled,dashed")}
+    elif node in (drawing.joined.nodes if drawing.joined else (network.source,)):
         values["shape"] = "house"
     if node in network.sinks:
         values["shape"] = "box"
@@ -356,10 +400,26 @@ def legend_rows(drawing: Drawing) -> Iterator[tuple[list[str], str]]:
         yield [dashes(FAILED_COLOUR)], "links that fail"
     if drawing.dead:
         yield [dashes(DEAD_COLOUR)], "links that carry nothing"
+    if drawing.joined:
+        shown = '<td width="24" height="12" fixedsize="true" border="1" style="dashed"></td>'
+        yield [shown], f"{SUPER}: no node of the network; it stands for both sources"
     if drawing.demand:
-        yield ['<td width="24" height="12" fixedsize="true" border="2"></td>'], "the sink of the demand; the source has a roof"
+        roofed = set(drawing.joined.nodes if drawing.joined else ()).difference(drawing.network.sinks)
+        roofs = "both sources have roofs" if len(roofed) > 1 else "the source has a roof"
+        yield ['<td width="24" height="12" fixedsize="true" border="2"></td>'], f"the sink of the demand; {roofs}"
     if drawing.carried:
-        yield ["<td>x0 ..</td>"], "rows of the source, with coefficients of the code's field"
+        yield ["<td>x0 ..</td>"], f"rows{rows_told(drawing)}, with coefficients of the code's field"
+
+
+def rows_told(drawing: Drawing) -> str:
+    """Whose rows there are: those of the source, or of two sources which each has."""
+    if drawing.joined is None:
+        return " of the source"
+    (r1, r2), told = drawing.joined.rates, []
+    for node, rows in zip(drawing.joined.nodes, (range(r1), range(r1, r1 + r2))):
+        last = f" .. x{rows[-1]}" if len(rows) > 1 else ""
+        told.append(f"x{rows[0]}{last} of {drawing.network.nodes[node]}")
+    return f": {' and '.join(told)}"
 
 
 def some_drawn(drawing: Drawing, links: Collection[int]) -> str:
@@ -438,6 +498,9 @@ def facts_of(drawing: Drawing, path: str, output: str | None) -> dict[str, objec
     facts: dict[str, object] = {"network": path, "drawing": output}
     if drawing.demand:
         facts |= demand_facts(network, drawing.demand)
+    if drawing.joined:
+        pairs = zip(drawing.joined.nodes, drawing.joined.rates)
+        facts["sources"] = [{"node": network.nodes[node], "rate": rate} for node, rate in pairs]
     facts |= {
         "failed": [names[link] for link in drawing.failing],
         "all_links": len(names),
@@ -517,9 +580,12 @@ def words_of(arguments: Sequence[str]) -> argparse.Namespace:
 
 def drawing_of(words: argparse.Namespace) -> tuple[Drawing, int]:
     """What is to be drawn, and how many links carry something."""
-    network = load_network(words.network)
+    network, code = load_network(words.network), load_code(words.code) if words.code else None
+    if code is not None:
+        network = joined_as(network, code.network)
     if words.failed is not None:
-        return failure_of(words, network)
+        assert code is not None
+        return failure_of(words, network, code)
     name = words.pattern if words.pattern is not None else NONE
     pattern = pattern_number(words.network, network, name)
     sink = sink_number(words.network, network, words.sink) if words.sink is not None else 0
@@ -527,7 +593,7 @@ def drawing_of(words: argparse.Namespace) -> tuple[Drawing, int]:
         found = read_report(words.report, network, sink, pattern)
     else:
         found = certificate(network, network.sinks[sink], network.patterns[pattern].links)
-    carried = carried_by(words.code, network, name) if words.code else None
+    carried = carried_by(words.code, code, network, name) if code is not None else None
     live = live_of(network, found, carried)
     links, nodes = tuple(range(len(network.links))), tuple(range(len(network.nodes)))
     if words.live:
@@ -535,14 +601,14 @@ def drawing_of(words: argparse.Namespace) -> tuple[Drawing, int]:
     return Drawing(network, Demand(sink, pattern, found), network.patterns[pattern].links, carried, links, nodes), len(live)
 
 
-def failure_of(words: argparse.Namespace, network: Network) -> tuple[Drawing, int]:
+def failure_of(words: argparse.Namespace, network: Network, code: Code) -> tuple[Drawing, int]:
     """What is to be drawn where any links fail, and how many carry something."""
     numbers = {link.name: number for number, link in enumerate(network.links)}
     names = words.failed.split(",") if words.failed else []
     for name in names:
         if name not in numbers:
             raise ToolError(f"{words.network}: unknown link: {name}; its links: {listed(list(numbers))}")
-    carried = carried_where(words.code, network, names)
+    carried = carried_where(words.code, code, network, names)
     live = live_of(network, None, carried)
     links, nodes = tuple(range(len(network.links))), tuple(range(len(network.nodes)))
     if words.live:

@@ -1,5 +1,5 @@
 """Networks and codes of lif: network texts, code files of both versions, drafts, the fields, what the links of a code carry,
-and the decoders of a draft.
+the decoders of a draft, and networks and codes of two sources.
 
 The formats are those of docs/FORMATS.md, with the same refusals. Nothing but the standard library is needed.
 """
@@ -974,6 +974,81 @@ def finish(draft: Draft) -> Code | Confusion:
 def draft_of(code: Draft) -> Draft:
     """A code without its decoders."""
     return Draft(code.network, code.field, code.rate, code.operands)
+
+
+# Two sources
+
+
+# The node that feeds both, and the beginnings of the names of its links into the source and into the second node.
+SUPER, INTO_SOURCE, INTO_SECOND = "super", "super.1", "super.2"
+
+
+def super_links(r1: int, r2: int) -> list[str]:
+    """The names of so many links into the source, and so many into the second node."""
+    return [
+        f"{front}.{number}" for front, count in ((INTO_SOURCE, r1), (INTO_SECOND, r2)) for number in range(1, count + 1)
+    ]
+
+
+def taken_name(network: Network, r1: int, r2: int) -> str | None:
+    """The first node or link that has the name of what is made for two sources, with its kind."""
+    if SUPER in network.nodes:
+        return f"node {SUPER}"
+    made = set(super_links(r1, r2))
+    return next((f"link {link.name}" for link in network.links if link.name in made), None)
+
+
+def why_unjoined(network: Network, second: str, r1: int, r2: int) -> str | None:
+    """Why the source and the second node aren't joined, as `lif twin` says it; none where they are."""
+    if second not in network.nodes:
+        return "UnknownSecond"
+    if taken_name(network, r1, r2) is not None:
+        return "NameTaken"
+    if len(network.nodes) >= MOST_NODES or len(network.links) + r1 + r2 > MOST_LINKS:
+        return "TooMany"
+    return None
+
+
+def join_sources(network: Network, second: str, r1: int, r2: int) -> Network:
+    """The network with a node `super` in place of its source, from which so many links lead into the source, and so many into
+    the second node, and with both rates together as the one that is wanted. Those links come first, and the node last. A
+    second node that can't be joined is a ValueError with the reason."""
+    why = why_unjoined(network, second, r1, r2)
+    if why is not None:
+        raise ValueError(why)
+    node, heads = len(network.nodes), [network.source] * r1 + [network.nodes.index(second)] * r2
+    links = (Link(name, node, head) for name, head in zip(super_links(r1, r2), heads))
+    patterns = (Pattern(it.name, tuple(r1 + r2 + link for link in it.links)) for it in network.patterns)
+    return dataclasses.replace(
+        network,
+        nodes=(*network.nodes, SUPER),
+        links=(*links, *network.links),
+        source=node,
+        patterns=tuple(patterns),
+        rate=r1 + r2,
+    )
+
+
+def separate(code: Code) -> Code:
+    """The code whose links out of the source, which have to be the first, as many as the rate, carry a row of the block each,
+    and whose other operands stay. The matrix of each decoder is multiplied from the left by that of the vectors that these
+    links had."""
+    network, field, rate = code.network, code.field, code.rate
+    if [number for number, link in enumerate(network.links) if link.tail == network.source] != list(range(rate)):
+        raise ValueError("the links out of the source aren't the first, as many as the rate")
+    units = [unit_vector(rate, row) for row in range(rate)]
+    vectors = [
+        combination(field, rate, ((operand.times, units[operand.origin]) for operand in operands))
+        for operands in code.operands[:rate]
+    ]
+
+    def decoder(old: Decoder) -> Decoder:
+        rows = [tuple(old.entries[row * rate : (row + 1) * rate]) for row in range(rate)]
+        product = (combination(field, rate, zip(vector, rows)) for vector in vectors)
+        return Decoder(old.links, [element for row in product for element in row])
+
+    operands = tuple((Operand(row, 1),) for row in range(rate)) + code.operands[rate:]
+    return dataclasses.replace(code, operands=operands, decoders=tuple(map(decoder, code.decoders)))
 
 
 # Blocks

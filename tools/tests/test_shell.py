@@ -52,7 +52,7 @@ def folder(tmp_path: Path) -> Path:
 
 
 def test_words_are_completed(folder: Path) -> None:
-    words = ["blind", "check", "compile", "cuts", "demo", "finish", "migrate", "order", "relay", "send", "sink"]
+    words = ["blind", "check", "compile", "cuts", "demo", "finish", "migrate", "order", "relay", "send", "sink", "twin"]
     assert completed(folder, "lif", "") == words
     assert completed(folder, "./lif", "c") == ["check", "compile", "cuts"]
 
@@ -67,6 +67,9 @@ def test_files_are_completed(folder: Path) -> None:
     (folder / "one.draft").write_text("")
     assert completed(folder, "lif", "finish", "") == completed(folder, DRAFT, "one.net", "-o", "") == ["old", "one.draft"]
     assert completed(folder, "lif", "finish", "one.draft", "") == ["my code.lif", "old"]
+    assert completed(folder, "lif", "twin", "") == ["old", "one.net"]
+    assert completed(folder, "lif", "twin", "one.net", "b", "1", "1", "") == ["my code.lif", "old"]
+    assert completed(folder, "lif", "twin", "one.net", "b", "1", "1", "b.lif", "") == ["notes.txt", "old"]
 
 
 def test_patterns_are_completed(folder: Path) -> None:
@@ -82,6 +85,9 @@ def test_nodes_and_sinks_are_completed(folder: Path) -> None:
     assert completed(folder, "lif", "relay", "my\\ code.lif", "none", "") == ["s", "t"]
     assert completed(folder, "lif", "sink", "my\\ code.lif", "none", "") == ["t"]
     assert completed(folder, "lif", "sink", "my\\ code.lif", "none", "t", "n") == ["notes.txt"]
+    (folder / "two.net").write_text(NET)
+    assert completed(folder, "lif", "twin", "two.net", "") == ["s", "t", "u"]
+    assert completed(folder, "lif", "twin", "missing.net", "") == completed(folder, "lif", "twin", "two.net", "s", "") == []
 
 
 def test_links_are_completed(folder: Path) -> None:
@@ -113,7 +119,9 @@ def completed_by_zsh(folder: Path, *words: str) -> list[str]:
     return sorted(filter(None, done.stdout.splitlines()))
 
 
-DRAFT, DRAW, IMPORT, ESTIMATE, PLAN = (str(TOOLS / f"lif-{name}") for name in ("draft", "draw", "import", "estimate", "plan"))
+DRAFT, DRAW, IMPORT, ESTIMATE, PLAN, GAIN = (
+    str(TOOLS / f"lif-{name}") for name in ("draft", "draw", "import", "estimate", "plan", "gain")
+)
 # A link and a bundle.
 BUNDLED = "source s\nsink t\nlink l s t\nlink k s t x3 # far\n"
 NET = "source s\nsink t\nsink u # far\nlink l s t\nlink k s u\npattern duct l\n"
@@ -123,6 +131,7 @@ OFFERED = [
     ((DRAW, "two.net", "--pattern", ""), ["duct", "none"], ""),
     ((DRAW, "two.net", "--sink", ""), ["t", "u"], ""),
     ((DRAW, "two.net", "--code", ""), ["my code.lif", "old"], "*.lif"),
+    ((GAIN, "two.net", "--second", ""), ["s", "t", "u"], ""),
     ((ESTIMATE, "my\\ code.lif", "--pattern", ""), ["duct", "dust", "none"], ""),
     ((ESTIMATE, ""), ["my code.lif", "old"], "*.lif"),
     ((PLAN, "my\\ code.lif", "--pattern", ""), ["duct", "dust", "none"], ""),
@@ -160,6 +169,10 @@ def test_zsh_completes_the_words_of_the_tools(folder: Path) -> None:
     assert completed_by_zsh(folder, "lif", "send", "my\\ code.lif", "") == ["duct", "dust", "none"]
     assert completed_by_zsh(folder, "lif", "finish", "") == completed_by_zsh(folder, DRAFT, "-o", "") == ["files *.draft"]
     assert completed_by_zsh(folder, "lif", "finish", "a.draft", "") == ["files *.lif"]
+    assert completed_by_zsh(folder, "lif", "twin", "") == ["files *.net"]
+    assert completed_by_zsh(folder, "lif", "twin", "two.net", "") == ["s", "t", "u"]
+    assert completed_by_zsh(folder, "lif", "twin", "two.net", "b", "1", "1", "") == ["files *.lif"]
+    assert completed_by_zsh(folder, "lif", "twin", "two.net", "b", "1", "1", "b.lif", "") == ["files *.txt"]
     assert completed_by_zsh(folder, "lif", "blind", "") == ["files *.lif"]
     assert completed_by_zsh(folder, "lif", "blind", "a.lif", "") == completed_by_zsh(folder, "lif", "blind", "a.lif", "b", "")
     assert completed_by_zsh(folder, "lif", "blind", "my\\ code.lif", "a", "b", "k", "") == ["k", "l"]

@@ -1,7 +1,5 @@
 //! Links into a sink that are taken in one by one.
-ghost use Rattle.std.specs.Prelude.{◌≡◌, ◌<◌, ◌≤◌, ◌*◌, ◌%◌, ◌∷◌, ◌++◌, [], ℕ, List, IfOk, OnOk, length, take};
-ghost use Rattle.field_rows.specs.Widths.{width_in};
-ghost use Rattle.gf_tables.specs.Product.{bytes_of_element};
+ghost use Rattle.std.specs.Prelude.{◌≡◌, ◌<◌, ◌≤◌, ◌*◌, ◌∷◌, ◌++◌, [], ℕ, List, IfOk, OnOk, length};
 ghost use Rattle.linear_algebra.specs.Elements.{elements_of};
 ghost use Rattle.linear_algebra.specs.Matrices.{rows_of};
 ghost use Rattle.linear_algebra.specs.Rows.{AreElements, IsRow, unit_row};
@@ -10,7 +8,7 @@ ghost use Rattle.row_spans.specs.Spans.{IsHidden, vectors};
 ghost use Rattle.code_finish.specs.Solved.{AreUnitSums};
 ghost use Rattle.code_finish.specs.Taken.{AreTaken};
 
-use field_rows::{RowTables, element_at, unit_row};
+use field_rows::{RowTables, push_elements, unit_row};
 use gf_tables::FieldKind;
 use row_spans::RowSpan;
 use std::alloc::{AllocError, Global};
@@ -40,25 +38,6 @@ fn row_of(field: FieldKind, vector: &[u8; 64], place: u32) -> [u8; 128]
     front.copy_from_slice(vector);
     behind.copy_from_slice(&unit_row::<64>(field, place));
     row
-}
-
-// Adds so many of a row's first elements.
-fn push_elements(
-    elements: &mut Vec<u32>,
-    field: FieldKind,
-    row: &[u8],
-    count: u32,
-) -> Result<(), AllocError>
-    requires whole { length row.now % bytes_of_element field ≡ 0 }
-    requires inside { count ≤ width_in field (length row.now) }
-    ensures pushed { OnOk result (elements.new.items
-        ≡ elements.old.items ++ take count (elements_of field row.now)) }
-    ensures elements { AreElements field (take count (elements_of field row.now)) }
-{
-    for place in 0..count {
-        elements.push(element_at(field, row, place))?;
-    }
-    Ok(())
 }
 
 impl Taken {

@@ -1,11 +1,12 @@
 //! Elements of rows of bytes.
-ghost use Rattle.std.specs.Prelude.{◌≡◌, ◌<◌, ◌%◌, length, set, slice_index};
+ghost use Rattle.std.specs.Prelude.{◌≡◌, ◌<◌, ◌≤◌, ◌%◌, ◌++◌, OnOk, length, set, slice_index, take};
 ghost use Rattle.gf_tables.specs.Product.{bytes_of_element, size_of};
 ghost use Rattle.linear_algebra.specs.Elements.{elements_of};
-ghost use Rattle.linear_algebra.specs.Rows.{unit_row};
+ghost use Rattle.linear_algebra.specs.Rows.{AreElements, unit_row};
 ghost use Rattle.field_rows.specs.Widths.{width_in};
 
 use gf_tables::{FieldKind, Width};
+use std::alloc::AllocError;
 
 /// The number of the element at a place.
 pub fn element_at(field: FieldKind, row: &[u8], place: u32) -> u32
@@ -19,6 +20,25 @@ pub fn element_at(field: FieldKind, row: &[u8], place: u32) -> u32
         Width::One => row[at] as u32,
         Width::Two => 256 * row[2 * at] as u32 + row[2 * at + 1] as u32,
     }
+}
+
+/// Adds so many of a row's first elements.
+pub fn push_elements(
+    elements: &mut Vec<u32>,
+    field: FieldKind,
+    row: &[u8],
+    count: u32,
+) -> Result<(), AllocError>
+    requires whole { length row.now % bytes_of_element field ≡ 0 }
+    requires inside { count ≤ width_in field (length row.now) }
+    ensures pushed { OnOk result (elements.new.items
+        ≡ elements.old.items ++ take count (elements_of field row.now)) }
+    ensures elements { AreElements field (take count (elements_of field row.now)) }
+{
+    for place in 0..count {
+        elements.push(element_at(field, row, place))?;
+    }
+    Ok(())
 }
 
 /// Puts an element at a place.

@@ -14,12 +14,13 @@ use Rattle.lif_outside.specs.Puts.{Put}
 use Rattle.top_base.specs.Outcome.{SaysOutcome, status_unsaid}
 use Rattle.top_base.specs.Performs.{Performs, RunsOn}
 use Rattle.top_base.proofs.PerformingLaws.{IsKnown, at_once_known, performs_said}
-use Rattle.top_base.specs.Words.{Command, blind, check, command_of, compile, cuts, demo, finish, migrate, order, relay, send, sink}
+use Rattle.top_base.specs.Words.{Command, blind, check, command_of, compile, cuts, demo, finish, migrate, order, relay, send, sink, twin}
 use Rattle.top_base.specs.declared.outcome.Outcome.{Outcome}
 use Rattle.top_base.specs.declared.status.Status.{Status}
 use Rattle.top_base.specs.declared.status.Status.TheVariants.{Done, Usage}
 use Rattle.top_tools.proofs.FinishLaws.{finish_known, finish_used}
 use Rattle.top_tools.proofs.ToolLaws.{check_known, check_used, compile_known, compile_used, cuts_known, cuts_used, migrate_known, migrate_used, order_known, order_used}
+use Rattle.top_tools.proofs.TwinLaws.{twin_known, twin_used}
 use Rattle.lif_top.specs.Promises.{Promises, does_form, misuse}
 use Rattle.top_blind.proofs.BlindDelivered.{blind-delivers}
 use Rattle.top_blind.proofs.BlindLaws.{blind_known, blind_used}
@@ -61,6 +62,7 @@ form_known faithful (Some (relay given)) = relay_known given
 form_known faithful (Some (sink given)) = sink_known given
 form_known faithful (Some (blind given)) = blind_known given
 form_known faithful (Some (finish given)) = finish_known given
+form_known faithful (Some (twin given)) = twin_known given
 
 command_used : (faithful : Bool) (command : Command) (outcome : Outcome) (calls : Calls) → (does_form faithful (Some command)).runs outcome calls → outcome.status ≢ Usage
 command_used faithful (order net) = order_used net
@@ -74,6 +76,7 @@ command_used faithful (relay given) = relay_used given
 command_used faithful (sink given) = sink_used given
 command_used faithful (blind given) = blind_used given
 command_used faithful (finish given) = finish_used given
+command_used faithful (twin given) = twin_used given
 
 -- the usage comes of words that are no form
 usage_of : (faithful : Bool) (form : Option Command) (outcome : Outcome) (status : Status) (calls : Calls) (puts : List Put) → (does_form faithful form).runs outcome calls → SaysOutcome outcome status puts → (status ≡ Usage) ↔ (form ≡ None)

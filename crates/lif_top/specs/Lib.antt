@@ -32,6 +32,9 @@ pub use Rattle.top_tools.specs.Cuts
 pub use Rattle.top_tools.specs.Finish
 pub use Rattle.top_tools.specs.Migrate
 pub use Rattle.top_tools.specs.Order
+pub use Rattle.top_tools.specs.Twin
+pub use Rattle.two_sources.specs.Joined
+pub use Rattle.two_sources.specs.Separated
 pub use Rattle.command_steps.specs.Feeding
 pub use Rattle.command_steps.specs.Filling
 pub use Rattle.command_steps.specs.Listed

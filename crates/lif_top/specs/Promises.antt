@@ -10,9 +10,10 @@ use Rattle.top_tools.specs.Cuts.{cuts_command}
 use Rattle.top_tools.specs.Finish.{finish_command}
 use Rattle.top_tools.specs.Migrate.{migrate_command}
 use Rattle.top_tools.specs.Order.{order_command}
+use Rattle.top_tools.specs.Twin.{twin_command}
 use Rattle.top_base.specs.Lines.{usage_line}
 use Rattle.top_base.specs.Performs.{Behaviour, Performs, at_once}
-use Rattle.top_base.specs.Words.{AtNode, Blind, Command, blind, check, command_of, compile, cuts, demo, finish, migrate, order, relay, send, sink}
+use Rattle.top_base.specs.Words.{AtNode, Blind, Command, blind, check, command_of, compile, cuts, demo, finish, migrate, order, relay, send, sink, twin}
 use Rattle.top_base.specs.declared.outcome.Outcome.{Outcome}
 use Rattle.top_base.specs.declared.status.Status.{Status}
 use Rattle.top_base.specs.declared.status.Status.TheVariants.{Usage}
@@ -42,6 +43,7 @@ does_form faithful (Some (relay given)) = relay_command given
 does_form faithful (Some (sink given)) = sink_command given
 does_form faithful (Some (blind given)) = blind_command given
 does_form faithful (Some (finish given)) = finish_command given
+does_form faithful (Some (twin given)) = twin_command given
 
 pub record Promises {S C L : Type 0} {g : StoreGhosts S} {h : SinkGhosts C} {k : LinksGhosts L} (words : List (List ℕ)) (o : Objects g h k)
     (status : Status) : Type 0 where

@@ -15,4 +15,4 @@ pub use launching::launch;
 pub use program::lif;
 pub use running::run;
 pub use system_files::Words;
-pub use top_base::{NetWhy, Status};
+pub use top_base::{NetWhy, Status, TwinWhy};

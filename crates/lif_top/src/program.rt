@@ -12,7 +12,7 @@ use top_base::{Command, Outcome, Status, command_of, conclude};
 use top_blind::blind;
 use top_nodes::{relay, sink};
 use top_runs::{demo, send};
-use top_tools::{check, compile, cuts, finish, migrate, order};
+use top_tools::{check, compile, cuts, finish, migrate, order, twin};
 
 // What the words come to: the command that they are, or the usage.
 fn carry_out<'a, S: Store, L: Links, G: Gate + Sync, R: Threads + Sync>(
@@ -43,6 +43,7 @@ fn carry_out<'a, S: Store, L: Links, G: Gate + Sync, R: Threads + Sync>(
         Command::Sink(given) => sink(rt, alloc, &given, store, gate),
         Command::Blind(given) => blind(alloc, &given, store),
         Command::Finish(given) => finish(alloc, &given, store),
+        Command::Twin(given) => twin(rt, alloc, &given, store, gate),
     }
 }
 
@@ -72,6 +73,9 @@ fn carry_out<'a, S: Store, L: Links, G: Gate + Sync, R: Threads + Sync>(
 ///   code and writes to each what the sink decodes by their vectors, and says the rank of each sink.
 /// - `finish DRAFT CODE` reads a draft's file, finds a decoder for each demand, and writes the code; or it says the first demand
 ///   that doesn't decode, with a block that shows it.
+/// - `twin NET SECOND R1 R2 CODE REPORT` reads a network text, puts a node `super` before its source, by R1 links, and before the
+///   node SECOND, by R2, and writes a code of that network of the rate R1 + R2, whose links out of `super` carry a row each, and
+///   the report of its least cuts. Two files that start at the two nodes then go through one code.
 ///
 /// The jobs of certificates, of a compilation, of a check and of the sinks that decode enter the gate.
 pub fn lif<S: Store, C: Sink, L: Links, G: Gate + Sync, R: Threads + Sync>(

@@ -15,3 +15,4 @@ pub mod LinkLines
 pub mod BundleLaws
 pub mod Gathering
 pub mod RisingOrder
+pub mod SameNet

@@ -5,14 +5,14 @@ use Rattle.std.specs.Int.Bits.{xor_self}
 use Rattle.std.proofs.Common.{arith, refl, sym, ap, ◌∙◌, get_or, inl, inr, subst}
 use Rattle.std.proofs.Math.Path.{ap₂}
 use Rattle.std.proofs.lemmas.Bool.{cases_Bool, cases_eq, eq-eqb, ne_eqb}
-use Rattle.std.proofs.lemmas.List.{ext_get_or, get_or-map, get_or-take, length-map, take-replicate, take-take}
+use Rattle.std.proofs.lemmas.List.{ext_get_or, get_or-map, get_or-take, length-map, length-replicate, length-take-le, take-replicate, take-take}
 use Rattle.std.proofs.lemmas.List.Elements.{All-get_or}
 use Rattle.gf_tables.specs.Product.{size_of}
 use Rattle.gf_tables.specs.declared.kind.FieldKind.{FieldKind}
 use Rattle.linear_algebra.proofs.CombinationLaws.{combination-IsRow, slice_index-combination, take-combination}
 use Rattle.linear_algebra.proofs.DotLaws.{dot-unit_row}
 use Rattle.linear_algebra.proofs.MatrixLaws.{length-column}
-use Rattle.linear_algebra.proofs.RowLaws.{AreElements-head, AreElements-tail, AreRows-get_or, add_rows-IsRow, add_rows-comm, add_rows-twice, add_rows-zero_row, scale_row-zero, scale_row-zero_row, slice_index-add_rows, slice_index-unit_row, take-add_rows, unit_row-IsRow, zero_row-zero_row}
+use Rattle.linear_algebra.proofs.RowLaws.{AreElements-head, AreElements-tail, AreRows-get_or, add_rows-IsRow, add_rows-comm, add_rows-twice, add_rows-zero_row, scale_row-zero, scale_row-zero_row, slice_index-add_rows, slice_index-unit_row, slice_index-zero_row, take-add_rows, unit_row-IsRow, zero_row-zero_row}
 use Rattle.linear_algebra.specs.Matrices.{column}
 use Rattle.linear_algebra.specs.Rows.{add_rows, combination, dot, scale_row, unit_row, zero_row, AreElements, AreRows, IsRow}
 use Rattle.row_spans.proofs.SumLaws.{AreRows-vectors, IsRow-take, IsSum-add_rows}
@@ -155,3 +155,14 @@ module _ (field : FieldKind) (width rate : ℕ) (marks : List Bool) (rows : List
       (IsSum-add_rows field rate (vectors rate rows) reduced.are (take rate row) (combination field rate (take rate (take rate row)) (vectors rate rows)) sum
       (IsSum-added field rate rate marks (vectors rate rows) reduced (take rate row) vector))
       (cleared-marked field rate rate marks (vectors rate rows) reduced (take rate row) vector)
+
+  -- where all columns are marked each vector is a sum of the vectors
+  pub sum_where_marked : ((p : ℕ) → p < rate → get_or marks p false ≡ true) → IsSum field rate (vectors rate rows) (take rate row)
+  sum_where_marked all =
+      let left = cleared field width rate rows row in
+      let long : length left ≡ width = (IsRow-cleared field width rate marks rows h row is).width in
+      let short : length (take rate left) ≡ rate = length-take-le rate left (omega (arith, h.narrow, long)) in
+      sum_from_nothing (ext_get_or 0 (take rate left) (zero_row rate) (short ∙ sym (length-replicate rate 0)) (λ p inside.
+      let below : p < rate = omega (arith, inside, short) in
+      get_or-take rate left p 0 below ∙ cleared-marked field width rate marks rows h row is p below (all p below)
+      ∙ sym (slice_index-zero_row rate p)))

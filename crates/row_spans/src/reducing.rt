@@ -39,6 +39,10 @@ pub(crate) fn lead_of<const W: usize>(
         marks.now (rows_in field rows.now) (elements_of field row.now) lead.column
         (elements_of field lead.row)) }
 {
+    // Where every column has a row, each vector is a sum of multiples of those of the rows.
+    if marks.iter().all(|is| *is) {
+        return None;
+    }
     let left = cleared(tables, field, marks, rows, row);
     match first_column(field, marks.len() as u32, &left) {
         None => None,

@@ -16,6 +16,5 @@ pub mod PerformingLaws
 pub mod MigrationLaws
 pub mod SameCode
 pub mod SameDraft
-pub mod SameNet
 pub mod FileReadingLaws
 pub mod SayingLaws

@@ -8,7 +8,7 @@ use Rattle.top_base.specs.Inputs.{is_refusal}
 use Rattle.net_reader.specs.Text.{net_limit}
 use Rattle.top_base.specs.Networks.{IsNetOf, RefusesNet}
 use Rattle.top_base.specs.Outcome.{AreAlike}
-use Rattle.top_base.proofs.SameNet.{same_net}
+use Rattle.net_reader.proofs.SameNet.{same_net}
 use Rattle.top_base.specs.declared.status.NetWhy.TheVariants.{Text, Cycle}
 use Rattle.top_base.specs.declared.status.Status.{Status}
 use Rattle.top_base.specs.declared.status.Status.TheVariants.{NetRefused}

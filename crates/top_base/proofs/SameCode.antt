@@ -10,7 +10,7 @@ use Rattle.code_file.specs.Reading.{Contents, draft_in}
 use Rattle.code_file.specs.Spelling.{contents_in}
 use Rattle.code_file.proofs.ReadingLaws.{contents_in-same}
 use Rattle.top_base.proofs.SameDraft.{same_draft_net}
-use Rattle.top_base.proofs.SameNet.{same_by_parts}
+use Rattle.net_reader.proofs.SameNet.{same_by_parts}
 
 -- the laws of a code with this network, of which the file says this
 abbrev IsCodeOf : Net × Contents → Type 0

@@ -12,7 +12,7 @@ use Rattle.code_file.specs.Reading.{Front}
 use Rattle.code_file.specs.Spelling.{IsNetOf}
 use Rattle.code_file.specs.declared.draft.Draft.{Draft}
 use Rattle.code_file.proofs.DraftLaws.{draft_parts-same}
-use Rattle.top_base.proofs.SameNet.{same_by_parts, same_net}
+use Rattle.net_reader.proofs.SameNet.{same_by_parts, same_net}
 
 -- the network of a draft has the parts that the draft's file says
 is_net_of : (net : Net) (rate : ℕ) (field : FieldKind) (operands : List (List Operand)) → IsDraft net rate field operands → IsNetOf (draft_parts_in 2 net rate field operands).front net

@@ -18,9 +18,11 @@ use Rattle.net_reader.specs.RefusalNames.{what_name}
 use Rattle.net_reader.specs.declared.refusal.ReadRefusal.TheVariants.{PatternNamed, SinkIsSource, TooMany, TooManyPatterns}
 use Rattle.node_program.specs.declared.code.Code.{Code}
 use Rattle.top_base.specs.Words.{Demo}
+use Rattle.top_base.specs.declared.status.TwinWhy.{TwinWhy}
+use Rattle.top_base.specs.declared.status.TwinWhy.TheVariants as twin
 
 abbrev pub usage_line : List ℕ
-usage_line = codes "usage: lif order NET | cuts NET | compile NET CODE REPORT | check CODE | send CODE PATTERN SEED SRC PREFIX | demo N K BYTES | migrate OLD NEW | relay CODE PATTERN NODE IN OUT | sink CODE PATTERN SINK IN DST | blind CODE SRC PREFIX LINK | finish DRAFT CODE\n"
+usage_line = codes "usage: lif order NET | cuts NET | compile NET CODE REPORT | check CODE | send CODE PATTERN SEED SRC PREFIX | demo N K BYTES | migrate OLD NEW | relay CODE PATTERN NODE IN OUT | sink CODE PATTERN SINK IN DST | blind CODE SRC PREFIX LINK | finish DRAFT CODE | twin NET SECOND R1 R2 CODE REPORT\n"
 
 abbrev pub read_fault_line : List ℕ
 read_fault_line = codes "read fault\n"
@@ -128,9 +130,13 @@ bad_blocks_line generation count = codes "bad blocks: generation " ++ decimal ge
 abbrev pub same_path_line : List ℕ → List ℕ
 same_path_line path = codes "same path: " ++ path ++ codes "\n"
 
--- a rate, a field and a number of demands
+-- a field and a number of demands
+abbrev pub served_text : FieldKind → ℕ → List ℕ
+served_text field demands = codes " field " ++ decimal (mark_of field) ++ codes " demands " ++ decimal demands ++ codes "\n"
+
+-- a rate and these
 abbrev pub rate_text : ℕ → FieldKind → ℕ → List ℕ
-rate_text rate field demands = codes "rate " ++ decimal rate ++ codes " field " ++ decimal (mark_of field) ++ codes " demands " ++ decimal demands ++ codes "\n"
+rate_text rate field demands = codes "rate " ++ decimal rate ++ served_text field demands
 
 -- those of a code
 abbrev pub code_text : Code → List ℕ
@@ -155,6 +161,19 @@ finished_line rate field demands = codes "finished " ++ rate_text rate field dem
 abbrev pub not_decoding_line : Net → ℕ → List ℕ → List ℕ
 not_decoding_line net demand block =
     codes "not decoding: demand " ++ demand_text net (demand_of net demand) ++ codes " block" ++ flat_map (λ x. 32 ∷ decimal x) block ++ codes "\n"
+
+-- the line of a code of two sources: their rates, its field and how many demands it serves
+abbrev pub twinned_line : ℕ → ℕ → FieldKind → ℕ → List ℕ
+twinned_line r1 r2 field demands = codes "twinned rate " ++ decimal r1 ++ codes " " ++ decimal r2 ++ served_text field demands
+
+-- why a network has no second source of that name, or none that is joined
+abbrev pub twin_why_name : TwinWhy → List ℕ
+twin_why_name twin.UnknownSecond = codes "UnknownSecond"
+twin_why_name twin.NameTaken = codes "NameTaken"
+twin_why_name twin.TooMany = codes "TooMany"
+
+abbrev pub twin_refused_line : TwinWhy → List ℕ
+twin_refused_line why = codes "twin refused: " ++ twin_why_name why ++ codes "\n"
 
 -- the rank of a sink where links fail, and whether that is all of a rate
 abbrev pub rank_line : Net → ℕ → ℕ → ℕ → List ℕ

@@ -1,8 +1,9 @@
 -- The words that the program is called with.
-use Rattle.std.specs.Prelude.{ℕ, ◌&&◌, nat_le, if◌then◌else◌, List, [], ◌∷◌, Option, Some, None, codes}
+use Rattle.std.specs.Prelude.{ℕ, ◌+◌, Bool, ◌&&◌, nat_le, if◌then◌else◌, List, [], ◌∷◌, Option, Some, None, codes}
 use Rattle.std.specs.Option.{option_map}
 use Rattle.std.specs.Str.{bytes_eq}
 use Rattle.net_maker.specs.Fits.{fits}
+use Rattle.net_model.specs.Limits.{highest_rate}
 use Rattle.net_reader.specs.Digits.{number_of}
 
 -- what a command `compile` is given
@@ -20,6 +21,15 @@ pub record Migrate : Type 0 where
 pub record Finish : Type 0 where
   pub draft : List ℕ
   pub code : List ℕ
+
+-- what a command `twin` is given: a network, the name of the node of a second source, the rates of both, and what is written
+pub record Twin : Type 0 where
+  pub net : List ℕ
+  pub second : List ℕ
+  pub r1 : ℕ
+  pub r2 : ℕ
+  pub code : List ℕ
+  pub report : List ℕ
 
 -- what a command `relay` or `sink` is given: a code, a pattern, a node, and what is read and written
 pub record AtNode : Type 0 where
@@ -71,6 +81,7 @@ pub data Command : Type 0 where
   sink : (given : AtNode) → Command
   blind : (given : Blind) → Command
   finish : (given : Finish) → Command
+  twin : (given : Twin) → Command
 
 -- `order NET`
 abbrev pub order_of : List (List ℕ) → Option Command
@@ -136,6 +147,19 @@ abbrev pub finish_of : List (List ℕ) → Option Command
 finish_of (draft ∷ code ∷ []) = Some (finish (record { draft = draft; code = code }))
 finish_of _ = None
 
+-- `twin NET SECOND R1 R2 CODE REPORT`, where both rates are at least 1, and together at most the highest rate
+abbrev pub are_rates : ℕ → ℕ → Bool
+are_rates r1 r2 = nat_le 1 r1 && nat_le 1 r2 && nat_le (r1 + r2) highest_rate
+
+abbrev pub twin_with : List ℕ → List ℕ → Option ℕ → Option ℕ → List ℕ → List ℕ → Option Command
+twin_with net second (Some r1) (Some r2) code report =
+    if are_rates r1 r2 then Some (twin (record { net = net; second = second; r1 = r1; r2 = r2; code = code; report = report })) else None
+twin_with net second _ _ code report = None
+
+abbrev pub twin_of : List (List ℕ) → Option Command
+twin_of (net ∷ second ∷ r1 ∷ r2 ∷ code ∷ report ∷ []) = twin_with net second (number_of r1) (number_of r2) code report
+twin_of _ = None
+
 -- the command that words are
 abbrev pub command_of : List (List ℕ) → Option Command
 command_of [] = None
@@ -151,4 +175,5 @@ command_of (name ∷ given) =
     else if bytes_eq name (codes "sink") then sink_of given
     else if bytes_eq name (codes "blind") then blind_of given
     else if bytes_eq name (codes "finish") then finish_of given
+    else if bytes_eq name (codes "twin") then twin_of given
     else None

@@ -19,6 +19,7 @@ mod paths;
 mod reading;
 mod status;
 mod text;
+mod twin_words;
 mod words;
 
 pub use accepting::read_accepted;
@@ -32,8 +33,9 @@ pub use networks::{Ordered, read_ordered};
 pub use outcome::{Outcome, conclude};
 pub use paths::{output_paths, shared_path};
 pub use reading::{FileRefusal, read_next, read_whole};
-pub use status::{NetWhy, Status};
+pub use status::{NetWhy, Status, TwinWhy};
 pub use text::ROOM as LINE_ROOM;
+pub use twin_words::TwinWords;
 pub use words::{
     BlindWords, Command, CompileWords, FinishWords, MigrateWords, NodeWords, SOURCE_LIMIT,
     SendWords, command_of,

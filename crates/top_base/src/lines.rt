@@ -6,9 +6,10 @@ ghost use Rattle.name_texts.specs.Names.{demand_text};
 ghost use Rattle.net_model.specs.Demands.{demand_count};
 ghost use Rattle.net_model.specs.Limits.{longest_name};
 ghost use Rattle.top_base.specs.Given.{demo_given_in};
-ghost use Rattle.top_base.specs.Lines.{accepted_line, check_failed_line, code_refused_line, code_text, compiled_line, demo_lines, detail_text, finished_line, link_fault_line, migrated_line, net_refused_line, not_decoding_line, out_of_memory_line, rate_over_line, received_line, relayed_line, stream_refused_line, stream_why_text, bad_blocks_line, unknown_link_line, unknown_node_line, read_fault_line, same_path_line, sent_line, too_long_line, too_many_demands_line, unknown_pattern_line, usage_line, write_fault_line};
+ghost use Rattle.top_base.specs.Lines.{accepted_line, check_failed_line, code_refused_line, code_text, compiled_line, demo_lines, detail_text, finished_line, link_fault_line, migrated_line, net_refused_line, not_decoding_line, out_of_memory_line, rate_over_line, received_line, relayed_line, stream_refused_line, stream_why_text, bad_blocks_line, unknown_link_line, unknown_node_line, read_fault_line, same_path_line, sent_line, served_text, too_long_line, too_many_demands_line, twin_refused_line, twinned_line, unknown_pattern_line, usage_line, write_fault_line};
 
 use crate::demo_words::DemoWords;
+use crate::status::TwinWhy;
 use crate::text::{ROOM, ShortText, Text};
 use arrayvec::ArrayVec;
 use code_file::CodeRefusal;
@@ -159,6 +160,19 @@ fn push_elements(text: &mut ShortText, elements: &[u32])
     }
 }
 
+// Adds the field of a code and how many demands it serves to a text that has room for them.
+fn push_served(text: &mut ShortText, code: &Code)
+    requires { length text.old.items + 100 ≤ ROOM }
+    ensures { text.new.items
+        ≡ text.old.items ++ served_text code.now.field (demand_count code.now.net) }
+{
+    push(text, b" field ");
+    push_number(text, u64::from(code.field.mark()));
+    push(text, b" demands ");
+    push_number(text, demands(&code.net));
+    push(text, b"\n");
+}
+
 // What was sent.
 fn sent_text(bytes: u64, generations: u64, sinks: u64) -> ShortText
     ensures { result.items ≡ sent_line bytes generations sinks }
@@ -223,7 +237,7 @@ impl<'a> Line<'a> {
         ensures { result ≡ usage_line }
     {
         Line::of(begin(
-            b"usage: lif order NET | cuts NET | compile NET CODE REPORT | check CODE | send CODE PATTERN SEED SRC PREFIX | demo N K BYTES | migrate OLD NEW | relay CODE PATTERN NODE IN OUT | sink CODE PATTERN SINK IN DST | blind CODE SRC PREFIX LINK | finish DRAFT CODE\n",
+            b"usage: lif order NET | cuts NET | compile NET CODE REPORT | check CODE | send CODE PATTERN SEED SRC PREFIX | demo N K BYTES | migrate OLD NEW | relay CODE PATTERN NODE IN OUT | sink CODE PATTERN SINK IN DST | blind CODE SRC PREFIX LINK | finish DRAFT CODE | twin NET SECOND R1 R2 CODE REPORT\n",
         ))
     }
 
@@ -329,6 +343,16 @@ impl<'a> Line<'a> {
         push_number(&mut text, u64::from(column));
         push(&mut text, b" found ");
         push_number(&mut text, u64::from(found));
+        push(&mut text, b"\n");
+        Line::of(text)
+    }
+
+    /// Two sources aren't joined.
+    pub fn twin_refused(why: TwinWhy) -> Line<'a>
+        ensures { result ≡ twin_refused_line why }
+    {
+        let mut text = begin(b"twin refused: ");
+        push(&mut text, why.name().as_bytes());
         push(&mut text, b"\n");
         Line::of(text)
     }
@@ -447,6 +471,18 @@ impl<'a> Line<'a> {
         Line::of_code(b"finished ", code)
     }
 
+    /// A code of two sources was made, of these rates.
+    pub fn twinned(r1: u32, r2: u32, code: &Code) -> Line<'a>
+        ensures { result ≡ twinned_line r1 r2 code.now.field (demand_count code.now.net) }
+    {
+        let mut text = begin(b"twinned rate ");
+        push_number(&mut text, u64::from(r1));
+        push(&mut text, b" ");
+        push_number(&mut text, u64::from(r2));
+        push_served(&mut text, code);
+        Line::of(text)
+    }
+
     /// A code was written anew.
     pub fn migrated(code: &Code) -> Line<'a>
         ensures { result ≡ migrated_line code.now }
@@ -462,11 +498,7 @@ impl<'a> Line<'a> {
         let mut text = begin(word);
         push(&mut text, b"rate ");
         push_number(&mut text, u64::from(code.rate));
-        push(&mut text, b" field ");
-        push_number(&mut text, u64::from(code.field.mark()));
-        push(&mut text, b" demands ");
-        push_number(&mut text, demands(&code.net));
-        push(&mut text, b"\n");
+        push_served(&mut text, code);
         Line::of(text)
     }
 

@@ -14,6 +14,33 @@ pub enum NetWhy {
     Cycle(LinkList),
 }
 
+/// Why two sources aren't joined.
+#[derive(Clone, Copy, Debug, PartialEq, Eq)]
+pub enum TwinWhy {
+    /// No node of the network has the name.
+    UnknownSecond,
+    /// A node of the network is named `super`, or a link of it has the name of one that is made.
+    NameTaken,
+    /// The network has 4,096 nodes, or there would be more than 8,192 links.
+    TooMany,
+}
+
+impl TwinWhy {
+    ghost use Rattle.std.specs.Prelude.{◌≡◌, string_bytes};
+    ghost use Rattle.top_base.specs.Lines.{twin_why_name};
+
+    /// Its name.
+    pub fn name(self) -> &'static str
+        ensures { result.now ≡ twin_why_name self }
+    {
+        match self {
+            TwinWhy::UnknownSecond => "UnknownSecond",
+            TwinWhy::NameTaken => "NameTaken",
+            TwinWhy::TooMany => "TooMany",
+        }
+    }
+}
+
 /// How the program ended. Each refusal says its line.
 #[derive(Drop, Debug, PartialEq, Eq)]
 pub enum Status {
@@ -104,6 +131,8 @@ pub enum Status {
         /// all links into the sink, as zeros do.
         block: Entries,
     },
+    /// Two sources aren't joined.
+    TwinRefused(TwinWhy),
 }
 
 impl Status {
@@ -136,6 +165,7 @@ impl Status {
             Status::BadBlocks { .. } => 19,
             Status::UnknownLink => 20,
             Status::NotDecoding { .. } => 21,
+            Status::TwinRefused(_) => 22,
         }
     }
 }

@@ -1,11 +1,13 @@
 //! The words that the program is called with.
 ghost use Rattle.std.specs.Prelude.{◌≡◌, Some, map, string_bytes};
 ghost use Rattle.std.specs.Option.{option_map};
-ghost use Rattle.top_base.specs.Words.{blind_of, check_of, command_of, compile_of, cuts_of, demo_of, demo_with, finish_of, migrate_of, order_of, relay_of, send_of, sink_of};
+ghost use Rattle.top_base.specs.Words.{are_rates, blind_of, check_of, command_of, compile_of, cuts_of, demo_of, demo_with, finish_of, migrate_of, order_of, relay_of, send_of, sink_of, twin_of};
 ghost use Rattle.top_base.specs.Given.{command_in};
 
 use crate::demo_words::{DEMO_LIMIT, DemoWords};
+use crate::twin_words::TwinWords;
 use net_maker::demo_fits;
+use net_model::HIGHEST_RATE;
 use net_reader::number_of;
 
 /// What a command `compile` is given.
@@ -108,6 +110,8 @@ pub enum Command<'a> {
     Blind(BlindWords<'a>),
     /// `finish DRAFT CODE`.
     Finish(FinishWords<'a>),
+    /// `twin NET SECOND R1 R2 CODE REPORT`.
+    Twin(TwinWords<'a>),
 }
 
 /// The command that the words are, if they are one.
@@ -129,6 +133,7 @@ pub fn command_of(words: &[String]) -> Option<Command<'_>>
         "sink" => sink_of(given),
         "blind" => blind_of(given),
         "finish" => finish_of(given),
+        "twin" => twin_of(given),
         _ => None,
     }
 }
@@ -291,5 +296,35 @@ fn finish_of(given: &[String]) -> Option<Command<'_>>
     Some(Command::Finish(FinishWords {
         draft: draft.as_str(),
         code: code.as_str(),
+    }))
+}
+
+// Whether these are the rates of two sources.
+fn are_rates(r1: u64, r2: u64) -> bool
+    ensures { result ≡ are_rates r1 r2 }
+{
+    let most = u64::from(HIGHEST_RATE);
+    r1 >= 1 && r2 >= 1 && r1 <= most && r2 <= most - r1
+}
+
+// `twin NET SECOND R1 R2 CODE REPORT`.
+fn twin_of(given: &[String]) -> Option<Command<'_>>
+    ensures { option_map command_in result ≡ twin_of (map string_bytes given.now) }
+{
+    let [net, second, r1, r2, code, report] = given else {
+        return None;
+    };
+    let r1 = number_of(r1.as_bytes())?;
+    let r2 = number_of(r2.as_bytes())?;
+    if !are_rates(r1, r2) {
+        return None;
+    }
+    Some(Command::Twin(TwinWords {
+        net: net.as_str(),
+        second: second.as_str(),
+        r1: r1 as u32,
+        r2: r2 as u32,
+        code: code.as_str(),
+        report: report.as_str(),
     }))
 }

@@ -12,7 +12,7 @@ use Rattle.top_base.specs.declared.status.Status.TheVariants.{Done, RateOver, Ra
 use Rattle.top_tools.specs.Compile.Made.{IsGood, IsServedBy, RefusesMaking}
 
 -- what is due of a network
-abbrev Due : Net → Status → List ℕ → Type 0
+abbrev pub Due : Net → Status → List ℕ → Type 0
 Due net Done line = IsGood net line
 Due net status line = RefusesMaking net status line
 

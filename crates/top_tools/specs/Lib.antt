@@ -6,3 +6,5 @@ pub mod Cuts
 pub mod Finish
 pub mod Migrate
 pub mod Order
+pub mod Twin
+pub mod TwinReady

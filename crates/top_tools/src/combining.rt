@@ -1,32 +1,30 @@
 //! The codes of combination networks.
-ghost use Rattle.std.specs.Prelude.{◌≡◌, ◌≢◌, ◌<◌, ◌≤◌, ℕ, List, IfErr, IfOk};
+ghost use Rattle.std.specs.Prelude.{◌≡◌, ◌≢◌, ◌≤◌, ℕ, List, IfOk};
 ghost use Rattle.cut_witness.specs.declared.cert.Cert.{Cert};
 ghost use Rattle.gf_tables.specs.Kind.{IsOfKind};
 ghost use Rattle.gf_tables.specs.declared.kind.FieldKind.TheVariants.{Nine};
 ghost use Rattle.lif_compiler.specs.Compiled.{IsCompiled, marked_kind};
-ghost use Rattle.lif_compiler.specs.Refused.{IsRefusal};
 ghost use Rattle.net_maker.specs.Fits.{Fits};
 ghost use Rattle.net_model.specs.Demands.{demand_count};
 ghost use Rattle.node_program.specs.Decoding.{IsAccepted};
 ghost use Rattle.top_tools.specs.Combining.{HasRate, IsCombinationCode};
 
+use crate::coding::{code_in, ordered};
 use code_checker::{CheckRefusal, Checked, check};
-use counted_steps::Steps;
-use cut_witness::Cert;
 use failure_patterns::used_field;
 use gf_tables::{Field, Gf8, Gf16};
-use lif_compiler::{CompileRefusal, compile};
+use lif_compiler::CompileRefusal;
 use lif_outside::Gate;
 use net_maker::combination;
 use net_model::{FieldChoice, Net};
 use node_program::Code;
 use std::alloc::{AllocError, Global};
 use std::marker::Brand;
-use std::sync::ledger::{Blank, Ledger};
+use std::sync::ledger::Blank;
 use std::thread::Threads;
 
-// An accepted code, checked.
-fn checked<G: Gate + Sync, R: Threads + Sync>(
+/// An accepted code, checked.
+pub(crate) fn checked<G: Gate + Sync, R: Threads + Sync>(
     rt: &R,
     alloc: Global,
     code: Code,
@@ -58,26 +56,6 @@ fn lost(why: CompileRefusal) -> AllocError
     }
 }
 
-// The code over the field `F`, with a counter of its own.
-fn code_in<F: Field, G: Gate + Sync, L: Ledger, R: Threads + Sync>(
-    rt: &R,
-    alloc: Global,
-    net: &Net,
-    gate: &G,
-    blank: Blank,
-) -> Result<(Code, Vec<Cert>), CompileRefusal>
-    requires field { IsOfKind (marked_kind F.MARK) F.SIZE F.BYTES F.MARK F.product }
-    requires named { marked_kind F.MARK ≢ Nine }
-    requires name { blank.name ≡ L.name }
-    requires parts { blank.parts ≡ L.parts }
-    requires some_part { 0 < blank.parts }
-    ensures compiled { IfOk result
-        (λ made. IsCompiled net.now (marked_kind F.MARK) made.0 made.1.items) }
-    ensures refused { IfErr result (IsRefusal net.now F.SIZE) }
-{
-    compile::<F, G, L, R>(rt, alloc, net, gate, &mut Steps::<L>::start(blank))
-}
-
 // The code over the field `F` of a network that has one, checked.
 fn code_over<F: Field, G: Gate + Sync, R: Threads + Sync>(
     rt: &R,
@@ -92,7 +70,8 @@ fn code_over<F: Field, G: Gate + Sync, R: Threads + Sync>(
     ensures { IfOk result (λ code. (certs : List Cert)
         × IsCompiled net.now (marked_kind F.MARK) code certs) }
 {
-    match code_in::<F, G, Brand, R>(rt, alloc, net, gate, Blank::new(1)) {
+    let (wiring, order) = ordered(alloc, net)?;
+    match code_in::<F, G, Brand, R>(rt, alloc, net, &wiring, &order, gate, Blank::new(1)) {
         Ok((code, _)) => checked(rt, alloc, code, gate),
         Err(why) => Err(lost(why)),
     }

@@ -1,10 +1,9 @@
 //! A code of a network and its report, as they are written.
-ghost use Rattle.std.specs.Prelude.{◌≡◌, ◌≢◌, ◌≤◌, ◌<◌, IfErr, IfOk, IsNone, length};
+ghost use Rattle.std.specs.Prelude.{◌≡◌, ◌≢◌, ◌≤◌, IfErr, IfOk, length};
 ghost use Rattle.code_file.specs.Limits.{fitting_members};
 ghost use Rattle.gf_tables.specs.Kind.{IsOfKind};
 ghost use Rattle.gf_tables.specs.declared.kind.FieldKind.TheVariants.{Nine};
 ghost use Rattle.lif_compiler.specs.Compiled.{IsCompiled, marked_kind};
-ghost use Rattle.lif_compiler.specs.Refused.{IsRefusal};
 ghost use Rattle.link_chains.specs.Wiring.{IsWiring};
 ghost use Rattle.net_model.specs.Failed.{member_count};
 ghost use Rattle.net_model.specs.Walks.{IsAcyclic};
@@ -12,21 +11,21 @@ ghost use Rattle.topo_order.specs.Order.{order_of};
 ghost use Rattle.top_tools.specs.Compile.Made.{IsServedBy};
 ghost use Rattle.top_tools.specs.Compile.Ready.{IsReady, IsUnmade, RefusesOrLosesIt};
 
+use crate::coding::code_in;
 use crate::cutting::crowded;
 use crate::reporting::report_of;
 use code_file::write_code;
-use counted_steps::Steps;
 use cut_witness::{Cert, rate};
 use failure_patterns::used_field;
 use gf_tables::{Field, Gf8, Gf16};
-use lif_compiler::{CompileRefusal, compile_along};
+use lif_compiler::CompileRefusal;
 use lif_outside::{Gate, WORKERS};
 use link_chains::Wiring;
 use net_model::{FieldChoice, Net};
 use node_program::Code;
 use std::alloc::{AllocError, Global};
 use std::marker::Brand;
-use std::sync::ledger::{Blank, Ledger};
+use std::sync::ledger::Blank;
 use std::thread::Threads;
 use top_base::{Line, Outcome, Status, rate_unmet_line, zero_rate_line};
 
@@ -61,8 +60,8 @@ fn of_code<'a, R: Threads + Sync>(
     })
 }
 
-// What a network makes of the command that no code is made of.
-fn unmade<'a>(alloc: Global, net: &Net, why: CompileRefusal) -> Outcome<'a>
+/// What a network makes of the command that no code is made of.
+pub(crate) fn unmade<'a>(alloc: Global, net: &Net, why: CompileRefusal) -> Outcome<'a>
     requires { IsUnmade net.now why }
     ensures { RefusesOrLosesIt net.now result }
 {
@@ -98,32 +97,6 @@ fn unmade<'a>(alloc: Global, net: &Net, why: CompileRefusal) -> Outcome<'a>
         CompileRefusal::OutOfMemory => Outcome::out_of_memory(),
         CompileRefusal::Cyclic { .. } | CompileRefusal::TooManyDemands { .. } => unreachable!(),
     }
-}
-
-// The code over the field `F` of a network whose order and chains are at hand, with a counter of its own.
-fn code_in<F: Field, G: Gate + Sync, L: Ledger, R: Threads + Sync>(
-    rt: &R,
-    alloc: Global,
-    net: &Net,
-    wiring: &Wiring,
-    order: &[u32],
-    gate: &G,
-    blank: Blank,
-) -> Result<(Code, Vec<Cert>), CompileRefusal>
-    requires field { IsOfKind (marked_kind F.MARK) F.SIZE F.BYTES F.MARK F.product }
-    requires named { marked_kind F.MARK ≢ Nine }
-    requires wiring { IsWiring net.now.links (length net.now.nodes) wiring.now }
-    requires order { order.now ≡ order_of net.now.links }
-    requires acyclic { IsAcyclic net.now.links }
-    requires name { blank.name ≡ L.name }
-    requires parts { blank.parts ≡ L.parts }
-    requires some_part { 0 < blank.parts }
-    ensures compiled { IfOk result
-        (λ made. IsCompiled net.now (marked_kind F.MARK) made.0 made.1.items) }
-    ensures refused { IfErr result (IsRefusal net.now F.SIZE) }
-{
-    let steps = &mut Steps::<L>::start(blank);
-    compile_along::<F, G, L, R>(rt, alloc, net, wiring, order, gate, steps)
 }
 
 // What is written and said of a network whose demands the field `F` serves.

@@ -14,6 +14,7 @@ mod fields;
 mod finishing;
 mod flows;
 mod gates;
+mod joined_sources;
 mod limits;
 mod links;
 mod live_links;

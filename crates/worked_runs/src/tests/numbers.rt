@@ -1,11 +1,11 @@
 //! The numbers that the program ends with.
-use lif_top::{CodeRefusal, NetWhy, Status};
+use lif_top::{CodeRefusal, NetWhy, Status, TwinWhy};
 use net_model::{LinkList, Side};
 use net_reader::ReadRefusal;
 use std::alloc::Global;
 
 // Each status with its number.
-fn numbers(alloc: Global) -> [(Status, u8); 18] {
+fn numbers(alloc: Global) -> [(Status, u8); 21] {
     let cycle = LinkList::of(Vec::new(alloc));
     let side = Side::of(Vec::new(alloc));
     let unmet = Side::of(Vec::new(alloc));
@@ -52,6 +52,9 @@ fn numbers(alloc: Global) -> [(Status, u8); 18] {
             },
             16,
         ),
+        (Status::TwinRefused(TwinWhy::UnknownSecond), 22),
+        (Status::TwinRefused(TwinWhy::NameTaken), 22),
+        (Status::TwinRefused(TwinWhy::TooMany), 22),
     ]
 }
 

@@ -3,10 +3,10 @@ use Rattle.std.specs.Option.{option_map}
 use Rattle.std.proofs.Common.{refl, sym, ap, subst, ◌∙◌}
 use Rattle.lif_outside.proofs.CallLaws.{both_on_links}
 use Rattle.lif_outside.specs.Calls.{store_calls}
-use Rattle.top_base.specs.Given.{blind_given_in, command_in, compile_given_in, demo_given_in, finish_given_in, migrate_given_in, node_given_in}
+use Rattle.top_base.specs.Given.{blind_given_in, command_in, compile_given_in, demo_given_in, finish_given_in, migrate_given_in, node_given_in, twin_given_in}
 use Rattle.top_base.specs.Lines.{usage_line}
 use Rattle.top_base.specs.Performs.{RunsOn}
-use Rattle.top_base.specs.Words.{Command, blind, check, command_of, compile, cuts, demo, finish, migrate, order, relay, sink}
+use Rattle.top_base.specs.Words.{Command, blind, check, command_of, compile, cuts, demo, finish, migrate, order, relay, sink, twin}
 use Rattle.top_base.specs.declared.status.Status.TheVariants.{Usage}
 use Rattle.top_runs.specs.Demo.Runs.{RunsDemo}
 use Rattle.lif_top.specs.Promises.{does_form}
@@ -84,3 +84,8 @@ pub returns-in-Finish : goal.returns-in-Finish
 returns-in-Finish g c =
     runs_form g.S.Store g.L.Links g.met.L.Links.no_moves (map string_bytes c.args.words.now) c.command_of.result c.in-Some.command (finish (finish_given_in c.in-Finish.given))
     c.command_of.ensures c.in-Some.is (ap command_in c.in-Finish.is) c.args.store.now c.finish.new.store c.args.links.now c.finish.result c.finish.ensures
+
+pub returns-in-Twin : goal.returns-in-Twin
+returns-in-Twin g c =
+    runs_form g.S.Store g.L.Links g.met.L.Links.no_moves (map string_bytes c.args.words.now) c.command_of.result c.in-Some.command (twin (twin_given_in c.in-Twin.given))
+    c.command_of.ensures c.in-Some.is (ap command_in c.in-Twin.is) c.args.store.now c.twin.new.store c.args.links.now c.twin.result c.twin.ensures

@@ -1,4 +1,4 @@
-use Rattle.std.proofs.Common.{◌≡◌, [], ℕ, List, None, Some, ap, refl, sym, ◌∙◌}
+use Rattle.std.proofs.Common.{◌≡◌, [], ◌∷◌, ℕ, List, None, Some, ap, refl, sym, ◌∙◌}
 use Rattle.std.specs.Option.{option_map}
 use Rattle.lif_outside.proofs.CallLaws.{calls_of, calls_weaker}
 use Rattle.lif_outside.specs.Calls.{store_calls}
@@ -9,11 +9,12 @@ use Rattle.top_base.specs.Given.{compile_given_in}
 use Rattle.top_base.specs.Making.{Writes}
 use Rattle.top_base.proofs.MakingLaws.{runs_apart, runs_shared}
 use Rattle.top_base.specs.Networks.{IsNetOf, RefusesNet}
+use Rattle.top_base.specs.Paths.{shared_path}
 use Rattle.top_base.specs.declared.outcome.Outcome.{Outcome}
 use Rattle.top_base.specs.declared.status.Status.TheVariants.{SamePath}
 use Rattle.top_tools.proofs.compiling.compile.Goals as goal
 use Rattle.top_tools.specs.Compile.Command.{Compiles}
-use Rattle.top_tools.specs.Compile.Given.{outputs_of, shared_of}
+use Rattle.top_tools.specs.Compile.Given.{outputs_of}
 use Rattle.top_tools.specs.Compile.Made.{IsGood, IsMade, RefusesMaking}
 
 -- the outcome of this line
@@ -24,14 +25,16 @@ pub returns-in-Some : goal.returns-in-Some
 returns-in-Some g c =
     let given = compile_given_in c.args.words.now in
     let path = c.in-Some.path.now in
-    let found : shared_of given ≡ Some path = sym c.shared_path.ensures ∙ ap (option_map (λ path. path.now)) c.in-Some.is in
+    let found : shared_path (given.net ∷ []) (outputs_of given) ≡ Some path =
+    sym c.shared_path.ensures ∙ ap (option_map (λ path. path.now)) c.in-Some.is in
     runs_shared net_limit IsNetOf RefusesNet (IsMade given) IsGood RefusesMaking given.net (outputs_of given) _ path found (ap said c.same_path.ensures)
     (calls_of (Are []) [] (g.met.S.Store.no_calls c.args.store.now) refl)
 
 pub returns-in-Ok : goal.returns-in-Ok
 returns-in-Ok g c =
     let given = compile_given_in c.args.words.now in
-    let apart : shared_of given ≡ None = sym c.shared_path.ensures ∙ ap (option_map (λ path. path.now)) c.in_default.is in
+    let apart : shared_path (given.net ∷ []) (outputs_of given) ≡ None =
+    sym c.shared_path.ensures ∙ ap (option_map (λ path. path.now)) c.in_default.is in
     let net = c.in-Ok.ordered.net in
     let outcome = c.compile_net.result in
     let writes = Writes net_limit IsNetOf RefusesNet (IsMade given) IsGood RefusesMaking in
@@ -43,6 +46,7 @@ returns-in-Ok g c =
 pub returns-in-Err : goal.returns-in-Err
 returns-in-Err g c =
     let given = compile_given_in c.args.words.now in
-    let apart : shared_of given ≡ None = sym c.shared_path.ensures ∙ ap (option_map (λ path. path.now)) c.in_default.is in
+    let apart : shared_path (given.net ∷ []) (outputs_of given) ≡ None =
+    sym c.shared_path.ensures ∙ ap (option_map (λ path. path.now)) c.in_default.is in
     runs_apart net_limit IsNetOf RefusesNet (IsMade given) IsGood RefusesMaking given.net (outputs_of given) c.in-Err.refused apart
     (runs_lost net_limit IsNetOf RefusesNet given.net (Writes net_limit IsNetOf RefusesNet (IsMade given) IsGood RefusesMaking) c.in-Err.refused c.in-Err.ensures.lost)

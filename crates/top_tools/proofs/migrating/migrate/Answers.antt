@@ -1,4 +1,4 @@
-use Rattle.std.proofs.Common.{[], ◌∷◌, false, refl, sym, subst, ◌∙◌}
+use Rattle.std.proofs.Common.{[], ◌∷◌, refl, sym, subst, ◌∙◌}
 use Rattle.code_file.specs.Items.{IsFileOf}
 use Rattle.code_file.specs.Limits.{code_limit}
 use Rattle.lif_outside.proofs.CallLaws.{calls_weaker}

@@ -1,6 +1,6 @@
 use Rattle.std.proofs.Common.{◌≡◌, ◌++◌, take}
 use Rattle.linear_algebra.specs.Elements.{elements_of}
-use Rattle.code_finish.proofs.taking.push_elements.Given as goal
+use Rattle.field_rows.proofs.elements.push_elements.Given as goal
 
 -- the first elements are added
 abbrev pub invariant-loop-place : goal.invariant-loop-place

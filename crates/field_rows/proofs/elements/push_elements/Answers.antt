@@ -8,7 +8,7 @@ use Rattle.gf_tables.specs.declared.kind.FieldKind.{FieldKind}
 use Rattle.linear_algebra.proofs.ElementsLaws.{elements_of-AreElements, length-elements_of}
 use Rattle.linear_algebra.specs.Elements.{elements_of}
 use Rattle.linear_algebra.specs.Rows.{AreElements}
-use Rattle.code_finish.proofs.taking.push_elements.Goals as goal
+use Rattle.field_rows.proofs.elements.push_elements.Goals as goal
 
 -- the first elements of bytes are elements
 first_elements : (field : FieldKind) (bytes : List ℕ) (count : ℕ) → ((k : ℕ) → get_or bytes k 0 < 256) → AreElements field (take count (elements_of field bytes))

@@ -1,0 +1,10 @@
+pub mod NameLaws
+pub mod NetworkLaws
+pub mod PatternLaws
+pub mod LinkLaws
+pub mod JoinedLaws
+pub mod InverseLaws
+pub mod SeparatedLaws
+pub mod CopyLaws
+pub mod DecoderSteps
+pub mod FreeLaws

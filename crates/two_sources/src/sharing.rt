@@ -1,0 +1,8 @@
+//! That threads can take values of every type of this crate, and share them: it is shown by being proved.
+use crate::JoinRefusal;
+
+fn shared<T: Send + Sync>() {}
+
+fn share_every_type() {
+    shared::<JoinRefusal>();
+}
