@@ -281,6 +281,63 @@ measure_codes() {
     rm "$files/source"
 }
 
+# Sends both halves of the source through the code to so many sinks, the first by so many rows of each block, and keeps the least of
+# the times.
+run_send_two() {
+    local sinks=$1 first_rate=$2 place output count=0
+    time_command "$program" sendtwo "$files/code" none 1 "$first_rate" "$files/half1" "$files/half2" "$files/out"
+    send_time[both]=$(least "${send_time[both]:-}" "$elapsed")
+    for place in 1 2; do
+        for output in "$files"/out.*."$place"; do
+            cmp "$files/half$place" "$output"
+            rm "$output"
+            count=$((count + 1))
+        done
+    done
+    [ "$count" -eq $((2 * sinks)) ] || fail "$count files are halves of the source in place of $((2 * sinks))"
+}
+
+# Cuts the source into two halves of which each has a file.
+halve_source() {
+    local half=$(($(stat -c %s "$files/source") / 2))
+    head -c "$half" "$files/source" >"$files/half1"
+    tail -c "+$((half + 1))" "$files/source" >"$files/half2"
+}
+
+# Sends both halves of the source through the code to so many sinks, and beside that all of it by `send`, so often in turn. Then the
+# program's memory is noted beside that for `send`, and beside that for two bytes.
+measure_halves() {
+    local title=$1 sinks=$2 first_rate=$3 round held
+    halve_source
+    send_time=()
+    for ((round = 0; round < code_rounds; round++)); do
+        run_send_two "$sinks" "$first_rate"
+        run_send lif "$sinks" "$program" send
+    done
+    note "\`sendtwo\` through $title" "" ms 1000000 "${send_time[both]}" "${send_time[lif]}" "\`send\` of as many bytes"
+    memory_of sendtwo "$files/code" none 1 "$first_rate" "$files/half1" "$files/half2" "$files/out"
+    held=$memory
+    memory_of send "$files/code" none 1 "$files/source" "$files/out"
+    note "memory for \`sendtwo\` through $title" "" MB 1000000 "$held" "$memory" "\`send\`"
+    printf x >"$files/half1"
+    printf x >"$files/half2"
+    memory_of sendtwo "$files/code" none 1 "$first_rate" "$files/half1" "$files/half2" "$files/out"
+    note "memory for \`sendtwo\` through $title, beside two bytes" "" MB 1000000 "$held" "$memory" "two bytes"
+    rm "$files"/out.* "$files/half1" "$files/half2"
+}
+
+measure_sendtwo() {
+    build codes
+    make_source
+    cp "$folder/source" "$files/source"
+    "$program" twin "$top/examples/cameras/cameras.net" east 1 1 "$files/code" "$files/report" >"$folder/log" ||
+        fail "$(cat "$folder/log")"
+    measure_halves "the code of two cameras" 2 1
+    "$folder/codes" fan 8 8 16 16 8 0 >"$files/code"
+    measure_halves "the fan of field 8" 16 4
+    rm "$files/source"
+}
+
 # Runs a command that sends the source through the code to so many sinks where no link fails, and keeps under a name the least of its
 # times and what it said last.
 run_blind() {
@@ -707,6 +764,53 @@ measure_net() {
     if [ "$command" = order ]; then return; fi
     for method in "${methods[@]}"; do echo "    C++ ($method): $(over "${net_time[$method]}" 1000000) ms"; done
     note "\`$command\` of $title, on all processors" "" ms 1000000 "${net_time[side]}"
+}
+
+# The network text with a node before its source and a second node, by so many links, of which the rate of both is wanted.
+joined_text() {
+    awk -v second="$1" -v first_rate="$2" -v second_rate="$3" '
+        $1 == "source" {
+            print "source super"
+            print "link super.1 super " $2 " x" first_rate
+            print "link super.2 super " second " x" second_rate
+        }
+        $1 != "source" && $1 != "rate"
+        END { print "rate " first_rate + second_rate }' "$files/net"
+}
+
+# Compiles the text of a joined network, and checks the code.
+compile_joined() {
+    "$program" compile "$files/joined" "$files/code-joined" "$files/report-joined" && "$program" check "$files/code-joined"
+}
+
+# Makes the code of two sources, and beside that compiles the text of the joined network and checks that code, so often in turn, all on
+# one processor. Both must say the same of their codes, which must be accepted. The words from the fifth one on are those of
+# bench/networks.py.
+measure_joined() {
+    local title=$1 second=$2 first_rate=$3 second_rate=$4 round served
+    shift 4
+    python3 "$top/bench/networks.py" "$@" >"$files/net"
+    joined_text "$second" "$first_rate" "$second_rate" >"$files/joined"
+    net_time=()
+    for ((round = 0; round < net_rounds; round++)); do
+        pin "$one_processor"
+        time_command "$program" twin "$files/net" "$second" "$first_rate" "$second_rate" "$files/code" "$files/report"
+        net_time[twin]=$(least "${net_time[twin]:-}" "$elapsed")
+        served=$(sed "s/^twinned rate $first_rate $second_rate /rate $((first_rate + second_rate)) /" "$folder/log")
+        time_command compile_joined
+        net_time[joined]=$(least "${net_time[joined]:-}" "$elapsed")
+        pin "$all_processors"
+        printf 'compiled %s\naccepted %s\n' "$served" "$served" | cmp - "$folder/log"
+    done
+    [ "$("$program" check "$files/code")" = "accepted $served" ] || fail "the code of two sources isn't accepted"
+    note "\`twin\` of $title" "" ms 1000000 "${net_time[twin]}" "${net_time[joined]}" "\`compile\` and \`check\` of the joined text"
+    rm "$files"/code* "$files"/report* "$files/joined"
+}
+
+measure_twin() {
+    measure_joined "the combination network" s 1 1 combination 24 2
+    measure_joined "the wide butterfly" b 1 1 butterfly 16 15
+    measure_joined "the mixed network" n0.0 5 3 mixed 4 32 4 16 8 15
 }
 
 measure_order() {

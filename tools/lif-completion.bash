@@ -47,19 +47,19 @@ _lif() {
     local word=${COMP_WORDS[COMP_CWORD]}
     COMPREPLY=()
     if ((COMP_CWORD == 1)); then
-        _lif_words "$word" "order cuts compile check send demo migrate relay sink blind finish twin"
+        _lif_words "$word" "order cuts compile check send demo migrate relay sink blind finish twin sendtwo"
         return
     fi
     case ${COMP_WORDS[1]},$COMP_CWORD in
     order,2 | cuts,2 | compile,2 | twin,2) _lif_files "$word" .net ;;
-    compile,3 | check,2 | send,2 | migrate,2 | migrate,3 | relay,2 | sink,2 | blind,2 | finish,3 | twin,6) _lif_files "$word" .lif ;;
+    compile,3 | check,2 | send,2 | sendtwo,2 | migrate,2 | migrate,3 | relay,2 | sink,2 | blind,2 | finish,3 | twin,6) _lif_files "$word" .lif ;;
     finish,2) _lif_files "$word" .draft ;;
     compile,4 | twin,7) _lif_files "$word" .txt ;;
     twin,3) _lif_words "$word" "$(_lif_ends "$(_lif_path "${COMP_WORDS[2]}")")" ;;
-    send,3 | relay,3 | sink,3) _lif_patterns "$word" "${COMP_WORDS[2]}" ;;
+    send,3 | sendtwo,3 | relay,3 | sink,3) _lif_patterns "$word" "${COMP_WORDS[2]}" ;;
     relay,4) _lif_nodes "$word" "${COMP_WORDS[2]}" --nodes ;;
     sink,4) _lif_nodes "$word" "${COMP_WORDS[2]}" --sinks ;;
-    send,5 | send,6 | relay,5 | relay,6 | sink,5 | sink,6 | blind,3 | blind,4) _lif_files "$word" "" ;;
+    send,5 | send,6 | sendtwo,6 | sendtwo,7 | sendtwo,8 | relay,5 | relay,6 | sink,5 | sink,6 | blind,3 | blind,4) _lif_files "$word" "" ;;
     blind,*) _lif_nodes "$word" "${COMP_WORDS[2]}" --links ;;
     esac
 }

@@ -25,19 +25,19 @@ _lif_ends() {
 
 _lif_program() {
     if ((CURRENT == 2)); then
-        compadd order cuts compile check send demo migrate relay sink blind finish twin
+        compadd order cuts compile check send demo migrate relay sink blind finish twin sendtwo
         return
     fi
     case $words[2],$CURRENT in
     order,3 | cuts,3 | compile,3 | twin,3) _files -g '*.net' ;;
-    compile,4 | check,3 | send,3 | migrate,3 | migrate,4 | relay,3 | sink,3 | blind,3 | finish,4 | twin,7) _files -g '*.lif' ;;
+    compile,4 | check,3 | send,3 | sendtwo,3 | migrate,3 | migrate,4 | relay,3 | sink,3 | blind,3 | finish,4 | twin,7) _files -g '*.lif' ;;
     finish,3) _files -g '*.draft' ;;
     compile,5 | twin,8) _files -g '*.txt' ;;
     twin,4) _lif_ends $words[3] ;;
-    send,4 | relay,4 | sink,4) _lif_patterns $words[3] ;;
+    send,4 | sendtwo,4 | relay,4 | sink,4) _lif_patterns $words[3] ;;
     relay,5) _lif_nodes $words[3] --nodes ;;
     sink,5) _lif_nodes $words[3] --sinks ;;
-    send,6 | send,7 | relay,6 | relay,7 | sink,6 | sink,7 | blind,4 | blind,5) _files ;;
+    send,6 | send,7 | sendtwo,7 | sendtwo,8 | sendtwo,9 | relay,6 | relay,7 | sink,6 | sink,7 | blind,4 | blind,5) _files ;;
     blind,*) _lif_nodes $words[3] --links ;;
     esac
 }

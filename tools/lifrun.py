@@ -2,9 +2,10 @@
 
     python3 tools/lifrun.py PROGRAM WORD ..
 
-The program gets the words, standard input and output and the signals, and this ends as it does. Said is how far `send` or
-`blind` is, where standard error is a terminal; what stands behind a status other than 0, found by looking at the words and the
-files; and which outputs hold only a beginning, or the line too. What is read of a pipe is gone, so none is read here.
+The program gets the words, standard input and output and the signals, and this ends as it does. Said is how far `send`,
+`sendtwo` or `blind` is, where standard error is a terminal; what stands behind a status other than 0, found by looking at the
+words and the files; and which outputs hold only a beginning, or the line too. What is read of a pipe is gone, so none is read
+here.
 """
 from __future__ import annotations
 
@@ -34,15 +35,17 @@ FORMS = {
     "blind": ("CODE", "SRC", "PREFIX"),
     "finish": ("DRAFT", "CODE"),
     "twin": ("NET", "SECOND", "R1", "R2", "CODE", "REPORT"),
+    "sendtwo": ("CODE", "PATTERN", "SEED", "R1", "SRC1", "SRC2", "PREFIX"),
 }
 # What a command takes behind the words of its form, as many as there are.
 MORE = {"blind": "LINK"}
-INPUTS = ("NET", "CODE", "SRC", "OLD")
+SOURCES = ("SRC", "SRC1", "SRC2")
+INPUTS = ("NET", "CODE", *SOURCES, "OLD")
 # What is read by those commands that make CODE.
 INPUTS_OF = {"compile": ("NET",), "finish": ("DRAFT",), "twin": ("NET",)}
 NODE_COMMANDS = ("relay", "sink")
-# Those that carry a source to the files of sinks.
-SENDING = ("send", "blind")
+# Those that carry sources to the files of sinks.
+SENDING = ("send", "sendtwo", "blind")
 # Those that make a code and a report of a network.
 MAKING = ("compile", "twin")
 NUMBERS = ("SEED", "N", "K", "BYTES", "R1", "R2")
@@ -50,7 +53,7 @@ NUMBERS = ("SEED", "N", "K", "BYTES", "R1", "R2")
 # The statuses, as docs/FORMATS.md has them.
 USAGE, NET_REFUSED, ZERO_RATE, TOO_MANY_DEMANDS, RATE_OVER, CODE_REFUSED, CHECK_FAILED, UNKNOWN_PATTERN = range(2, 10)
 READ_FAULT, WRITE_FAULT, TOO_LONG, OUT_OF_MEMORY, SAME_PATH, LINK_FAULT, RATE_UNMET = range(10, 17)
-STREAM_REFUSED, UNKNOWN_NODE, BAD_BLOCKS, UNKNOWN_LINK, NOT_DECODING, TWIN_REFUSED = range(17, 23)
+STREAM_REFUSED, UNKNOWN_NODE, BAD_BLOCKS, UNKNOWN_LINK, NOT_DECODING, TWIN_REFUSED, BAD_SPLIT = range(17, 24)
 
 # Signals that are passed on to the program.
 PASSED = (signal.SIGHUP, signal.SIGINT, signal.SIGQUIT, signal.SIGTERM, signal.SIGUSR1, signal.SIGUSR2)
@@ -173,12 +176,18 @@ class Call:
         """The names of the links that fail, which `blind` is given."""
         return self.words[1 + len(FORMS[self.command]) :] if self.command in MORE else ()
 
+    @property
+    def sources(self) -> list[str]:
+        """The files that are sent: one or two, and of each sink one file for each of these."""
+        return [self.given[name] for name in SOURCES if name in self.given]
+
     def inputs(self) -> list[str]:
         named = INPUTS_OF.get(self.command, INPUTS)
         return [self.given[name] for name in named if name in self.given] + self.node_files()[0]
 
     def outputs(self) -> list[str]:
-        """The files that are made, in order. Of `send` and `blind` there are none where the code can't be read here."""
+        """The files that are made, in order. Of `send`, `sendtwo` and `blind` there are none where the code can't be read
+        here."""
         from lif_tools.formats import Refused, read_sinks
 
         given = self.given
@@ -198,7 +207,8 @@ class Call:
             sinks = read_sinks(content_of(given["CODE"], FRONT_BYTES))
         except Refused:
             return []
-        return [f"{given['PREFIX']}.{sink}" for sink in sinks]
+        ends = [".1", ".2"] if self.command == "sendtwo" else [""]
+        return [f"{given['PREFIX']}.{sink}{end}" for sink in sinks for end in ends]
 
     def whole_sinks(self) -> list[str] | None:
         """The sinks that `blind` serves, in order, where its code can be read here."""
@@ -306,6 +316,8 @@ def cause(call: Call, status: int) -> str | None:
         return f"{draft}: what comes to that sink under that pattern is the same for that block as for zeros"
     if status == TWIN_REFUSED:
         return twin_cause(net, given)
+    if status == BAD_SPLIT:
+        return f"{code}: R1 is {given.get('R1', '')}, and has to be at least 1 and below the rate that the line has"
     return None
 
 
@@ -471,7 +483,7 @@ def length_cause(call: Call) -> str | None:
     from lif_tools.formats import MOST_CODE_BYTES, MOST_RELAYED_BYTES, MOST_SOURCE_BYTES, MOST_STREAM_BYTES, MOST_TEXT_BYTES
 
     given = call.given
-    mosts = {"NET": MOST_TEXT_BYTES, "SRC": MOST_SOURCE_BYTES}
+    mosts = {"NET": MOST_TEXT_BYTES, **dict.fromkeys(SOURCES, MOST_SOURCE_BYTES)}
     for name in INPUTS_OF.get(call.command, INPUTS):
         size, most = size_of(given.get(name, "")), mosts.get(name, MOST_CODE_BYTES)
         if size is not None and size > most:
@@ -493,12 +505,17 @@ def length_cause(call: Call) -> str | None:
 
 def beginnings(call: Call) -> str | None:
     """Which outputs hold only a beginning, once the program has ended early."""
-    written = [path for path in call.outputs() if call.is_written(path)]
+    outputs, sources = call.outputs(), call.sources
+    written = [path for path in outputs if call.is_written(path)]
+    parts: list[str] = []
     if call.command in SENDING:
-        length = size_of(call.given["SRC"]) if call.given else None
-        short = [path for path in written if length is None or (size_of(path) or 0) < length]
-        what = "only a beginning" if length is not None else "perhaps only a beginning"
-        return f"{what} of {call.given['SRC']} stands in {listed(short)}" if short else None
+        for place, source in enumerate(sources):
+            length = size_of(source)
+            own = [path for path in outputs[place :: len(sources)] if path in written]
+            short = [path for path in own if length is None or (size_of(path) or 0) < length]
+            what = "only a beginning" if length is not None else "perhaps only a beginning"
+            parts += [f"{what} of {source} stands in {listed(short)}"] if short else []
+        return ", and ".join(parts) or None
     # The code is whole where the report was begun.
     begun = written[-1:] if call.command in MAKING else written
     return f"perhaps only a beginning stands in {listed(begun)}" if begun else None
@@ -525,8 +542,8 @@ def with_line(call: Call) -> str | None:
 
 
 class Progress(threading.Thread):
-    """Says on the terminal how far `send` or `blind` is, until `ended` is set: in the line below the cursor, so that what the
-    program says comes before it, in its own line.
+    """Says on the terminal how far `send`, `sendtwo` or `blind` is, by the files of the first sink, until `ended` is set: in
+    the line below the cursor, so that what the program says comes before it, in its own line.
     """
 
     def __init__(self, call: Call) -> None:
@@ -538,13 +555,15 @@ class Progress(threading.Thread):
     def run(self) -> None:
         if self.ended.wait(FIRST_SAID):
             return
-        outputs = self.call.outputs()
-        if not outputs:
+        sources = self.call.sources
+        paths = self.call.outputs()[: len(sources)]
+        if not paths:
             return
-        path, length = outputs[0], size_of(self.call.given["SRC"])
+        sizes = [size for source in sources if (size := size_of(source)) is not None]
+        path, length = listed(paths), sum(sizes) if len(sizes) == len(sources) else None
         seen = [(self.begun, 0)]
         while True:
-            size = (size_of(path) or 0) if self.call.is_written(path) else 0
+            size = sum(size_of(one) or 0 for one in paths if self.call.is_written(one))
             seen.append((time.monotonic(), size))
             while seen[-1][0] - seen[0][0] > SPEED_OVER:
                 seen.pop(0)

@@ -52,7 +52,7 @@ def folder(tmp_path: Path) -> Path:
 
 
 def test_words_are_completed(folder: Path) -> None:
-    words = ["blind", "check", "compile", "cuts", "demo", "finish", "migrate", "order", "relay", "send", "sink", "twin"]
+    words = "blind check compile cuts demo finish migrate order relay send sendtwo sink twin".split()
     assert completed(folder, "lif", "") == words
     assert completed(folder, "./lif", "c") == ["check", "compile", "cuts"]
 
@@ -70,11 +70,17 @@ def test_files_are_completed(folder: Path) -> None:
     assert completed(folder, "lif", "twin", "") == ["old", "one.net"]
     assert completed(folder, "lif", "twin", "one.net", "b", "1", "1", "") == ["my code.lif", "old"]
     assert completed(folder, "lif", "twin", "one.net", "b", "1", "1", "b.lif", "") == ["notes.txt", "old"]
+    assert completed(folder, "lif", "sendtwo", "") == ["my code.lif", "old"]
+    for words in (("f",), ("a", "f"), ("a", "b", "f")):
+        assert completed(folder, "lif", "sendtwo", "a.lif", "none", "1", "1", *words) == ["film.mp4"]
 
 
 def test_patterns_are_completed(folder: Path) -> None:
     assert completed(folder, "lif", "send", "my\\ code.lif", "") == ["duct", "dust", "none"]
     assert completed(folder, "lif", "send", "my\\ code.lif", "du") == ["duct", "dust"]
+    assert completed(folder, "lif", "sendtwo", "my\\ code.lif", "") == ["duct", "dust", "none"]
+    assert completed(folder, "lif", "sendtwo", "my\\ code.lif", "none", "") == []
+    assert completed(folder, "lif", "sendtwo", "my\\ code.lif", "none", "1", "") == []
     assert completed(folder, "lif", "send", "one.net", "") == []
     assert completed(folder, "lif", "send", "a.lif", "none", "") == []
     assert completed(folder, "lif", "demo", "") == []
@@ -173,6 +179,10 @@ def test_zsh_completes_the_words_of_the_tools(folder: Path) -> None:
     assert completed_by_zsh(folder, "lif", "twin", "two.net", "") == ["s", "t", "u"]
     assert completed_by_zsh(folder, "lif", "twin", "two.net", "b", "1", "1", "") == ["files *.lif"]
     assert completed_by_zsh(folder, "lif", "twin", "two.net", "b", "1", "1", "b.lif", "") == ["files *.txt"]
+    assert completed_by_zsh(folder, "lif", "sendtwo", "") == ["files *.lif"]
+    assert completed_by_zsh(folder, "lif", "sendtwo", "my\\ code.lif", "") == ["duct", "dust", "none"]
+    for words in ((), ("a",), ("a", "b")):
+        assert completed_by_zsh(folder, "lif", "sendtwo", "a.lif", "none", "1", "1", *words, "") == ["files "]
     assert completed_by_zsh(folder, "lif", "blind", "") == ["files *.lif"]
     assert completed_by_zsh(folder, "lif", "blind", "a.lif", "") == completed_by_zsh(folder, "lif", "blind", "a.lif", "b", "")
     assert completed_by_zsh(folder, "lif", "blind", "my\\ code.lif", "a", "b", "k", "") == ["k", "l"]
@@ -222,5 +232,5 @@ def test_the_man_page_has_every_word_and_every_status() -> None:
         word, *names = form.split()
         assert f".Cm {word}\n.Ar {' '.join(names)}\n" in page()
     statuses = STATUSES.findall((TOP / "docs/FORMATS.md").read_text())
-    assert len(statuses) == 21
+    assert len(statuses) == 23
     assert [number for _, number in statuses] == re.findall(r"^\.It (\d+)$", page(), re.MULTILINE)

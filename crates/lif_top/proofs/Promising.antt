@@ -14,7 +14,7 @@ use Rattle.lif_outside.specs.Puts.{Put}
 use Rattle.top_base.specs.Outcome.{SaysOutcome, status_unsaid}
 use Rattle.top_base.specs.Performs.{Performs, RunsOn}
 use Rattle.top_base.proofs.PerformingLaws.{IsKnown, at_once_known, performs_said}
-use Rattle.top_base.specs.Words.{Command, blind, check, command_of, compile, cuts, demo, finish, migrate, order, relay, send, sink, twin}
+use Rattle.top_base.specs.Words.{Command, blind, check, command_of, compile, cuts, demo, finish, migrate, order, relay, send, send_two, sink, twin}
 use Rattle.top_base.specs.declared.outcome.Outcome.{Outcome}
 use Rattle.top_base.specs.declared.status.Status.{Status}
 use Rattle.top_base.specs.declared.status.Status.TheVariants.{Done, Usage}
@@ -30,6 +30,7 @@ use Rattle.top_nodes.proofs.SinkChained.{sink-receives}
 use Rattle.top_nodes.proofs.SinkLaws.{sink_known, sink_used}
 use Rattle.top_runs.proofs.DemoPerforms.{demo_known, demo_used}
 use Rattle.top_runs.proofs.SendPerforms.{send_known, send_used}
+use Rattle.top_runs.proofs.SendTwoPerforms.{send_two_known, send_two_used}
 
 -- a status is that of words that are no form where the outcome's is, and nowhere else
 unsaid_used : (status : Status) → status ≢ Usage → status_unsaid status ≢ Usage
@@ -63,6 +64,7 @@ form_known faithful (Some (sink given)) = sink_known given
 form_known faithful (Some (blind given)) = blind_known given
 form_known faithful (Some (finish given)) = finish_known given
 form_known faithful (Some (twin given)) = twin_known given
+form_known faithful (Some (send_two given)) = send_two_known faithful given
 
 command_used : (faithful : Bool) (command : Command) (outcome : Outcome) (calls : Calls) → (does_form faithful (Some command)).runs outcome calls → outcome.status ≢ Usage
 command_used faithful (order net) = order_used net
@@ -77,6 +79,7 @@ command_used faithful (sink given) = sink_used given
 command_used faithful (blind given) = blind_used given
 command_used faithful (finish given) = finish_used given
 command_used faithful (twin given) = twin_used given
+command_used faithful (send_two given) = send_two_used faithful given
 
 -- the usage comes of words that are no form
 usage_of : (faithful : Bool) (form : Option Command) (outcome : Outcome) (status : Status) (calls : Calls) (puts : List Put) → (does_form faithful form).runs outcome calls → SaysOutcome outcome status puts → (status ≡ Usage) ↔ (form ≡ None)

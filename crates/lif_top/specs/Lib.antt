@@ -10,6 +10,8 @@ pub use Rattle.top_nodes.specs.Relay
 pub use Rattle.top_nodes.specs.Sink
 pub use Rattle.top_runs.specs.Demo
 pub use Rattle.top_runs.specs.Send
+pub use Rattle.top_runs.specs.SendTwo
+pub use Rattle.top_runs.specs.Sending
 pub use Rattle.top_base.specs.Accepting
 pub use Rattle.top_base.specs.Acting
 pub use Rattle.top_base.specs.Causes

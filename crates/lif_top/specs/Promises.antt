@@ -13,7 +13,7 @@ use Rattle.top_tools.specs.Order.{order_command}
 use Rattle.top_tools.specs.Twin.{twin_command}
 use Rattle.top_base.specs.Lines.{usage_line}
 use Rattle.top_base.specs.Performs.{Behaviour, Performs, at_once}
-use Rattle.top_base.specs.Words.{AtNode, Blind, Command, blind, check, command_of, compile, cuts, demo, finish, migrate, order, relay, send, sink, twin}
+use Rattle.top_base.specs.Words.{AtNode, Blind, Command, blind, check, command_of, compile, cuts, demo, finish, migrate, order, relay, send, send_two, sink, twin}
 use Rattle.top_base.specs.declared.outcome.Outcome.{Outcome}
 use Rattle.top_base.specs.declared.status.Status.{Status}
 use Rattle.top_base.specs.declared.status.Status.TheVariants.{Usage}
@@ -24,6 +24,7 @@ use Rattle.top_nodes.specs.Relay.{relay_command}
 use Rattle.top_nodes.specs.Sink.{sink_command}
 use Rattle.top_runs.specs.Demo.Command.{demo_command}
 use Rattle.top_runs.specs.Send.Command.{send_command}
+use Rattle.top_runs.specs.SendTwo.Command.{send_two_command}
 
 -- words that are no form come to the usage
 abbrev pub misuse : Outcome
@@ -44,6 +45,7 @@ does_form faithful (Some (sink given)) = sink_command given
 does_form faithful (Some (blind given)) = blind_command given
 does_form faithful (Some (finish given)) = finish_command given
 does_form faithful (Some (twin given)) = twin_command given
+does_form faithful (Some (send_two given)) = send_two_command faithful given
 
 pub record Promises {S C L : Type 0} {g : StoreGhosts S} {h : SinkGhosts C} {k : LinksGhosts L} (words : List (List ℕ)) (o : Objects g h k)
     (status : Status) : Type 0 where

@@ -11,7 +11,7 @@ use std::thread::Threads;
 use top_base::{Command, Outcome, Status, command_of, conclude};
 use top_blind::blind;
 use top_nodes::{relay, sink};
-use top_runs::{demo, send};
+use top_runs::{demo, send, send_two};
 use top_tools::{check, compile, cuts, finish, migrate, order, twin};
 
 // What the words come to: the command that they are, or the usage.
@@ -44,6 +44,7 @@ fn carry_out<'a, S: Store, L: Links, G: Gate + Sync, R: Threads + Sync>(
         Command::Blind(given) => blind(alloc, &given, store),
         Command::Finish(given) => finish(alloc, &given, store),
         Command::Twin(given) => twin(rt, alloc, &given, store, gate),
+        Command::SendTwo(given) => send_two(rt, alloc, &given, store, links, gate),
     }
 }
 
@@ -76,6 +77,9 @@ fn carry_out<'a, S: Store, L: Links, G: Gate + Sync, R: Threads + Sync>(
 /// - `twin NET SECOND R1 R2 CODE REPORT` reads a network text, puts a node `super` before its source, by R1 links, and before the
 ///   node SECOND, by R2, and writes a code of that network of the rate R1 + R2, whose links out of `super` carry a row each, and
 ///   the report of its least cuts. Two files that start at the two nodes then go through one code.
+/// - `sendtwo CODE PATTERN SEED R1 SRC1 SRC2 PREFIX` makes `PREFIX.<sink>.1` and `PREFIX.<sink>.2` for each sink of an accepted
+///   code, carries the files at SRC1 and SRC2 over the links, of each block R1 rows of the one and the others of the other, and
+///   writes to each sink's two files what the sink decodes.
 ///
 /// The jobs of certificates, of a compilation, of a check and of the sinks that decode enter the gate.
 pub fn lif<S: Store, C: Sink, L: Links, G: Gate + Sync, R: Threads + Sync>(

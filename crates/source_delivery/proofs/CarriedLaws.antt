@@ -12,21 +12,32 @@ use Rattle.node_stations.specs.Decoded.{decoded_of}
 use Rattle.node_stations.specs.Opening.{demand_of}
 use Rattle.relay_runner.proofs.JoinLaws.{carried-join, decoded-back, decoded-front, range-append}
 use Rattle.relay_runner.specs.Carried.{IsCarried, packets_given}
-use Rattle.source_delivery.specs.Carried.{AreCarried, CarriesFirst, IsOver, blocks_from}
-
--- the block of a generation
-abbrev block_at : List ℕ → ℕ → ℕ → List ℕ
-block_at file rate generation = block_of rate (piece_of file rate generation)
+use Rattle.source_delivery.specs.Carried.{AreCarried, CarriesFirst, IsOver, blocks_from, blocks_in, file_block}
 
 -- some blocks, and then more
-pub blocks_from-append : (file : List ℕ) (rate first count more : ℕ)
-    → blocks_from file rate first (count + more) ≡ blocks_from file rate first count ++ blocks_from file rate (first + count) more
-blocks_from-append file rate first count more =
-    ap (map (block_at file rate)) (range-append first count more)
-    ∙ map-append (block_at file rate) (range_with_len first count) (range_with_len (first + count) more)
+pub blocks_in-append : (block : ℕ → List ℕ) (first count more : ℕ)
+    → blocks_in block first (count + more) ≡ blocks_in block first count ++ blocks_in block (first + count) more
+blocks_in-append block first count more =
+    ap (map block) (range-append first count more) ∙ map-append block (range_with_len first count) (range_with_len (first + count) more)
 
-pub length-blocks_from : (file : List ℕ) (rate first count : ℕ) → length (blocks_from file rate first count) ≡ count
-length-blocks_from file rate first count = length-map-range_with_len (block_at file rate) first count
+pub length-blocks_in : (block : ℕ → List ℕ) (first count : ℕ) → length (blocks_in block first count) ≡ count
+length-blocks_in block first count = length-map-range_with_len block first count
+
+-- blocks that are the same, each by its generation
+pub blocks_in-alike : (one other : ℕ → List ℕ) (first count : ℕ) → ((generation : ℕ) → first ≤ generation → generation < first + count → one generation ≡ other generation)
+    → blocks_in one first count ≡ blocks_in other first count
+blocks_in-alike one other first zero alike = refl
+blocks_in-alike one other first (suc count) alike =
+    ap (λ block. block ∷ blocks_in one (first + 1) count) (alike first (omega arith) (omega arith))
+    ∙ ap (λ rest. other first ∷ rest) (blocks_in-alike one other (first + 1) count (λ generation begun below. alike generation (omega arith) (omega arith)))
+
+-- the blocks of what is behind some of them
+pub blocks_in-behind : (one other : ℕ → List ℕ) (before first count : ℕ) → ((generation : ℕ) → one generation ≡ other (before + generation)) → blocks_in one first count ≡ blocks_in other (before + first) count
+blocks_in-behind one other before first zero alike = refl
+blocks_in-behind one other before first (suc count) alike =
+    let next : before + (first + 1) ≡ before + first + 1 = omega arith in
+    ap (λ block. block ∷ blocks_in one (first + 1) count) (alike first)
+    ∙ ap (λ rest. other (before + first) ∷ rest) (blocks_in-behind one other before (first + 1) count alike ∙ ap (λ n. blocks_in other n count) next)
 
 -- what is behind the first blocks of a file has the blocks behind them
 pub blocks_from-behind : (file : List ℕ) (rate before first count : ℕ)
@@ -38,7 +49,7 @@ blocks_from-behind file rate before first (suc count) =
     let place : drop (first * size) (drop (before * size) file) ≡ drop ((before + first) * size) file =
     drop-drop (first * size) (before * size) file ∙ ap (λ n. drop n file) (sym (add-mul before first size)) in
     ap (λ (behind : List ℕ). block_of rate (take size behind) ∷ blocks_from (drop (before * size) file) rate (first + 1) count) place
-    ∙ ap (λ rest. block_at file rate (before + first) ∷ rest) (blocks_from-behind file rate before (first + 1) count ∙ ap (λ n. blocks_from file rate n count) next)
+    ∙ ap (λ rest. file_block file rate (before + first) ∷ rest) (blocks_from-behind file rate before (first + 1) count ∙ ap (λ n. blocks_from file rate n count) next)
 
 -- whole blocks of a file don't change by what follows it
 pub blocks_from-front : (file more : List ℕ) (rate first count : ℕ) → (first + count) * capacity rate ≤ length file
@@ -54,7 +65,7 @@ blocks_from-front file more rate first (suc count) whole =
     let piece : piece_of (file ++ more) rate first ≡ piece_of file rate first =
     ap (take size) (drop-append-le (first * size) file more start) ∙ take-append-le size (drop (first * size) file) more room in
     ap (λ piece. block_of rate piece ∷ blocks_from (file ++ more) rate (first + 1) count) piece
-    ∙ ap (λ rest. block_at file rate first ∷ rest) (blocks_from-front file more rate (first + 1) count (omega arith))
+    ∙ ap (λ rest. file_block file rate first ∷ rest) (blocks_from-front file more rate (first + 1) count (omega arith))
 
 module _ (faithful : Bool) (code : Code) (pattern : ℕ) where
   -- where there are blocks, they were carried
@@ -96,26 +107,26 @@ module _ (faithful : Bool) (code : Code) (pattern : ℕ) where
       ap (λ moves. decoded_of code (demand_of code pattern place) (packets_given (moves ++ later)) generation) none
   decoded-next first (block ∷ blocks) front later place generation are past = decoded-back are later place generation past
 
-  module _ (file : List ℕ) (blocks : ℕ) where
+  module _ (block : ℕ → List ℕ) (blocks : ℕ) where
     -- the first blocks are all calls, where nothing follows
-    pub over-are : (carried : ℕ) (moves : List Move) → CarriesFirst faithful code pattern file blocks IsOver carried moves
-        → AreCarried faithful code pattern 0 (blocks_from file code.rate 0 carried) moves
+    pub over-are : (carried : ℕ) (moves : List Move) → CarriesFirst faithful code pattern block blocks IsOver carried moves
+        → AreCarried faithful code pattern 0 (blocks_in block 0 carried) moves
     over-are carried moves is =
-        subst (AreCarried faithful code pattern 0 (blocks_from file code.rate 0 carried))
+        subst (AreCarried faithful code pattern 0 (blocks_in block 0 carried))
         (sym (is.moves_are ∙ ap (λ later. is.first ++ later) is.rest ∙ append-nil is.first)) is.carries
 
-    module _ (R : ℕ → List Move → Type 0) (carried : ℕ) (moves : List Move) (is : CarriesFirst faithful code pattern file blocks R carried moves)
+    module _ (R : ℕ → List Move → Type 0) (carried : ℕ) (moves : List Move) (is : CarriesFirst faithful code pattern block blocks R carried moves)
         (known : pattern < length code.net.patterns) where
       -- by faithful links each sink decodes the blocks that were carried
       pub carried-decoded : faithful ≡ true → (generation place : ℕ) → generation < carried → place < length code.net.sinks
-          → decoded_of code (demand_of code pattern place) (packets_given moves) generation ≡ block_of code.rate (piece_of file code.rate generation)
+          → decoded_of code (demand_of code pattern place) (packets_given moves) generation ≡ block generation
       carried-decoded by_faithful generation place below within =
-          let those = blocks_from file code.rate 0 carried in
-          let count : length those ≡ carried = length-blocks_from file code.rate 0 carried in
+          let those = blocks_in block 0 carried in
+          let count : length those ≡ carried = length-blocks_in block 0 carried in
           let start : generation - 0 ≡ generation = omega arith in
           let carries = carried-some 0 those is.first (omega (arith, count)) is.carries in
           ap (λ moves. decoded_of code (demand_of code pattern place) (packets_given moves) generation) is.moves_are
           ∙ decoded-still 0 those is.first is.later place generation is.carries known (omega arith) (omega (arith, count))
           ∙ carries.decoded by_faithful place generation within (omega arith) (omega (arith, count))
           ∙ ap (λ n. slice_index_or those n []) start
-          ∙ get_or-map-range_with_len (block_at file code.rate) 0 carried generation generation [] below (omega arith)
+          ∙ get_or-map-range_with_len block 0 carried generation generation [] below (omega arith)

@@ -1,5 +1,5 @@
 -- A delivery, window by window: some blocks are delivered, and then more, or the delivery ends there.
-use Rattle.std.specs.Prelude.{◌≡◌, ◌<◌, ◌≤◌, ◌+◌, ◌*◌, ◌/◌, ◌^◌, ℕ, zero, suc, Bool, false, List, [], ◌∷◌, ◌++◌, drop, length, map, take}
+use Rattle.std.specs.Prelude.{◌≡◌, ◌<◌, ◌≤◌, ◌+◌, ◌*◌, ◌/◌, ◌^◌, ℕ, zero, suc, Bool, false, List, [], ◌∷◌, ◌++◌, drop, length, map, string_bytes, take}
 use Rattle.std.specs.List.{AllByRecursion, concat, range_with_len}
 use Rattle.std.proofs.Common.{refl, sym, ap, ◌∙◌, subst, arith}
 use Rattle.std.proofs.Math.Nat.{add-mul, mul-div_left, mul-le-mul_left}
@@ -20,18 +20,19 @@ use Rattle.node_program.specs.declared.code.Code.{Code}
 use Rattle.node_stations.specs.Fed.{window_of}
 use Rattle.relay_runner.specs.Carried.{packets_given}
 use Rattle.relay_runner.specs.Running.{AreBlocks, Running, count_in, window_from}
-use Rattle.source_delivery.proofs.CarriedLaws.{blocks_from-append, carried-then, decoded-next, decoded-still, length-blocks_from}
+use Rattle.source_delivery.proofs.CarriedLaws.{blocks_in-append, carried-then, decoded-next, decoded-still, length-blocks_in}
 use Rattle.source_delivery.proofs.TurnLaws.{turns-alike, turns-append}
-use Rattle.source_delivery.specs.Carried.{blocks_from}
-use Rattle.source_delivery.specs.Delivering.{BreaksBlocks, CanCarry, DeliversBlocks, DeliversSome, Interrupts, InterruptsBlocks, InterruptsBytes, IsStill, calls_join}
-use Rattle.source_delivery.specs.Turns.{turns_before, turns_from}
+use Rattle.source_delivery.specs.Carried.{blocks_from, file_block}
+use Rattle.source_delivery.specs.Delivering.{BreaksBlocks, CanCarry, DeliversBlocks, DeliversSome, Interrupts, InterruptsBlocks, InterruptsBytes, IsStill, StandIn, calls_join}
+use Rattle.source_delivery.specs.Delivery.{outputs_in, paths_of}
+use Rattle.source_delivery.specs.Turns.{Outputs, turns_before, turns_from}
 use Rattle.source_delivery.specs.declared.delivery.SourceDelivery.{SourceDelivery}
 use Rattle.source_delivery.specs.declared.delivery.DeliveryFault.{DeliveryFault}
 use Rattle.source_delivery.specs.declared.delivery.DeliveryFault.TheVariants as fault
 
-module _ (faithful : Bool) (code : Code) (pattern : ℕ) (paths : List (List ℕ)) (known : pattern < length code.net.patterns) where
+module _ (faithful : Bool) (code : Code) (pattern : ℕ) (outputs : Outputs) (known : pattern < length code.net.patterns) where
   abbrev Blocks : ℕ → List (List ℕ) → (List Event → List Event → Type 0) → Calls → Type 0
-  Blocks = DeliversBlocks faithful code pattern paths
+  Blocks = DeliversBlocks faithful code pattern outputs
 
   -- nothing was delivered
   pub delivers-none : (first : ℕ) → Blocks first [] Are (record { on_store = []; on_links = [] })
@@ -43,24 +44,24 @@ module _ (faithful : Bool) (code : Code) (pattern : ℕ) (paths : List (List ℕ
 
     -- the appends of both are those of the blocks, and then those of the others
     pub turns-joined : (n : ℕ) → n ≡ length others
-        → appends_of (turns_from paths code pattern (packets_given moves) first (length blocks + n))
-        ≡ front.on_store ++ appends_of (turns_from paths code pattern (packets_given later.on_links) (first + length blocks) n)
+        → appends_of (turns_from outputs code pattern (packets_given moves) first (length blocks + n))
+        ≡ front.on_store ++ appends_of (turns_from outputs code pattern (packets_given later.on_links) (first + length blocks) n)
     turns-joined n count =
-        turns-append paths code pattern (packets_given moves) first (length blocks) n
-        ∙ ap (λ turns. appends_of turns ++ appends_of (turns_from paths code pattern (packets_given moves) (first + length blocks) n))
-        (turns-alike paths code pattern (packets_given moves) (packets_given front.on_links) first (length blocks)
-        (λ generation begun below place within. decoded-still faithful code pattern first blocks front.on_links later.on_links place generation some.on_links known begun below))
-        ∙ ap (λ events. events ++ appends_of (turns_from paths code pattern (packets_given moves) (first + length blocks) n)) (sym some.on_store)
+        turns-append outputs code pattern (packets_given moves) first (length blocks) n
+        ∙ ap (λ turns. appends_of turns ++ appends_of (turns_from outputs code pattern (packets_given moves) (first + length blocks) n))
+        (turns-alike outputs code pattern (packets_given moves) (packets_given front.on_links) first (length blocks)
+        (λ generation begun below sink. decoded-still faithful code pattern first blocks front.on_links later.on_links sink generation some.on_links known begun below))
+        ∙ ap (λ events. events ++ appends_of (turns_from outputs code pattern (packets_given moves) (first + length blocks) n)) (sym some.on_store)
         ∙ ap (λ turns. front.on_store ++ appends_of turns)
-        (turns-alike paths code pattern (packets_given moves) (packets_given later.on_links) (first + length blocks) n
-        (λ generation begun below place within. decoded-next faithful code pattern first blocks front.on_links later.on_links place generation some.on_links begun))
+        (turns-alike outputs code pattern (packets_given moves) (packets_given later.on_links) (first + length blocks) n
+        (λ generation begun below sink. decoded-next faithful code pattern first blocks front.on_links later.on_links sink generation some.on_links begun))
 
     -- blocks were delivered, and then more
     pub delivers-then : (Q : List Event → List Event → Type 0) → ((these events : List Event) → Q these events → Q (front.on_store ++ these) (front.on_store ++ events))
         → Blocks (first + length blocks) others Q later → Blocks first (blocks ++ others) Q (calls_join front later)
     delivers-then Q behind more = record {
       on_links = carried-then faithful code pattern first blocks front.on_links others later.on_links some.on_links more.on_links;
-      on_store = subst (λ n. Q (appends_of (turns_from paths code pattern (packets_given moves) first n)) (front.on_store ++ later.on_store)) (sym (length-append blocks others))
+      on_store = subst (λ n. Q (appends_of (turns_from outputs code pattern (packets_given moves) first n)) (front.on_store ++ later.on_store)) (sym (length-append blocks others))
           (subst (λ these. Q these (front.on_store ++ later.on_store)) (sym (turns-joined (length others) refl)) (behind _ later.on_store more.on_store));
     }
 
@@ -76,12 +77,12 @@ module _ (faithful : Bool) (code : Code) (pattern : ℕ) (paths : List (List ℕ
     both = blocks_from bytes code.rate 0 (count + more)
 
     long : length (blocks_from bytes code.rate 0 count) ≡ count
-    long = length-blocks_from bytes code.rate 0 count
+    long = length-blocks_in (file_block bytes code.rate) 0 count
 
     joined : both ≡ blocks_from bytes code.rate 0 count ++ blocks_from bytes code.rate count more
     joined =
         let start : 0 + count ≡ count = omega arith in
-        blocks_from-append bytes code.rate 0 count more ∙ ap (λ n. blocks_from bytes code.rate 0 count ++ blocks_from bytes code.rate n more) start
+        blocks_in-append (file_block bytes code.rate) 0 count more ∙ ap (λ n. blocks_from bytes code.rate 0 count ++ blocks_from bytes code.rate n more) start
 
     pub delivers-bytes : Blocks (first + count) (blocks_from bytes code.rate count more) Are later → Blocks first both Are (calls_join front later)
     delivers-bytes is =
@@ -96,8 +97,8 @@ module _ (faithful : Bool) (code : Code) (pattern : ℕ) (paths : List (List ℕ
         (subst (λ n. Blocks (first + n) (blocks_from bytes code.rate count more) StopsWithin later) (sym long) is))
 
     pub interrupts-bytes : (blocks : ℕ) → count + more ≤ blocks → (why : DeliveryFault)
-        → InterruptsBlocks faithful code pattern paths (first + count) (blocks_from bytes code.rate count more) why later
-        → InterruptsBytes faithful code pattern paths first bytes blocks why (calls_join front later)
+        → InterruptsBlocks faithful code pattern outputs (first + count) (blocks_from bytes code.rate count more) why later
+        → InterruptsBytes faithful code pattern outputs first bytes blocks why (calls_join front later)
     interrupts-bytes blocks within why is = record {
       before = count;
       more = more;
@@ -116,18 +117,18 @@ module _ (faithful : Bool) (code : Code) (pattern : ℕ) (paths : List (List ℕ
     blocks = block_count source code.rate
 
     -- all blocks of a source were delivered
-    pub delivers-some : (calls : Calls) → Blocks 0 (blocks_from source code.rate 0 blocks) Are calls → DeliversSome faithful code pattern paths source blocks calls
+    pub delivers-some : (calls : Calls) → Blocks 0 (blocks_from source code.rate 0 blocks) Are calls → DeliversSome faithful code pattern outputs source blocks calls
     delivers-some calls is = record {
       delivered = record {
         carried = blocks;
         on_links = record { first = calls.on_links; later = []; moves_are = sym (append-nil calls.on_links); some = omega arith; carries = is.on_links; rest = refl };
-        on_store = subst (λ n. calls.on_store ≡ appends_of (turns_before paths code pattern (packets_given calls.on_links) n)) (length-blocks_from source code.rate 0 blocks) is.on_store;
+        on_store = subst (λ n. calls.on_store ≡ appends_of (turns_before outputs code pattern (packets_given calls.on_links) n)) (length-blocks_in (file_block source code.rate) 0 blocks) is.on_store;
       };
       number = refl;
     }
 
     -- or not all were
-    pub interrupts-some : (why : DeliveryFault) (calls : Calls) → InterruptsBytes faithful code pattern paths 0 source blocks why calls → Interrupts faithful code pattern paths source why calls
+    pub interrupts-some : (why : DeliveryFault) (calls : Calls) → InterruptsBytes faithful code pattern outputs 0 source blocks why calls → Interrupts faithful code pattern outputs source why calls
     interrupts-some fault.Write calls is =
         let start : 0 + is.before ≡ is.before = omega arith in
         let count = is.before + is.more in
@@ -136,14 +137,14 @@ module _ (faithful : Bool) (code : Code) (pattern : ℕ) (paths : List (List ℕ
         record {
           carried = count;
           on_links = record { first = calls.on_links; later = []; moves_are = sym (append-nil calls.on_links); some = is.within; carries = all.on_links; rest = refl };
-          on_store = subst (λ n. StopsWithin (appends_of (turns_before paths code pattern (packets_given calls.on_links) n)) calls.on_store) (length-blocks_from source code.rate 0 count) all.on_store;
+          on_store = subst (λ n. StopsWithin (appends_of (turns_before outputs code pattern (packets_given calls.on_links) n)) calls.on_store) (length-blocks_in (file_block source code.rate) 0 count) all.on_store;
         }
     interrupts-some fault.Links calls is =
         let start : 0 + is.before ≡ is.before = omega arith in
         let those = blocks_from source code.rate 0 is.before in
         let broken = subst (λ n. BreaksBlocks faithful code pattern n (blocks_from source code.rate is.before is.more) is.later) start is.interrupted in
         let moves_are : calls.on_links ≡ is.front.on_links ++ is.later.on_links = ap (λ (calls : Calls). calls.on_links) is.joined in
-        let count : length those + 0 ≡ is.before = omega (arith, length-blocks_from source code.rate 0 is.before) in
+        let count : length those + 0 ≡ is.before = omega (arith, length-blocks_in (file_block source code.rate) 0 is.before) in
         record {
           carried = is.before;
           on_links = record {
@@ -157,8 +158,8 @@ module _ (faithful : Bool) (code : Code) (pattern : ℕ) (paths : List (List ℕ
           on_store =
               ap (λ (calls : Calls). calls.on_store) is.joined ∙ ap (λ events. is.front.on_store ++ events) broken.on_store
               ∙ sym (turns-joined 0 those [] is.front is.later is.delivered 0 refl)
-              ∙ ap (λ n. appends_of (turns_before paths code pattern (packets_given (is.front.on_links ++ is.later.on_links)) n)) count
-              ∙ ap (λ moves. appends_of (turns_before paths code pattern (packets_given moves) is.before)) (sym moves_are);
+              ∙ ap (λ n. appends_of (turns_before outputs code pattern (packets_given (is.front.on_links ++ is.later.on_links)) n)) count
+              ∙ ap (λ moves. appends_of (turns_before outputs code pattern (packets_given moves) is.before)) (sym moves_are);
         }
 
 -- links that were just opened for a code carry blocks of it
@@ -177,22 +178,33 @@ opened-can seed code runner at_work known works as_put old new moved =
     }
 
 -- numbers of generations that carry so many bytes are of 32 bits, with room for a window
-pub numbered : (code : Code) (generations : ℕ) → generations * capacity code.rate ≤ last_place → generations + 4 ≤ 2 ^ 32
-numbered code generations few =
-    let some : 1 ≤ code.rate = code.code.draft.some_rate in
-    let size : 1020 ≤ capacity code.rate = omega (arith, some) in
-    let least : generations * 1020 ≤ generations * capacity code.rate = mul-le-mul_left generations size in
+pub numbered-at : (rate generations : ℕ) → 1 ≤ rate → generations * capacity rate ≤ last_place → generations + 4 ≤ 2 ^ 32
+numbered-at rate generations some few =
+    let size : 1020 ≤ capacity rate = omega (arith, some) in
+    let least : generations * 1020 ≤ generations * capacity rate = mul-le-mul_left generations size in
     omega (arith, few, least)
+
+pub numbered : (code : Code) (generations : ℕ) → generations * capacity code.rate ≤ last_place → generations + 4 ≤ 2 ^ 32
+numbered code generations few = numbered-at code.rate generations code.code.draft.some_rate few
 
 -- ---- a delivery that is still
 
+-- deliveries to the same paths, of as many sources, have the same files
+pub outputs-same : {F : Type 0} (one other : SourceDelivery F) → one.outputs ≡ other.outputs → one.parts ≡ other.parts → outputs_in one ≡ outputs_in other
+outputs-same one other outputs parts =
+    ap (λ outputs. record { paths = map string_bytes outputs.items; parts = one.parts }) outputs ∙ ap (λ parts. record { paths = paths_of other; parts = parts }) parts
+
+pub still-outputs : {F : Type 0} {old new : SourceDelivery F} → IsStill old new → outputs_in new ≡ outputs_in old
+still-outputs {F} {old} {new} is = outputs-same new old is.outputs is.parts
+
 pub still-here : {F : Type 0} (delivery : SourceDelivery F) → IsStill delivery delivery
-still-here delivery = record { runner = refl; outputs = refl; window = refl; gathered = refl }
+still-here delivery = record { runner = refl; outputs = refl; parts = refl; window = refl; gathered = refl }
 
 pub still-then : {F : Type 0} {old at new : SourceDelivery F} → IsStill old at → IsStill at new → IsStill old new
 still-then was is = record {
   runner = is.runner ∙ was.runner;
   outputs = is.outputs ∙ was.outputs;
+  parts = is.parts ∙ was.parts;
   window = is.window ∙ was.window;
   gathered = is.gathered ∙ was.gathered;
 }
@@ -225,39 +237,41 @@ length-concat size (block ∷ blocks) all =
     let count : length (block ∷ blocks) * size ≡ (length blocks + 1) * size = ap (λ n. n * size) (omega arith) in
     omega (arith, length-append block (concat blocks), length-concat size blocks all.1, all.0, more, count)
 
-module _ (code : Code) (bytes : List ℕ) where
-  -- each block of bytes is of the size of a block of the code
-  size-blocks : (first count : ℕ) → AreOfSize (code.rate * row_bytes) (blocks_from bytes code.rate first count)
-  size-blocks first zero = tt
-  size-blocks first (suc count) =
-      (length-block code.rate (piece_of bytes code.rate first) code.code.draft.some_rate (length-piece_of bytes code.rate first), size-blocks (first + 1) count)
+-- each block of a file is of the size of a block of the code
+pub size-blocks : (code : Code) (bytes : List ℕ) (first count : ℕ) → AreOfSize (code.rate * row_bytes) (blocks_from bytes code.rate first count)
+size-blocks code bytes first zero = tt
+size-blocks code bytes first (suc count) =
+    (length-block code.rate (piece_of bytes code.rate first) code.code.draft.some_rate (length-piece_of bytes code.rate first), size-blocks code bytes (first + 1) count)
 
-  -- the blocks, one after another, are as many, and a window of them
-  module _ (count : ℕ) (hand : List ℕ) (is : hand ≡ concat (blocks_from bytes code.rate 0 count)) where
-    blocks-long : length hand ≡ count * (code.rate * row_bytes)
-    blocks-long =
-        ap length is ∙ length-concat (code.rate * row_bytes) (blocks_from bytes code.rate 0 count) (size-blocks 0 count)
-        ∙ ap (λ n. n * (code.rate * row_bytes)) (length-blocks_from bytes code.rate 0 count)
+-- bytes that are as long as so many blocks of a code are so many blocks
+module _ (code : Code) (count : ℕ) (hand : List ℕ) (long : length hand ≡ count * (code.rate * row_bytes)) where
+  pub blocks-count : count_in code hand ≡ count
+  blocks-count =
+      let some : 1 ≤ code.rate = code.code.draft.some_rate in
+      let size : 0 < code.rate * row_bytes = omega (arith, some) in
+      ap (λ n. n / (code.rate * row_bytes)) long ∙ mul-div_left count size
 
-    pub blocks-count : count_in code hand ≡ count
-    blocks-count =
-        let some : 1 ≤ code.rate = code.code.draft.some_rate in
-        let size : 0 < code.rate * row_bytes = omega (arith, some) in
-        ap (λ n. n / (code.rate * row_bytes)) blocks-long ∙ mul-div_left count size
+  pub are-blocks : (first : ℕ) → 1 ≤ count → count ≤ most_blocks → first + count ≤ 2 ^ 32 → AreBlocks code first hand
+  are-blocks first some few last = record {
+    some_blocks = omega (arith, blocks-count);
+    few_blocks = omega (arith, blocks-count);
+    whole = long ∙ ap (λ n. n * (code.rate * row_bytes)) (sym blocks-count);
+    last = omega (arith, blocks-count);
+  }
 
-    pub blocks-window : (first : ℕ) → window_from code first hand ≡ record { first = first; blocks = blocks_from bytes code.rate 0 count }
-    blocks-window first =
-        let size = code.rate * row_bytes in
-        let those = blocks_from bytes code.rate 0 count in
-        let none : 0 ≡ 0 * size = omega arith in
-        ap (λ n. window_of first n size hand) (blocks-count ∙ sym (length-blocks_from bytes code.rate 0 count))
-        ∙ ap (λ hand. window_of first (length those) size hand) is
-        ∙ ap (λ (blocks : List (List ℕ)). record { first = first; blocks = blocks }) (cut-concat size those [] 0 none (size-blocks 0 count))
+-- where blocks stand in a room, the bytes of so many blocks of it are these blocks, and a window of them
+module _ (code : Code) (count : ℕ) (blocks : List (List ℕ)) (room : List ℕ) (stand : StandIn code count blocks room) where
+  abbrev hand : List ℕ
+  hand = take (count * (code.rate * row_bytes)) room
 
-    pub are-blocks : (first : ℕ) → 1 ≤ count → count ≤ most_blocks → first + count ≤ 2 ^ 32 → AreBlocks code first hand
-    are-blocks first some few last = record {
-      some_blocks = omega (arith, blocks-count);
-      few_blocks = omega (arith, blocks-count);
-      whole = blocks-long ∙ ap (λ n. n * (code.rate * row_bytes)) (sym blocks-count);
-      last = omega (arith, blocks-count);
-    }
+  pub blocks-long : length hand ≡ count * (code.rate * row_bytes)
+  blocks-long =
+      ap length stand.stand ∙ length-concat (code.rate * row_bytes) blocks stand.sized ∙ ap (λ n. n * (code.rate * row_bytes)) stand.as_many
+
+  pub blocks-window : (first : ℕ) → window_from code first hand ≡ record { first = first; blocks = blocks }
+  blocks-window first =
+      let size = code.rate * row_bytes in
+      let none : 0 ≡ 0 * size = omega arith in
+      ap (λ n. window_of first n size hand) (blocks-count code count hand blocks-long ∙ sym stand.as_many)
+      ∙ ap (λ hand. window_of first (length blocks) size hand) stand.stand
+      ∙ ap (λ (blocks : List (List ℕ)). record { first = first; blocks = blocks }) (cut-concat size blocks [] 0 none stand.sized)

@@ -13,6 +13,7 @@ use Rattle.source_delivery.proofs.CarriedLaws.{blocks_from-behind, blocks_from-f
 use Rattle.source_delivery.proofs.DeliveryLaws.{delivers-bytes, interrupts-bytes}
 use Rattle.source_delivery.specs.Carried.{blocks_from}
 use Rattle.source_delivery.specs.Delivering.{DeliversBlocks, InterruptsBlocks, InterruptsBytes, IsBehind, calls_join}
+use Rattle.source_delivery.specs.Turns.{Outputs}
 use Rattle.source_delivery.specs.declared.delivery.DeliveryFault.{DeliveryFault}
 
 -- nothing was carried of bytes that are left
@@ -55,23 +56,23 @@ same-blocks rate blocks bytes left more is =
     let start : (0 + blocks) * capacity rate ≡ blocks * capacity rate = ap (λ n. n * capacity rate) (omega arith) in
     blocks_from-front bytes more rate 0 blocks (omega (arith, start, is.whole))
 
-module _ (faithful : Bool) (code : Code) (pattern : ℕ) (paths : List (List ℕ)) (known : pattern < length code.net.patterns) (first blocks count : ℕ) (bytes left : List ℕ)
+module _ (faithful : Bool) (code : Code) (pattern : ℕ) (outputs : Outputs) (known : pattern < length code.net.patterns) (first blocks count : ℕ) (bytes left : List ℕ)
     (is : IsBehind code.rate blocks bytes left) (front later : Calls)
-    (some : DeliversBlocks faithful code pattern paths first (blocks_from bytes code.rate 0 blocks) Are front) where
+    (some : DeliversBlocks faithful code pattern outputs first (blocks_from bytes code.rate 0 blocks) Are front) where
   -- blocks of what was left were delivered
-  pub left-delivered : DeliversBlocks faithful code pattern paths (first + blocks) (blocks_from left code.rate 0 count) Are later
-      → DeliversBlocks faithful code pattern paths first (blocks_from bytes code.rate 0 (blocks + count)) Are (calls_join front later)
+  pub left-delivered : DeliversBlocks faithful code pattern outputs (first + blocks) (blocks_from left code.rate 0 count) Are later
+      → DeliversBlocks faithful code pattern outputs first (blocks_from bytes code.rate 0 (blocks + count)) Are (calls_join front later)
   left-delivered more =
-      delivers-bytes faithful code pattern paths known first bytes blocks count front later some
-      (subst (λ those. DeliversBlocks faithful code pattern paths (first + blocks) those Are later) (left-blocks code.rate blocks count bytes left is) more)
+      delivers-bytes faithful code pattern outputs known first bytes blocks count front later some
+      (subst (λ those. DeliversBlocks faithful code pattern outputs (first + blocks) those Are later) (left-blocks code.rate blocks count bytes left is) more)
 
   -- or they weren't
   pub left-interrupted : (all : ℕ) → blocks + count ≤ all → (why : DeliveryFault)
-      → InterruptsBlocks faithful code pattern paths (first + blocks) (blocks_from left code.rate 0 count) why later
-      → InterruptsBytes faithful code pattern paths first bytes all why (calls_join front later)
+      → InterruptsBlocks faithful code pattern outputs (first + blocks) (blocks_from left code.rate 0 count) why later
+      → InterruptsBytes faithful code pattern outputs first bytes all why (calls_join front later)
   left-interrupted all within why broken =
-      interrupts-bytes faithful code pattern paths known first bytes blocks count front later some all within why
-      (subst (λ those. InterruptsBlocks faithful code pattern paths (first + blocks) those why later) (left-blocks code.rate blocks count bytes left is) broken)
+      interrupts-bytes faithful code pattern outputs known first bytes blocks count front later some all within why
+      (subst (λ those. InterruptsBlocks faithful code pattern outputs (first + blocks) those why later) (left-blocks code.rate blocks count bytes left is) broken)
 
 -- ---- the bytes so far
 
@@ -87,12 +88,12 @@ rest-behind front bytes from =
     ap (λ bytes. front ++ bytes) (sym (take-append-drop from bytes)) ∙ sym (append_assoc front (take from bytes) (drop from bytes))
 
 -- where blocks of what is left aren't delivered, whatever bytes follow
-pub rest-interrupted : (faithful : Bool) (code : Code) (pattern : ℕ) (paths : List (List ℕ)) → pattern < length code.net.patterns → (first blocks count : ℕ) (bytes left rest : List ℕ)
+pub rest-interrupted : (faithful : Bool) (code : Code) (pattern : ℕ) (outputs : Outputs) → pattern < length code.net.patterns → (first blocks count : ℕ) (bytes left rest : List ℕ)
     → IsBehind code.rate blocks bytes left → count * capacity code.rate ≤ length left → (front later : Calls) (why : DeliveryFault)
-    → DeliversBlocks faithful code pattern paths first (blocks_from bytes code.rate 0 blocks) Are front
-    → InterruptsBlocks faithful code pattern paths (first + blocks) (blocks_from left code.rate 0 count) why later
-    → InterruptsBytes faithful code pattern paths first (bytes ++ rest) (length (bytes ++ rest) / capacity code.rate) why (calls_join front later)
-rest-interrupted faithful code pattern paths known first blocks count bytes left rest is full front later why some broken =
+    → DeliversBlocks faithful code pattern outputs first (blocks_from bytes code.rate 0 blocks) Are front
+    → InterruptsBlocks faithful code pattern outputs (first + blocks) (blocks_from left code.rate 0 count) why later
+    → InterruptsBytes faithful code pattern outputs first (bytes ++ rest) (length (bytes ++ rest) / capacity code.rate) why (calls_join front later)
+rest-interrupted faithful code pattern outputs known first blocks count bytes left rest is full front later why some broken =
     let rate = code.rate in
     let size = capacity rate in
     let some_rate : 1 ≤ rate = code.code.draft.some_rate in
@@ -101,10 +102,10 @@ rest-interrupted faithful code pattern paths known first blocks count bytes left
     let long : length left ≡ length bytes - blocks * size = ap length is.left_is ∙ length-drop (blocks * size) bytes in
     let within : blocks + count ≤ length (bytes ++ rest) / size =
     le-div (blocks + count) (length (bytes ++ rest)) size (omega (arith, some_rate)) (omega (arith, sum, long, is.whole, full, length-append bytes rest)) in
-    left-interrupted faithful code pattern paths known first blocks count (bytes ++ rest) (left ++ rest) (behind-more rate blocks bytes left rest is) front later
-    (subst (λ those. DeliversBlocks faithful code pattern paths first those Are front) (sym (same-blocks rate blocks bytes left rest is)) some)
+    left-interrupted faithful code pattern outputs known first blocks count (bytes ++ rest) (left ++ rest) (behind-more rate blocks bytes left rest is) front later
+    (subst (λ those. DeliversBlocks faithful code pattern outputs first those Are front) (sym (same-blocks rate blocks bytes left rest is)) some)
     (length (bytes ++ rest) / size) within why
-    (subst (λ those. InterruptsBlocks faithful code pattern paths (first + blocks) those why later) (sym (blocks_from-front left rest rate 0 count (omega (arith, start, full)))) broken)
+    (subst (λ those. InterruptsBlocks faithful code pattern outputs (first + blocks) those why later) (sym (blocks_from-front left rest rate 0 count (omega (arith, start, full)))) broken)
 
 -- the blocks of the bytes, where the last ones aren't whole, are those that were carried and those of what is left
 pub count-left : (code : Code) (blocks : ℕ) (bytes left : List ℕ) → IsBehind code.rate blocks bytes left → blocks + block_count left code.rate ≡ block_count bytes code.rate
@@ -118,9 +119,9 @@ count-left code blocks bytes left is =
     omega (arith, whole)
 
 -- all blocks of the bytes may have been meant
-pub interrupts-more : (faithful : Bool) (code : Code) (pattern : ℕ) (paths : List (List ℕ)) (first : ℕ) (bytes : List ℕ) (few all : ℕ) → few ≤ all → (why : DeliveryFault) (calls : Calls)
-    → InterruptsBytes faithful code pattern paths first bytes few why calls → InterruptsBytes faithful code pattern paths first bytes all why calls
-interrupts-more faithful code pattern paths first bytes few all more why calls is = record {
+pub interrupts-more : (faithful : Bool) (code : Code) (pattern : ℕ) (outputs : Outputs) (first : ℕ) (bytes : List ℕ) (few all : ℕ) → few ≤ all → (why : DeliveryFault) (calls : Calls)
+    → InterruptsBytes faithful code pattern outputs first bytes few why calls → InterruptsBytes faithful code pattern outputs first bytes all why calls
+interrupts-more faithful code pattern outputs first bytes few all more why calls is = record {
   before = is.before;
   more = is.more;
   within = omega (arith, more, is.within);

@@ -1,9 +1,15 @@
 pub mod CarriedLaws
+pub mod CutLaws
 pub mod DeliveryLaws
 pub mod GatherLaws
+pub mod MarkLaws
+pub mod PartLaws
 pub mod Pieces
+pub mod ReaderLaws
+pub mod ReadingLaws
 pub mod StreamingLaws
 pub mod Triples
 pub mod TurnLaws
 pub mod Turning
+pub mod TwinLaws
 pub mod WindowLaws

@@ -23,20 +23,20 @@ use Rattle.lif_outside.proofs.StreamLaws.{AreDue, AreWrites, due_all, due_none, 
 use Rattle.node_program.specs.declared.code.Code.{Code}
 use Rattle.relay_runner.specs.Carried.{packets_given}
 use Rattle.top_base.specs.Inputs.{ReadsAny}
-use Rattle.source_delivery.proofs.CarriedLaws.{blocks_from-append, blocks_from-behind, carried-then, decoded-still, length-blocks_from}
+use Rattle.source_delivery.proofs.CarriedLaws.{blocks_from-behind, blocks_in-append, carried-then, decoded-still, length-blocks_in}
 use Rattle.source_delivery.proofs.DeliveryLaws.{turns-joined}
 use Rattle.source_delivery.proofs.GatherLaws.{behind-more, behind-none, behind-then, count-left, left-blocks, same-blocks}
+use Rattle.source_delivery.proofs.ReaderLaws.{AllRead}
 use Rattle.source_delivery.proofs.TurnLaws.{turns-alike, turns-append}
-use Rattle.source_delivery.specs.Carried.{AreCarried, Breaks, blocks_from}
+use Rattle.source_delivery.specs.Carried.{AreCarried, Breaks, blocks_from, blocks_in, file_block}
 use Rattle.source_delivery.specs.Delivering.{BreaksBlocks, DeliversBlocks, InterruptsBlocks, InterruptsBytes, IsBehind, calls_join}
-use Rattle.source_delivery.specs.Streaming.{AtRest, blocks_brought, deliveries_to}
 use Rattle.source_delivery.specs.Delivery.{AreCounts}
-use Rattle.source_delivery.specs.Streaming.{StopsStreaming, StreamsAll, StreamsSource}
+use Rattle.source_delivery.specs.Streaming.{AtRest, Feed, InTime, IsStreamed, StopsStreaming, StreamsAll, StreamsSource, blocks_brought, deliveries_to, file_feed}
 use Rattle.source_delivery.specs.declared.delivery.SentCounts.{SentCounts}
 use Rattle.source_delivery.specs.declared.delivery.DeliveryFault.{DeliveryFault}
 use Rattle.source_delivery.specs.declared.delivery.DeliveryFault.TheVariants as fault
 use Rattle.source_delivery.specs.declared.streaming.StreamFault.TheVariants as stream
-use Rattle.source_delivery.specs.Turns.{turns_before, turns_from}
+use Rattle.source_delivery.specs.Turns.{Outputs, turns_before, turns_from}
 
 -- they bring the blocks that are whole
 pub brought-whole : (path : List ℕ) (events : List Event) (rate : ℕ) → AreReadsFrom 0 path events → blocks_brought events rate ≡ length (bytes_read events) / capacity rate
@@ -49,31 +49,26 @@ all-brought path limit source reads rate whole =
     ap (λ ended. if ended then block_count (bytes_read reads) rate else length (bytes_read reads) / capacity rate) (whole_ended path limit source reads whole)
     ∙ ap (λ bytes. block_count bytes rate) (whole_gave path limit source reads whole)
 
-module _ (paths : List (List ℕ)) (code : Code) (pattern : ℕ) where
-  -- before each call the writes so far are the first of those that are due of what was read
-  abbrev pub InTime : List Packet → ℕ → List Event → Type 0
-  InTime came carried events = (front : List Event) (next : Event) (rest : List Event) → events ≡ front ++ next ∷ rest
-      → IsFrontOf (deliveries_to paths code pattern came carried (reads_in front)) (writes_in front)
-
+module _ (outputs : Outputs) (code : Code) (pattern : ℕ) (feed : Feed) where
   -- one call more that reads
-  in-time-read : (came : List Packet) (carried : ℕ) (events : List Event) (event : Event) → InTime came carried events
-      → writes_in events ≡ appends_of (turns_before paths code pattern came carried) → carried ≤ blocks_brought (reads_in events) code.rate
-      → InTime came carried (events ++ event ∷ [])
+  in-time-read : (came : List Packet) (carried : ℕ) (events : List Event) (event : Event) → InTime outputs code pattern feed came carried events
+      → writes_in events ≡ appends_of (turns_before outputs code pattern came carried) → carried ≤ feed.brought (reads_in events)
+      → InTime outputs code pattern feed came carried (events ++ event ∷ [])
   in-time-read came carried events event in_time writes brought front next rest e = ⊎_elim
       (λ within. in_time front next within.0 within.1)
       (λ past. last past.0 past.1 past.2)
       (split_at_call events (event ∷ []) front next rest e)
     where
-      least : min carried (blocks_brought (reads_in events) code.rate) ≡ carried
+      least : min carried (feed.brought (reads_in events)) ≡ carried
       least = omega (arith, brought)
 
-      here : IsFrontOf (deliveries_to paths code pattern came carried (reads_in events)) (writes_in events)
+      here : IsFrontOf (deliveries_to outputs code pattern feed came carried (reads_in events)) (writes_in events)
       here =
           subst (λ these. IsFrontOf these (writes_in events))
-          (writes ∙ sym (ap (λ n. appends_of (turns_before paths code pattern came n)) least)) (front_all (writes_in events))
+          (writes ∙ sym (ap (λ n. appends_of (turns_before outputs code pattern came n)) least)) (front_all (writes_in events))
 
-      last : (more : List Event) → front ≡ events ++ more → event ∷ [] ≡ more ++ next ∷ rest → IsFrontOf (deliveries_to paths code pattern came carried (reads_in front)) (writes_in front)
-      last [] is e = subst (λ front. IsFrontOf (deliveries_to paths code pattern came carried (reads_in front)) (writes_in front)) (sym (is ∙ append-nil events)) here
+      last : (more : List Event) → front ≡ events ++ more → event ∷ [] ≡ more ++ next ∷ rest → IsFrontOf (deliveries_to outputs code pattern feed came carried (reads_in front)) (writes_in front)
+      last [] is e = subst (λ front. IsFrontOf (deliveries_to outputs code pattern feed came carried (reads_in front)) (writes_in front)) (sym (is ∙ append-nil events)) here
       last (other ∷ []) is e = absurd (cc)
       last (other ∷ another ∷ more) is e = absurd (cc)
 
@@ -86,103 +81,112 @@ pub turns-writes : (turns : List (List Written)) → AreWrites (appends_of turns
 turns-writes [] = tt
 turns-writes (turn ∷ turns) = AllByRecursion-append (λ event. is_read event ≡ false) (map (λ (part : Written). appended part.0 part.1) turn) (appends_of turns) (turn-writes turn) (turns-writes turns)
 
--- What was delivered so far of what was read: the first blocks were carried, what came of them was appended, and each append in time.
-pub record IsStreamed (faithful : Bool) (code : Code) (pattern : ℕ) (paths : List (List ℕ)) (file : List ℕ) (carried : ℕ) (calls : Calls) : Type 0 where
-  pub on_links : AreCarried faithful code pattern 0 (blocks_from file code.rate 0 carried) calls.on_links
-  pub writes : writes_in calls.on_store ≡ appends_of (turns_before paths code pattern (packets_given calls.on_links) carried)
-  pub in_time : InTime paths code pattern (packets_given calls.on_links) carried calls.on_store
-  pub brought : carried ≤ blocks_brought (reads_in calls.on_store) code.rate
-
-module _ (faithful : Bool) (code : Code) (pattern : ℕ) (paths : List (List ℕ)) (known : pattern < length code.net.patterns) where
-  abbrev Streamed : List ℕ → ℕ → Calls → Type 0
-  Streamed = IsStreamed faithful code pattern paths
+module _ (faithful : Bool) (code : Code) (pattern : ℕ) (outputs : Outputs) (feed : Feed) (known : pattern < length code.net.patterns) where
+  abbrev Streamed : (ℕ → List ℕ) → ℕ → Calls → Type 0
+  Streamed = IsStreamed faithful code pattern outputs feed
 
   -- nothing was read yet
-  pub streamed-none : Streamed [] 0 (record { on_store = []; on_links = [] })
-  streamed-none = record { on_links = refl; writes = refl; in_time = none; brought = omega arith }
+  pub streamed-none : (block : ℕ → List ℕ) → Streamed block 0 (record { on_store = []; on_links = [] })
+  streamed-none block = record { on_links = refl; writes = refl; in_time = none; brought = omega arith }
     where
-      none : InTime paths code pattern [] 0 []
+      none : InTime outputs code pattern feed [] 0 []
       none [] next rest e = absurd (cc)
       none (event ∷ front) next rest e = absurd (cc)
 
   -- one call more that reads
-  pub streamed-read : (file : List ℕ) (carried : ℕ) (calls : Calls) (event : Event) → is_read event ≡ true → Streamed file carried calls
-      → carried ≤ blocks_brought (reads_in calls.on_store ++ event ∷ []) code.rate
-      → Streamed file carried (record { on_store = calls.on_store ++ event ∷ []; on_links = calls.on_links })
-  streamed-read file carried calls event reads is brought = record {
+  pub streamed-read : (block : ℕ → List ℕ) (carried : ℕ) (calls : Calls) (event : Event) → is_read event ≡ true → Streamed block carried calls
+      → carried ≤ feed.brought (reads_in calls.on_store ++ event ∷ [])
+      → Streamed block carried (record { on_store = calls.on_store ++ event ∷ []; on_links = calls.on_links })
+  streamed-read block carried calls event reads is brought = record {
     on_links = is.on_links;
     writes = writes-append calls.on_store (event ∷ []) ∙ ap (λ b. writes_in calls.on_store ++ cond (not b) (event ∷ []) []) reads ∙ append-nil (writes_in calls.on_store) ∙ is.writes;
-    in_time = in-time-read paths code pattern (packets_given calls.on_links) carried calls.on_store event is.in_time is.writes is.brought;
-    brought = subst (λ events. carried ≤ blocks_brought events code.rate)
+    in_time = in-time-read outputs code pattern feed (packets_given calls.on_links) carried calls.on_store event is.in_time is.writes is.brought;
+    brought = subst (λ events. carried ≤ feed.brought events)
         (sym (reads-append calls.on_store (event ∷ []) ∙ ap (λ b. reads_in calls.on_store ++ cond b (event ∷ []) []) reads)) brought;
   }
 
-  -- the file is longer
-  pub streamed-longer : (file other : List ℕ) (carried : ℕ) (calls : Calls) → blocks_from other code.rate 0 carried ≡ blocks_from file code.rate 0 carried → Streamed file carried calls → Streamed other carried calls
-  streamed-longer file other carried calls same is = record {
+  -- some calls more that read
+  pub streamed-reads : (block : ℕ → List ℕ) (carried : ℕ) (calls : Calls) (events : List Event) → AllRead events → Streamed block carried calls
+      → ((more rest : List Event) → events ≡ more ++ rest → carried ≤ feed.brought (reads_in calls.on_store ++ more))
+      → Streamed block carried (record { on_store = calls.on_store ++ events; on_links = calls.on_links })
+  streamed-reads block carried calls [] all is brought =
+      subst (λ events. Streamed block carried (record { on_store = events; on_links = calls.on_links })) (sym (append-nil calls.on_store)) is
+  streamed-reads block carried calls (event ∷ events) all is brought =
+      let here : Calls = record { on_store = calls.on_store ++ event ∷ []; on_links = calls.on_links } in
+      let same : reads_in here.on_store ≡ reads_in calls.on_store ++ event ∷ [] =
+      reads-append calls.on_store (event ∷ []) ∙ ap (λ b. reads_in calls.on_store ++ cond b (event ∷ []) []) all.0 in
+      let next = streamed-read block carried calls event all.0 is (brought (event ∷ []) events refl) in
+      subst (λ these. Streamed block carried (record { on_store = these; on_links = calls.on_links })) (append_assoc calls.on_store (event ∷ []) events)
+      (streamed-reads block carried here events all.1 next (λ more rest parts.
+      subst (λ reads. carried ≤ feed.brought reads) (sym (ap (λ reads. reads ++ more) same ∙ append_assoc (reads_in calls.on_store) (event ∷ []) more))
+      (brought (event ∷ more) rest (ap (λ rest. event ∷ rest) parts))))
+
+  -- what was carried are the same blocks by another word
+  pub streamed-longer : (block other : ℕ → List ℕ) (carried : ℕ) (calls : Calls) → blocks_in other 0 carried ≡ blocks_in block 0 carried → Streamed block carried calls → Streamed other carried calls
+  streamed-longer block other carried calls same is = record {
     on_links = subst (λ blocks. AreCarried faithful code pattern 0 blocks calls.on_links) (sym same) is.on_links;
     writes = is.writes;
     in_time = is.in_time;
     brought = is.brought;
   }
 
-  module _ (file : List ℕ) (carried count : ℕ) (calls later : Calls) (is : Streamed file carried calls) (within : carried + count ≤ blocks_brought (reads_in calls.on_store) code.rate) where
+  module _ (block : ℕ → List ℕ) (carried count : ℕ) (calls later : Calls) (is : Streamed block carried calls) (within : carried + count ≤ feed.brought (reads_in calls.on_store)) where
     abbrev those : List (List ℕ)
-    those = blocks_from file code.rate 0 carried
+    those = blocks_in block 0 carried
 
     long : length those ≡ carried
-    long = length-blocks_from file code.rate 0 carried
+    long = length-blocks_in block 0 carried
 
     abbrev came : List Packet
     came = packets_given (calls.on_links ++ later.on_links)
 
-    abbrev due : List Event
-    due = appends_of (turns_from paths code pattern (packets_given later.on_links) carried count)
+    abbrev pub due : List Event
+    due = appends_of (turns_from outputs code pattern (packets_given later.on_links) carried count)
 
     -- the writes so far as a delivery
-    so-far : DeliversBlocks faithful code pattern paths 0 those Are (record { on_store = writes_in calls.on_store; on_links = calls.on_links })
+    so-far : DeliversBlocks faithful code pattern outputs 0 those Are (record { on_store = writes_in calls.on_store; on_links = calls.on_links })
     so-far = record {
       on_links = is.on_links;
-      on_store = is.writes ∙ ap (λ n. appends_of (turns_before paths code pattern (packets_given calls.on_links) n)) (sym long);
+      on_store = is.writes ∙ ap (λ n. appends_of (turns_before outputs code pattern (packets_given calls.on_links) n)) (sym long);
     }
 
     -- what is due of all blocks
-    all-due : appends_of (turns_before paths code pattern came (carried + count)) ≡ writes_in calls.on_store ++ due
+    all-due : appends_of (turns_before outputs code pattern came (carried + count)) ≡ writes_in calls.on_store ++ due
     all-due =
         let start : 0 + length those ≡ carried = omega (arith, long) in
         let sum : carried + count ≡ length those + count = omega (arith, long) in
-        ap (λ n. appends_of (turns_before paths code pattern came n)) sum
-        ∙ turns-joined faithful code pattern paths known 0 those (blocks_from file code.rate carried count) (record { on_store = writes_in calls.on_store; on_links = calls.on_links }) later so-far count
-        (sym (length-blocks_from file code.rate carried count))
-        ∙ ap (λ n. writes_in calls.on_store ++ appends_of (turns_from paths code pattern (packets_given later.on_links) n count)) start
+        ap (λ n. appends_of (turns_before outputs code pattern came n)) sum
+        ∙ turns-joined faithful code pattern outputs known 0 those (blocks_in block carried count) (record { on_store = writes_in calls.on_store; on_links = calls.on_links }) later so-far count
+        (sym (length-blocks_in block carried count))
+        ∙ ap (λ n. writes_in calls.on_store ++ appends_of (turns_from outputs code pattern (packets_given later.on_links) n count)) start
 
     -- what was due before is due
-    still-due : (reads events : List Event) → IsFrontOf (deliveries_to paths code pattern (packets_given calls.on_links) carried reads) events
-        → IsFrontOf (deliveries_to paths code pattern came (carried + count) reads) events
+    still-due : (reads events : List Event) → IsFrontOf (deliveries_to outputs code pattern feed (packets_given calls.on_links) carried reads) events
+        → IsFrontOf (deliveries_to outputs code pattern feed came (carried + count) reads) events
     still-due reads events front =
-        let b = blocks_brought reads code.rate in
+        let b = feed.brought reads in
         let n = min carried b in
         let more = min (carried + count) b - n in
         let sum : min (carried + count) b ≡ n + more = omega arith in
         let low : n ≤ carried = omega arith in
-        let rest = appends_of (turns_from paths code pattern came (0 + n) more) in
-        let same : turns_from paths code pattern came 0 n ≡ turns_before paths code pattern (packets_given calls.on_links) n =
-        turns-alike paths code pattern came (packets_given calls.on_links) 0 n
-        (λ generation begun below place inside. decoded-still faithful code pattern 0 those calls.on_links later.on_links place generation is.on_links known begun (omega (arith, low, long, below))) in (
+        let rest = appends_of (turns_from outputs code pattern came (0 + n) more) in
+        let same : turns_from outputs code pattern came 0 n ≡ turns_before outputs code pattern (packets_given calls.on_links) n =
+        turns-alike outputs code pattern came (packets_given calls.on_links) 0 n
+        (λ generation begun below sink. decoded-still faithful code pattern 0 those calls.on_links later.on_links sink generation is.on_links known begun (omega (arith, low, long, below))) in (
           front.0 ++ rest,
-          ap (λ n. appends_of (turns_before paths code pattern came n)) sum ∙ turns-append paths code pattern came 0 n more
+          ap (λ n. appends_of (turns_before outputs code pattern came n)) sum ∙ turns-append outputs code pattern came 0 n more
               ∙ ap (λ turns. appends_of turns ++ rest) same ∙ ap (λ these. these ++ rest) front.1 ∙ append_assoc events front.0 rest,
         )
 
     -- writes that are due come in time
-    in-time-more : AreWrites later.on_store → AreDue due later.on_store → InTime paths code pattern came (carried + count) (calls.on_store ++ later.on_store)
+    in-time-more : AreWrites later.on_store → AreDue due later.on_store → InTime outputs code pattern feed came (carried + count) (calls.on_store ++ later.on_store)
     in-time-more writes in_order front next rest e = ⊎_elim
         (λ inside. still-due (reads_in front) (writes_in front) (is.in_time front next inside.0 inside.1))
         (λ past. behind past.0 past.1 past.2)
         (split_at_call calls.on_store later.on_store front next rest e)
       where
         behind : (more : List Event) → front ≡ calls.on_store ++ more → later.on_store ≡ more ++ next ∷ rest
-            → IsFrontOf (deliveries_to paths code pattern came (carried + count) (reads_in front)) (writes_in front)
+            → IsFrontOf (deliveries_to outputs code pattern feed came (carried + count) (reads_in front)) (writes_in front)
         behind more is_front parts =
             let some = (all_split (λ event. is_read event ≡ false) more (next ∷ rest) (subst AreWrites parts writes)).0 in
             let first : reads_in front ≡ reads_in calls.on_store =
@@ -190,61 +194,61 @@ module _ (faithful : Bool) (code : Code) (pattern : ℕ) (paths : List (List ℕ
             let made : writes_in front ≡ writes_in calls.on_store ++ more =
             ap writes_in is_front ∙ writes-append calls.on_store more ∙ ap (λ others. writes_in calls.on_store ++ others) (writes_all more some) in
             let ahead = in_order more next rest parts in
-            let least : min (carried + count) (blocks_brought (reads_in calls.on_store) code.rate) ≡ carried + count = omega (arith, within) in
-            subst (λ reads. IsFrontOf (deliveries_to paths code pattern came (carried + count) reads) (writes_in front)) (sym first)
-            (subst (λ n. IsFrontOf (appends_of (turns_before paths code pattern came n)) (writes_in front)) (sym least)
-            (subst (IsFrontOf (appends_of (turns_before paths code pattern came (carried + count)))) (sym made)
+            let least : min (carried + count) (feed.brought (reads_in calls.on_store)) ≡ carried + count = omega (arith, within) in
+            subst (λ reads. IsFrontOf (deliveries_to outputs code pattern feed came (carried + count) reads) (writes_in front)) (sym first)
+            (subst (λ n. IsFrontOf (appends_of (turns_before outputs code pattern came n)) (writes_in front)) (sym least)
+            (subst (IsFrontOf (appends_of (turns_before outputs code pattern came (carried + count)))) (sym made)
             (ahead.0, all-due ∙ ap (λ due. writes_in calls.on_store ++ due) ahead.1 ∙ sym (append_assoc (writes_in calls.on_store) more ahead.0))))
 
     -- the reads and the writes of all
-    reads-still : AreWrites later.on_store → reads_in (calls.on_store ++ later.on_store) ≡ reads_in calls.on_store
+    pub reads-still : AreWrites later.on_store → reads_in (calls.on_store ++ later.on_store) ≡ reads_in calls.on_store
     reads-still writes = reads-append calls.on_store later.on_store ∙ ap (λ others. reads_in calls.on_store ++ others) (reads_none later.on_store writes) ∙ append-nil (reads_in calls.on_store)
 
     writes-then : AreWrites later.on_store → writes_in (calls.on_store ++ later.on_store) ≡ writes_in calls.on_store ++ later.on_store
     writes-then writes = writes-append calls.on_store later.on_store ∙ ap (λ others. writes_in calls.on_store ++ others) (writes_all later.on_store writes)
 
-    carried-on : AreCarried faithful code pattern carried (blocks_from file code.rate carried count) later.on_links
-        → AreCarried faithful code pattern 0 (blocks_from file code.rate 0 (carried + count)) (calls.on_links ++ later.on_links)
+    carried-on : AreCarried faithful code pattern carried (blocks_in block carried count) later.on_links
+        → AreCarried faithful code pattern 0 (blocks_in block 0 (carried + count)) (calls.on_links ++ later.on_links)
     carried-on are =
         let start : 0 + carried ≡ carried = omega arith in
         let next : carried ≡ 0 + length those = omega (arith, long) in
         subst (λ blocks. AreCarried faithful code pattern 0 blocks (calls.on_links ++ later.on_links))
-        (sym (blocks_from-append file code.rate 0 carried count ∙ ap (λ n. those ++ blocks_from file code.rate n count) start))
-        (carried-then faithful code pattern 0 those calls.on_links (blocks_from file code.rate carried count) later.on_links is.on_links
-        (subst (λ n. AreCarried faithful code pattern n (blocks_from file code.rate carried count) later.on_links) next are))
+        (sym (blocks_in-append block 0 carried count ∙ ap (λ n. those ++ blocks_in block n count) start))
+        (carried-then faithful code pattern 0 those calls.on_links (blocks_in block carried count) later.on_links is.on_links
+        (subst (λ n. AreCarried faithful code pattern n (blocks_in block carried count) later.on_links) next are))
 
-    due-of : (Q : List Event → List Event → Type 0) → Q (appends_of (turns_from paths code pattern (packets_given later.on_links) carried (length (blocks_from file code.rate carried count)))) later.on_store → Q due later.on_store
-    due-of Q made = subst (λ n. Q (appends_of (turns_from paths code pattern (packets_given later.on_links) carried n)) later.on_store) (length-blocks_from file code.rate carried count) made
+    pub due-of : (Q : List Event → List Event → Type 0) → Q (appends_of (turns_from outputs code pattern (packets_given later.on_links) carried (length (blocks_in block carried count)))) later.on_store → Q due later.on_store
+    due-of Q made = subst (λ n. Q (appends_of (turns_from outputs code pattern (packets_given later.on_links) carried n)) later.on_store) (length-blocks_in block carried count) made
 
     -- blocks were delivered, and more may come
-    pub streamed-more : DeliversBlocks faithful code pattern paths carried (blocks_from file code.rate carried count) Are later → Streamed file (carried + count) (calls_join calls later)
+    pub streamed-more : DeliversBlocks faithful code pattern outputs carried (blocks_in block carried count) Are later → Streamed block (carried + count) (calls_join calls later)
     streamed-more more =
         let made : later.on_store ≡ due = due-of Are more.on_store in
-        let writes : AreWrites later.on_store = subst AreWrites (sym made) (turns-writes (turns_from paths code pattern (packets_given later.on_links) carried count)) in
+        let writes : AreWrites later.on_store = subst AreWrites (sym made) (turns-writes (turns_from outputs code pattern (packets_given later.on_links) carried count)) in
         record {
           on_links = carried-on more.on_links;
           writes = writes-then writes ∙ ap (λ events. writes_in calls.on_store ++ events) made ∙ sym all-due;
           in_time = in-time-more writes (due_all due later.on_store made);
-          brought = subst (λ reads. carried + count ≤ blocks_brought reads code.rate) (sym (reads-still writes)) within;
+          brought = subst (λ reads. carried + count ≤ feed.brought reads) (sym (reads-still writes)) within;
         }
 
     -- blocks were delivered, or not to all files, and that is the end
-    pub streamed-end : (P : List Event → Type 0) (Q : List Event → List Event → Type 0) → P (reads_in calls.on_store) → bytes_read (reads_in calls.on_store) ≡ file
+    pub streamed-end : (P : List Event → Type 0) (Q : List Event → List Event → Type 0) → P (reads_in calls.on_store) → feed.block (reads_in calls.on_store) ≡ block
         → (AreWrites due → Q due later.on_store → AreWrites later.on_store × AreDue due later.on_store) → ((these events : List Event) → Q these events → Q (writes_in calls.on_store ++ these) (writes_in calls.on_store ++ events))
-        → DeliversBlocks faithful code pattern paths carried (blocks_from file code.rate carried count) Q later
-        → (streams : StreamsSource faithful code pattern paths P Q AtRest (calls_join calls later)) × (streams.carried ≡ carried + count)
+        → DeliversBlocks faithful code pattern outputs carried (blocks_in block carried count) Q later
+        → (streams : StreamsSource faithful code pattern outputs feed P Q AtRest (calls_join calls later)) × (streams.carried ≡ carried + count)
     streamed-end P Q reads gave ordered behind more =
         let made : Q due later.on_store = due-of Q more.on_store in
-        let parts = ordered (turns-writes (turns_from paths code pattern (packets_given later.on_links) carried count)) made in
+        let parts = ordered (turns-writes (turns_from outputs code pattern (packets_given later.on_links) carried count)) made in
         let same = reads-still parts.0 in
-        let least : min (carried + count) (blocks_brought (reads_in calls.on_store) code.rate) ≡ carried + count = omega (arith, within) in (
+        let least : min (carried + count) (feed.brought (reads_in calls.on_store)) ≡ carried + count = omega (arith, within) in (
           record {
             carried = carried + count;
             on_store = record {
               reads = subst P (sym same) reads;
-              writes = subst (λ reads. Q (deliveries_to paths code pattern came (carried + count) reads) (writes_in (calls.on_store ++ later.on_store))) (sym same)
-                  (subst (λ n. Q (appends_of (turns_before paths code pattern came n)) (writes_in (calls.on_store ++ later.on_store))) (sym least)
-                  (subst (Q (appends_of (turns_before paths code pattern came (carried + count)))) (sym (writes-then parts.0))
+              writes = subst (λ reads. Q (deliveries_to outputs code pattern feed came (carried + count) reads) (writes_in (calls.on_store ++ later.on_store))) (sym same)
+                  (subst (λ n. Q (appends_of (turns_before outputs code pattern came n)) (writes_in (calls.on_store ++ later.on_store))) (sym least)
+                  (subst (Q (appends_of (turns_before outputs code pattern came (carried + count)))) (sym (writes-then parts.0))
                   (subst (λ these. Q these (writes_in calls.on_store ++ later.on_store)) (sym all-due) (behind due later.on_store made))));
               in_time = in-time-more parts.0 parts.1;
             };
@@ -252,9 +256,9 @@ module _ (faithful : Bool) (code : Code) (pattern : ℕ) (paths : List (List ℕ
               first = calls.on_links ++ later.on_links;
               later = [];
               moves_are = sym (append-nil (calls.on_links ++ later.on_links));
-              some = subst (λ reads. carried + count ≤ blocks_brought reads code.rate) (sym same) within;
-              carries = subst (λ file. AreCarried faithful code pattern 0 (blocks_from file code.rate 0 (carried + count)) (calls.on_links ++ later.on_links))
-                  (sym (ap bytes_read same ∙ gave)) (carried-on more.on_links);
+              some = subst (λ reads. carried + count ≤ feed.brought reads) (sym same) within;
+              carries = subst (λ block. AreCarried faithful code pattern 0 (blocks_in block 0 (carried + count)) (calls.on_links ++ later.on_links))
+                  (sym (ap feed.block same ∙ gave)) (carried-on more.on_links);
               rest = refl;
             };
           },
@@ -262,29 +266,29 @@ module _ (faithful : Bool) (code : Code) (pattern : ℕ) (paths : List (List ℕ
         )
 
   -- a call on the links failed before the next blocks were carried
-  module _ (file : List ℕ) (carried more : ℕ) (calls later : Calls) (is : Streamed file carried calls) (within : carried + more ≤ blocks_brought (reads_in calls.on_store) code.rate)
-      (broken : BreaksBlocks faithful code pattern carried (blocks_from file code.rate carried more) later) where
-    pub streamed-break : (P : List Event → Type 0) → P (reads_in calls.on_store) → bytes_read (reads_in calls.on_store) ≡ file
-        → StreamsSource faithful code pattern paths P IsFrontOf (Breaks faithful code pattern) (calls_join calls later)
+  module _ (block : ℕ → List ℕ) (carried more : ℕ) (calls later : Calls) (is : Streamed block carried calls) (within : carried + more ≤ feed.brought (reads_in calls.on_store))
+      (broken : BreaksBlocks faithful code pattern carried (blocks_in block carried more) later) where
+    pub streamed-break : (P : List Event → Type 0) → P (reads_in calls.on_store) → feed.block (reads_in calls.on_store) ≡ block
+        → StreamsSource faithful code pattern outputs feed P IsFrontOf (Breaks faithful code pattern) (calls_join calls later)
     streamed-break P reads gave =
         let store : calls.on_store ++ later.on_store ≡ calls.on_store = ap (λ events. calls.on_store ++ events) broken.on_store ∙ append-nil calls.on_store in
         let none : carried + 0 ≡ carried = omega arith in
-        let few : carried + 0 ≤ blocks_brought (reads_in calls.on_store) code.rate = omega (arith, within) in
+        let few : carried + 0 ≤ feed.brought (reads_in calls.on_store) = omega (arith, within) in
         let rest : Calls = record { on_store = []; on_links = later.on_links } in
-        let due-here : appends_of (turns_before paths code pattern (packets_given (calls.on_links ++ later.on_links)) carried) ≡ writes_in calls.on_store =
-        ap (λ n. appends_of (turns_before paths code pattern (packets_given (calls.on_links ++ later.on_links)) n)) (sym none)
-        ∙ all-due file carried 0 calls rest is few ∙ append-nil (writes_in calls.on_store) in
-        let least : min carried (blocks_brought (reads_in calls.on_store) code.rate) ≡ carried = omega (arith, within) in
-        let brought = blocks_brought (reads_in calls.on_store) code.rate in
-        let in_time : InTime paths code pattern (packets_given (calls.on_links ++ later.on_links)) carried calls.on_store =
-        subst (λ n. InTime paths code pattern (packets_given (calls.on_links ++ later.on_links)) n calls.on_store) none
-        (subst (InTime paths code pattern (packets_given (calls.on_links ++ later.on_links)) (carried + 0)) (append-nil calls.on_store)
-        (in-time-more file carried 0 calls rest is few tt (due_none (due file carried 0 calls rest is few)))) in
-        let all : StreamsSource faithful code pattern paths P IsFrontOf (Breaks faithful code pattern) (record { on_store = calls.on_store; on_links = calls.on_links ++ later.on_links }) = record {
+        let due-here : appends_of (turns_before outputs code pattern (packets_given (calls.on_links ++ later.on_links)) carried) ≡ writes_in calls.on_store =
+        ap (λ n. appends_of (turns_before outputs code pattern (packets_given (calls.on_links ++ later.on_links)) n)) (sym none)
+        ∙ all-due block carried 0 calls rest is few ∙ append-nil (writes_in calls.on_store) in
+        let least : min carried (feed.brought (reads_in calls.on_store)) ≡ carried = omega (arith, within) in
+        let brought = feed.brought (reads_in calls.on_store) in
+        let in_time : InTime outputs code pattern feed (packets_given (calls.on_links ++ later.on_links)) carried calls.on_store =
+        subst (λ n. InTime outputs code pattern feed (packets_given (calls.on_links ++ later.on_links)) n calls.on_store) none
+        (subst (InTime outputs code pattern feed (packets_given (calls.on_links ++ later.on_links)) (carried + 0)) (append-nil calls.on_store)
+        (in-time-more block carried 0 calls rest is few tt (due_none (due block carried 0 calls rest is few)))) in
+        let all : StreamsSource faithful code pattern outputs feed P IsFrontOf (Breaks faithful code pattern) (record { on_store = calls.on_store; on_links = calls.on_links ++ later.on_links }) = record {
           carried = carried;
           on_store = record {
             reads = reads;
-            writes = subst (λ n. IsFrontOf (appends_of (turns_before paths code pattern (packets_given (calls.on_links ++ later.on_links)) n)) (writes_in calls.on_store)) (sym least)
+            writes = subst (λ n. IsFrontOf (appends_of (turns_before outputs code pattern (packets_given (calls.on_links ++ later.on_links)) n)) (writes_in calls.on_store)) (sym least)
                 (subst (λ these. IsFrontOf these (writes_in calls.on_store)) (sym due-here) (front_all (writes_in calls.on_store)));
             in_time = in_time;
           };
@@ -293,57 +297,84 @@ module _ (faithful : Bool) (code : Code) (pattern : ℕ) (paths : List (List ℕ
             later = later.on_links;
             moves_are = refl;
             some = omega (arith, within);
-            carries = subst (λ file. AreCarried faithful code pattern 0 (blocks_from file code.rate 0 carried) calls.on_links) (sym gave) is.on_links;
-            rest = subst (λ file. Breaks faithful code pattern file brought carried later.on_links) (sym gave)
+            carries = subst (λ block. AreCarried faithful code pattern 0 (blocks_in block 0 carried) calls.on_links) (sym gave) is.on_links;
+            rest = subst (λ block. Breaks faithful code pattern block brought carried later.on_links) (sym gave)
                 (record { more = more; some = within; stopped = broken.on_links });
           };
         } in
-        subst (λ events. StreamsSource faithful code pattern paths P IsFrontOf (Breaks faithful code pattern) (record { on_store = events; on_links = calls.on_links ++ later.on_links })) (sym store) all
+        subst (λ events. StreamsSource faithful code pattern outputs feed P IsFrontOf (Breaks faithful code pattern) (record { on_store = events; on_links = calls.on_links ++ later.on_links })) (sym store) all
 
   -- the reads end, and nothing more is carried
-  pub streamed-over : (file : List ℕ) (carried : ℕ) (calls : Calls) → Streamed file carried calls → (P : List Event → Type 0) → P (reads_in calls.on_store) → bytes_read (reads_in calls.on_store) ≡ file
-      → StreamsSource faithful code pattern paths P IsFrontOf AtRest calls
-  streamed-over file carried calls is P reads gave =
-      let least : min carried (blocks_brought (reads_in calls.on_store) code.rate) ≡ carried = omega (arith, is.brought) in
-      record {
-        carried = carried;
-        on_store = record {
-          reads = reads;
-          writes = subst (λ n. IsFrontOf (appends_of (turns_before paths code pattern (packets_given calls.on_links) n)) (writes_in calls.on_store)) (sym least)
-              (subst (λ these. IsFrontOf these (writes_in calls.on_store)) is.writes (front_all (writes_in calls.on_store)));
-          in_time = is.in_time;
-        };
-        on_links = record {
-          first = calls.on_links;
-          later = [];
-          moves_are = sym (append-nil calls.on_links);
-          some = is.brought;
-          carries = subst (λ file. AreCarried faithful code pattern 0 (blocks_from file code.rate 0 carried) calls.on_links) (sym gave) is.on_links;
-          rest = refl;
-        };
-      }
+  pub streamed-over : (block : ℕ → List ℕ) (carried : ℕ) (calls : Calls) → Streamed block carried calls → (P : List Event → Type 0) (Q : List Event → List Event → Type 0) → ((events : List Event) → Q events events)
+      → P (reads_in calls.on_store) → feed.block (reads_in calls.on_store) ≡ block
+      → (streams : StreamsSource faithful code pattern outputs feed P Q AtRest calls) × (streams.carried ≡ carried)
+  streamed-over block carried calls is P Q itself reads gave =
+      let least : min carried (feed.brought (reads_in calls.on_store)) ≡ carried = omega (arith, is.brought) in (
+        record {
+          carried = carried;
+          on_store = record {
+            reads = reads;
+            writes = subst (λ n. Q (appends_of (turns_before outputs code pattern (packets_given calls.on_links) n)) (writes_in calls.on_store)) (sym least)
+                (subst (λ these. Q these (writes_in calls.on_store)) is.writes (itself (writes_in calls.on_store)));
+            in_time = is.in_time;
+          };
+          on_links = record {
+            first = calls.on_links;
+            later = [];
+            moves_are = sym (append-nil calls.on_links);
+            some = is.brought;
+            carries = subst (λ block. AreCarried faithful code pattern 0 (blocks_in block 0 carried) calls.on_links) (sym gave) is.on_links;
+            rest = refl;
+          };
+        },
+        refl,
+      )
 
-  -- ---- the blocks that are next, delivered or not
+-- by another word on what the reads bring, of all reads so far
+pub streamed-refed : (faithful : Bool) (code : Code) (pattern : ℕ) (outputs : Outputs) (feed other : Feed) (block : ℕ → List ℕ) (carried : ℕ) (calls : Calls)
+    → ((front rest : List Event) → calls.on_store ≡ front ++ rest → feed.brought (reads_in front) ≡ other.brought (reads_in front))
+    → IsStreamed faithful code pattern outputs feed block carried calls → IsStreamed faithful code pattern outputs other block carried calls
+streamed-refed faithful code pattern outputs feed other block carried calls same is = record {
+  on_links = is.on_links;
+  writes = is.writes;
+  in_time = λ front next rest e.
+      subst (λ n. IsFrontOf (appends_of (turns_before outputs code pattern (packets_given calls.on_links) (min carried n))) (writes_in front)) (same front (next ∷ rest) e)
+      (is.in_time front next rest e);
+  brought = subst (λ n. carried ≤ n) (same calls.on_store [] (sym (append-nil calls.on_store))) is.brought;
+}
 
+-- ---- one source
+
+-- files that are the same have the same blocks
+same-feed : (rate : ℕ) {bytes file : List ℕ} → bytes ≡ file → file_block bytes rate ≡ file_block file rate
+same-feed rate same = ap (λ bytes. file_block bytes rate) same
+
+-- the blocks that are next, delivered or not
+
+-- what was streamed of a file
+abbrev pub OfFile : Bool → Code → ℕ → Outputs → List ℕ → ℕ → Calls → Type 0
+OfFile faithful code pattern outputs file = IsStreamed faithful code pattern outputs (file_feed code.rate) (file_block file code.rate)
+
+module _ (faithful : Bool) (code : Code) (pattern : ℕ) (outputs : Outputs) (known : pattern < length code.net.patterns) where
   -- they weren't delivered to all files
-  pub streamed-interrupted : (file : List ℕ) (carried count : ℕ) (calls later : Calls) → Streamed file carried calls → carried + count ≤ blocks_brought (reads_in calls.on_store) code.rate
+  pub streamed-interrupted : (file : List ℕ) (carried count : ℕ) (calls later : Calls) → OfFile faithful code pattern outputs file carried calls → carried + count ≤ blocks_brought (reads_in calls.on_store) code.rate
       → (path : List ℕ) (limit : ℕ) → ReadsAny path limit (reads_in calls.on_store) → bytes_read (reads_in calls.on_store) ≡ file
-      → (why : DeliveryFault) → InterruptsBlocks faithful code pattern paths carried (blocks_from file code.rate carried count) why later
-      → StopsStreaming faithful code pattern paths path limit (stream.Sinks why) (calls_join calls later)
+      → (why : DeliveryFault) → InterruptsBlocks faithful code pattern outputs carried (blocks_from file code.rate carried count) why later
+      → StopsStreaming faithful code pattern outputs path limit (stream.Sinks why) (calls_join calls later)
   streamed-interrupted file carried count calls later is within path limit reads gave fault.Links broken =
-      streamed-break file carried count calls later is within broken (ReadsAny path limit) reads gave
+      streamed-break faithful code pattern outputs (file_feed code.rate) known (file_block file code.rate) carried count calls later is within broken (ReadsAny path limit) reads (same-feed code.rate gave)
   streamed-interrupted file carried count calls later is within path limit reads gave fault.Write broken =
-      let these = due file carried count calls later is within in
-      (streamed-end file carried count calls later is within (ReadsAny path limit) StopsWithin reads gave
+      let these = due faithful code pattern outputs (file_feed code.rate) known (file_block file code.rate) carried count calls later is within in
+      (streamed-end faithful code pattern outputs (file_feed code.rate) known (file_block file code.rate) carried count calls later is within (ReadsAny path limit) StopsWithin reads (same-feed code.rate gave)
       (λ writes stop. (stops_are_writes these later.on_store stop writes, due_stops these later.on_store stop))
       (λ these events stop. stops_behind (writes_in calls.on_store) these events stop) broken).0
 
   -- and of some bytes that came
-  pub streamed-stopped : (file : List ℕ) (carried : ℕ) (left : List ℕ) (calls later : Calls) → Streamed file carried calls → IsBehind code.rate carried file left
+  pub streamed-stopped : (file : List ℕ) (carried : ℕ) (left : List ℕ) (calls later : Calls) → OfFile faithful code pattern outputs file carried calls → IsBehind code.rate carried file left
       → length file / capacity code.rate ≤ blocks_brought (reads_in calls.on_store) code.rate
       → (path : List ℕ) (limit : ℕ) → ReadsAny path limit (reads_in calls.on_store) → bytes_read (reads_in calls.on_store) ≡ file
-      → (why : DeliveryFault) → InterruptsBytes faithful code pattern paths carried left (length left / capacity code.rate) why later
-      → StopsStreaming faithful code pattern paths path limit (stream.Sinks why) (calls_join calls later)
+      → (why : DeliveryFault) → InterruptsBytes faithful code pattern outputs carried left (length left / capacity code.rate) why later
+      → StopsStreaming faithful code pattern outputs path limit (stream.Sinks why) (calls_join calls later)
   streamed-stopped file carried left calls later is behind brought path limit reads gave why broken =
       let rate = code.rate in
       let size = capacity rate in
@@ -358,32 +389,32 @@ module _ (faithful : Bool) (code : Code) (pattern : ℕ) (paths : List (List ℕ
       let those : blocks_from left rate 0 k ≡ blocks_from file rate carried k = left-blocks rate carried k file left behind in
       let next : blocks_from left rate k broken.more ≡ blocks_from file rate (carried + k) broken.more =
       ap (λ left. blocks_from left rate k broken.more) behind.left_is ∙ blocks_from-behind file rate carried k broken.more in
-      let delivered = subst (λ blocks. DeliversBlocks faithful code pattern paths carried blocks Are front) those broken.delivered in
-      let writes = subst AreWrites (sym (due-of file carried k calls front is first Are delivered.on_store)) (turns-writes (turns_from paths code pattern (packets_given front.on_links) carried k)) in
-      let now = streamed-more file carried k calls front is first delivered in
-      let same : reads_in (calls.on_store ++ front.on_store) ≡ reads_in calls.on_store = reads-still file carried k calls front is first writes in
+      let delivered = subst (λ blocks. DeliversBlocks faithful code pattern outputs carried blocks Are front) those broken.delivered in
+      let writes = subst AreWrites (sym (due-of faithful code pattern outputs (file_feed code.rate) known (file_block file code.rate) carried k calls front is first Are delivered.on_store)) (turns-writes (turns_from outputs code pattern (packets_given front.on_links) carried k)) in
+      let now = streamed-more faithful code pattern outputs (file_feed code.rate) known (file_block file code.rate) carried k calls front is first delivered in
+      let same : reads_in (calls.on_store ++ front.on_store) ≡ reads_in calls.on_store = reads-still faithful code pattern outputs (file_feed code.rate) known (file_block file code.rate) carried k calls front is first writes in
       let stopped = streamed-interrupted file (carried + k) broken.more (calls_join calls front) broken.later now (subst (λ reads. carried + k + broken.more ≤ blocks_brought reads rate) (sym same) within)
       path limit (subst (ReadsAny path limit) (sym same) reads) (ap bytes_read same ∙ gave) why
-      (subst (λ blocks. InterruptsBlocks faithful code pattern paths (carried + k) blocks why broken.later) next broken.interrupted) in
+      (subst (λ blocks. InterruptsBlocks faithful code pattern outputs (carried + k) blocks why broken.later) next broken.interrupted) in
       let joined : calls_join (calls_join calls front) broken.later ≡ calls_join calls later =
       ap (λ (parts : List Event). record { on_store = parts; on_links = (calls.on_links ++ front.on_links) ++ broken.later.on_links }) (append_assoc calls.on_store front.on_store broken.later.on_store)
       ∙ ap (λ (moves : List Move). record { on_store = calls.on_store ++ (front.on_store ++ broken.later.on_store); on_links = moves }) (append_assoc calls.on_links front.on_links broken.later.on_links)
       ∙ ap (calls_join calls) (sym broken.joined) in
-      subst (StopsStreaming faithful code pattern paths path limit (stream.Sinks why)) joined stopped
+      subst (StopsStreaming faithful code pattern outputs path limit (stream.Sinks why)) joined stopped
 
 -- A source on its way: so many bytes of the file were read, the first whole blocks of them were carried and delivered, and the rest is
 -- gathered.
-pub record IsOnStream (faithful : Bool) (code : Code) (pattern : ℕ) (paths : List (List ℕ)) (path : List ℕ) (at carried : ℕ) (gathered : List ℕ) (calls : Calls) : Type 0 where
+pub record IsOnStream (faithful : Bool) (code : Code) (pattern : ℕ) (outputs : Outputs) (path : List ℕ) (at carried : ℕ) (gathered : List ℕ) (calls : Calls) : Type 0 where
   pub file : List ℕ
   pub long : length file ≡ at
   pub reads : AreReadsFrom 0 path (reads_in calls.on_store)
   pub gave : bytes_read (reads_in calls.on_store) ≡ file
   pub left : IsBehind code.rate carried file gathered
-  pub streamed : IsStreamed faithful code pattern paths file carried calls
+  pub streamed : OfFile faithful code pattern outputs file carried calls
 
-module _ (faithful : Bool) (code : Code) (pattern : ℕ) (paths : List (List ℕ)) (known : pattern < length code.net.patterns) (path : List ℕ) where
+module _ (faithful : Bool) (code : Code) (pattern : ℕ) (outputs : Outputs) (known : pattern < length code.net.patterns) (path : List ℕ) where
   abbrev OnStream : ℕ → ℕ → List ℕ → Calls → Type 0
-  OnStream = IsOnStream faithful code pattern paths path
+  OnStream = IsOnStream faithful code pattern outputs path
 
   -- calls that follow on the store
   abbrev then_on_store : Calls → List Event → Calls
@@ -397,7 +428,7 @@ module _ (faithful : Bool) (code : Code) (pattern : ℕ) (paths : List (List ℕ
     reads = tt;
     gave = refl;
     left = behind-none code.rate [];
-    streamed = streamed-none faithful code pattern paths known;
+    streamed = streamed-none faithful code pattern outputs (file_feed code.rate) known (file_block [] code.rate);
   }
 
   module _ (at carried : ℕ) (gathered : List ℕ) (calls : Calls) (is : OnStream at carried gathered calls) where
@@ -431,8 +462,8 @@ module _ (faithful : Bool) (code : Code) (pattern : ℕ) (paths : List (List ℕ
           reads = subst (AreReadsFrom 0 path) (sym (reads-then event refl)) reads;
           gave = ap bytes_read (reads-then event refl) ∙ gave;
           left = behind-more code.rate carried is.file gathered bytes is.left;
-          streamed = streamed-longer faithful code pattern paths known is.file file carried (then_on_store calls (event ∷ [])) (same-blocks code.rate carried is.file gathered bytes is.left)
-              (streamed-read faithful code pattern paths known is.file carried calls event refl is.streamed brought);
+          streamed = streamed-longer faithful code pattern outputs (file_feed code.rate) known (file_block is.file code.rate) (file_block file code.rate) carried (then_on_store calls (event ∷ [])) (same-blocks code.rate carried is.file gathered bytes is.left)
+              (streamed-read faithful code pattern outputs (file_feed code.rate) known (file_block is.file code.rate) carried calls event refl is.streamed brought);
         }
 
     -- the blocks of what came, as far as it has whole ones
@@ -441,35 +472,35 @@ module _ (faithful : Bool) (code : Code) (pattern : ℕ) (paths : List (List ℕ
 
     -- blocks of it were delivered
     pub on-carried : (count : ℕ) (left : List ℕ) (later : Calls) → IsBehind code.rate count gathered left
-        → DeliversBlocks faithful code pattern paths carried (blocks_from gathered code.rate 0 count) Are later → OnStream at (carried + count) left (calls_join calls later)
+        → DeliversBlocks faithful code pattern outputs carried (blocks_from gathered code.rate 0 count) Are later → OnStream at (carried + count) left (calls_join calls later)
     on-carried count left later behind more =
         let some_rate : 1 ≤ code.rate = code.code.draft.some_rate in
         let all = behind-then code.rate carried count is.file gathered left is.left behind in
         let few : carried + count ≤ length is.file / capacity code.rate = le-div (carried + count) (length is.file) (capacity code.rate) (omega (arith, some_rate)) all.whole in
         let within : carried + count ≤ blocks_brought (reads_in calls.on_store) code.rate = omega (arith, few, whole-brought) in
-        let delivered = subst (λ blocks. DeliversBlocks faithful code pattern paths carried blocks Are later) (left-blocks code.rate carried count is.file gathered is.left) more in
-        let writes = subst AreWrites (sym (due-of faithful code pattern paths known is.file carried count calls later is.streamed within Are delivered.on_store))
-        (turns-writes (turns_from paths code pattern (packets_given later.on_links) carried count)) in
-        let same = reads-still faithful code pattern paths known is.file carried count calls later is.streamed within writes in
+        let delivered = subst (λ blocks. DeliversBlocks faithful code pattern outputs carried blocks Are later) (left-blocks code.rate carried count is.file gathered is.left) more in
+        let writes = subst AreWrites (sym (due-of faithful code pattern outputs (file_feed code.rate) known (file_block is.file code.rate) carried count calls later is.streamed within Are delivered.on_store))
+        (turns-writes (turns_from outputs code pattern (packets_given later.on_links) carried count)) in
+        let same = reads-still faithful code pattern outputs (file_feed code.rate) known (file_block is.file code.rate) carried count calls later is.streamed within writes in
         record {
           file = is.file;
           long = is.long;
           reads = subst (AreReadsFrom 0 path) (sym same) is.reads;
           gave = ap bytes_read same ∙ is.gave;
           left = all;
-          streamed = streamed-more faithful code pattern paths known is.file carried count calls later is.streamed within delivered;
+          streamed = streamed-more faithful code pattern outputs (file_feed code.rate) known (file_block is.file code.rate) carried count calls later is.streamed within delivered;
         }
 
     -- blocks of it weren't
     pub on-stopped : (limit : ℕ) → 0 < at → at ≤ limit + 1 → (later : Calls) (why : DeliveryFault)
-        → InterruptsBytes faithful code pattern paths carried gathered (length gathered / capacity code.rate) why later
-        → StopsStreaming faithful code pattern paths path limit (stream.Sinks why) (calls_join calls later)
+        → InterruptsBytes faithful code pattern outputs carried gathered (length gathered / capacity code.rate) why later
+        → StopsStreaming faithful code pattern outputs path limit (stream.Sinks why) (calls_join calls later)
     on-stopped limit some short later why broken =
-        streamed-stopped faithful code pattern paths known is.file carried gathered calls later is.streamed is.left whole-brought path limit
+        streamed-stopped faithful code pattern outputs known is.file carried gathered calls later is.streamed is.left whole-brought path limit
         (inl (record { reads = is.reads; some = omega (arith, place, some); short = omega (arith, place, short) })) is.gave why broken
 
     -- a read failed
-    pub on-failed : (limit room : ℕ) → at ≤ limit → StopsStreaming faithful code pattern paths path limit stream.Read (then_on_store calls (read_failed path at room ∷ []))
+    pub on-failed : (limit room : ℕ) → at ≤ limit → StopsStreaming faithful code pattern outputs path limit stream.Read (then_on_store calls (read_failed path at room ∷ []))
     on-failed limit room short =
         let event = read_failed path at room in
         let ended : have_ended (reads_in calls.on_store ++ event ∷ []) ≡ false = list_any-append gave_nothing (reads_in calls.on_store) (event ∷ []) ∙ ap (λ b. b || false) (unended 0 path (reads_in calls.on_store) is.reads) in
@@ -478,21 +509,21 @@ module _ (faithful : Bool) (code : Code) (pattern : ℕ) (paths : List (List ℕ
         let brought : blocks_brought (reads_in calls.on_store ++ event ∷ []) code.rate ≡ length is.file / capacity code.rate =
         ap (λ b. if b then block_count (bytes_read (reads_in calls.on_store ++ event ∷ [])) code.rate else length (bytes_read (reads_in calls.on_store ++ event ∷ [])) / capacity code.rate) ended
         ∙ ap (λ (bytes : List ℕ). length bytes / capacity code.rate) gave in
-        streamed-over faithful code pattern paths known is.file carried (then_on_store calls (event ∷ []))
-        (streamed-read faithful code pattern paths known is.file carried calls event refl is.streamed (omega (arith, brought, whole-in is.file (omega arith)))) (ReadsToFault path limit)
+        (streamed-over faithful code pattern outputs (file_feed code.rate) known (file_block is.file code.rate) carried (then_on_store calls (event ∷ []))
+        (streamed-read faithful code pattern outputs (file_feed code.rate) known (file_block is.file code.rate) carried calls event refl is.streamed (omega (arith, brought, whole-in is.file (omega arith)))) (ReadsToFault path limit) IsFrontOf front_all
         (subst (ReadsToFault path limit) (sym (reads-then event refl)) (record {
           front = reads_in calls.on_store;
           reads = is.reads;
           room = room;
           failed = ap (λ n. reads_in calls.on_store ++ read_failed path n room ∷ []) (sym (ap length is.gave ∙ is.long));
           short = omega (arith, place, short);
-        })) (ap bytes_read (reads-then event refl) ∙ gave)
+        })) (same-feed code.rate (ap bytes_read (reads-then event refl) ∙ gave))).0
 
     -- the file is longer than its limit
-    pub on-long : (limit : ℕ) → at ≡ limit + 1 → StopsStreaming faithful code pattern paths path limit stream.TooLong calls
+    pub on-long : (limit : ℕ) → at ≡ limit + 1 → StopsStreaming faithful code pattern outputs path limit stream.TooLong calls
     on-long limit long =
-        streamed-over faithful code pattern paths known is.file carried calls is.streamed (ReadsPastLimit path limit)
-        (record { reads = is.reads; long = omega (arith, place, long) }) is.gave
+        (streamed-over faithful code pattern outputs (file_feed code.rate) known (file_block is.file code.rate) carried calls is.streamed (ReadsPastLimit path limit) IsFrontOf front_all
+        (record { reads = is.reads; long = omega (arith, place, long) }) (same-feed code.rate is.gave)).0
 
     -- the file ended there
     module _ (limit room : ℕ) (some : 0 < room) (short : at ≤ limit) where
@@ -514,9 +545,9 @@ module _ (faithful : Bool) (code : Code) (pattern : ℕ) (paths : List (List ℕ
       brought : blocks_brought (reads_in over.on_store) code.rate ≡ block_count is.file code.rate
       brought = all-brought path limit is.file (reads_in over.on_store) code.rate whole
 
-      ended : IsStreamed faithful code pattern paths is.file carried over
+      ended : OfFile faithful code pattern outputs is.file carried over
       ended =
-          streamed-read faithful code pattern paths known is.file carried calls (read path at room []) refl is.streamed
+          streamed-read faithful code pattern outputs (file_feed code.rate) known (file_block is.file code.rate) carried calls (read path at room []) refl is.streamed
           (subst (λ reads. carried ≤ blocks_brought reads code.rate) (reads-then (read path at room []) refl) (omega (arith, brought, whole-in is.file (omega arith))))
 
       abbrev count : ℕ
@@ -532,21 +563,21 @@ module _ (faithful : Bool) (code : Code) (pattern : ℕ) (paths : List (List ℕ
       gave = whole_gave path limit is.file (reads_in over.on_store) whole
 
       -- and its last blocks were delivered
-      pub on-all : (later : Calls) (counts : SentCounts) → AreCounts code is.file counts → DeliversBlocks faithful code pattern paths carried (blocks_from gathered code.rate 0 count) Are later
-          → StreamsAll faithful code pattern paths path limit counts (calls_join over later)
+      pub on-all : (later : Calls) (counts : SentCounts) → AreCounts code is.file counts → DeliversBlocks faithful code pattern outputs carried (blocks_from gathered code.rate 0 count) Are later
+          → StreamsAll faithful code pattern outputs path limit counts (calls_join over later)
       on-all later counts are more =
-          let these = due faithful code pattern paths known is.file carried count over later ended within in
-          let sent = streamed-end faithful code pattern paths known is.file carried count over later ended within (ReadsWhole path limit is.file) Are whole gave
+          let these = due faithful code pattern outputs (file_feed code.rate) known (file_block is.file code.rate) carried count over later ended within in
+          let sent = streamed-end faithful code pattern outputs (file_feed code.rate) known (file_block is.file code.rate) carried count over later ended within (ReadsWhole path limit is.file) Are whole (same-feed code.rate gave)
           (λ writes made. (subst AreWrites (sym made) writes, due_all these later.on_store made)) (λ these events made. ap (λ events. writes_in over.on_store ++ events) made)
-          (subst (λ blocks. DeliversBlocks faithful code pattern paths carried blocks Are later) (left-blocks code.rate carried count is.file gathered is.left) more) in
+          (subst (λ blocks. DeliversBlocks faithful code pattern outputs carried blocks Are later) (left-blocks code.rate carried count is.file gathered is.left) more) in
           record { source = is.file; counts_are = are; streams = sent.0; all = sent.1 ∙ all }
 
       -- or they weren't
-      pub on-broken : (later : Calls) (why : DeliveryFault) → InterruptsBlocks faithful code pattern paths carried (blocks_from gathered code.rate 0 count) why later
-          → StopsStreaming faithful code pattern paths path limit (stream.Sinks why) (calls_join over later)
+      pub on-broken : (later : Calls) (why : DeliveryFault) → InterruptsBlocks faithful code pattern outputs carried (blocks_from gathered code.rate 0 count) why later
+          → StopsStreaming faithful code pattern outputs path limit (stream.Sinks why) (calls_join over later)
       on-broken later why broken =
-          streamed-interrupted faithful code pattern paths known is.file carried count over later ended within path limit (inr (is.file, whole)) gave why
-          (subst (λ blocks. InterruptsBlocks faithful code pattern paths carried blocks why later) (left-blocks code.rate carried count is.file gathered is.left) broken)
+          streamed-interrupted faithful code pattern outputs known is.file carried count over later ended within path limit (inr (is.file, whole)) gave why
+          (subst (λ blocks. InterruptsBlocks faithful code pattern outputs carried blocks why later) (left-blocks code.rate carried count is.file gathered is.left) broken)
 
 -- calls on both objects, and then some on the store
 pub both_then_store : {S L : Type 0} (g : StoreGhosts S) (k : LinksGhosts L) → ((first later : List Event) (a b c : S) → g.calls first a b → g.calls later b c → g.calls (first ++ later) a c)

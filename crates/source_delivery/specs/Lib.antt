@@ -1,8 +1,11 @@
+pub mod Parts
 pub mod Delivery
 pub mod Turns
 pub mod Carried
 pub mod Delivering
 pub mod Streaming
+pub mod Reading
+pub mod Twin
 pub use Rattle.node_stations.specs.Decoded
 pub use Rattle.node_stations.specs.Opening
 pub use Rattle.node_stations.specs.Putting

@@ -7,18 +7,33 @@ ghost use Rattle.lif_outside.specs.Limits.{last_place};
 ghost use Rattle.lif_outside.specs.Moves.{Move};
 ghost use Rattle.lif_outside.specs.FileCalls.{StopsWithin, appends_of, creates_of};
 ghost use Rattle.lif_outside.specs.Sequences.{Are};
-ghost use Rattle.source_delivery.specs.Carried.{blocks_from};
-ghost use Rattle.source_delivery.specs.Delivering.{CanCarry, DeliversBlocks, DeliversSome, HasGoneOn, HasMoved, Interrupts, InterruptsBlocks, InterruptsBytes, IsBehind, IsStill};
-ghost use Rattle.source_delivery.specs.Delivery.{AreCounts, paths_of};
+ghost use Rattle.source_delivery.specs.Carried.{blocks_from, file_block};
+ghost use Rattle.source_delivery.specs.Delivering.{CanCarry, DeliversBlocks, DeliversSome, HasGoneOn, HasMoved, Interrupts, InterruptsBlocks, InterruptsBytes, IsBehind, IsStill, StandIn};
+ghost use Rattle.source_delivery.specs.Delivery.{AreCounts, outputs_in, paths_of};
 ghost use Rattle.source_delivery.specs.Turns.{parts_from, turn_at, turns_from};
 ghost use Rattle.relay_runner.specs.Carried.{HasCarriedBy, packets_given};
 ghost use Rattle.relay_runner.specs.Decoding.{HasDecoded};
 
 use crate::delivery::{DeliveryFault, SentCounts, SourceDelivery};
+use crate::parts::Parts;
 use generation_frame::{ROW, cap, counted, cut};
 use gf_tables::Field;
 use lif_outside::{Failed, Gate, Links, Store};
 use std::thread::Threads;
+
+// Cuts the block of a generation from bytes.
+pub(crate) fn cut_block(bytes: &[u8], rate: u32, place: usize, block: &mut [u8])
+    requires some_rate { 1 ≤ rate }
+    requires low_rate { rate ≤ most_rows }
+    requires few_blocks { place ≤ most_blocks }
+    requires long { length block.old ≡ rate * row_bytes }
+    ensures { block.new ≡ file_block bytes.now rate place }
+{
+    let capacity = cap(rate) as usize;
+    let start = bytes.len().min(place * capacity);
+    let end = bytes.len().min(start + capacity);
+    cut(&bytes[start..end], block);
+}
 
 // Cuts bytes into so many blocks of a rate, which stand one after another from the beginning of the room on.
 fn cut_blocks(bytes: &[u8], rate: u32, count: usize, blocks: &mut [u8])
@@ -29,15 +44,10 @@ fn cut_blocks(bytes: &[u8], rate: u32, count: usize, blocks: &mut [u8])
     ensures { take (count * (rate * row_bytes)) blocks.new
         ≡ concat (blocks_from bytes.now rate 0 count) }
 {
-    let capacity = cap(rate) as usize;
     let size = rate as usize * ROW;
     for place in 0..count {
-        let start = bytes.len().min(place * capacity);
-        let end = bytes.len().min(start + capacity);
-        cut(
-            &bytes[start..end],
-            &mut blocks[place * size..place * size + size],
-        );
+        let block = &mut blocks[place * size..place * size + size];
+        cut_block(bytes, rate, place, block);
     }
 }
 
@@ -55,15 +65,15 @@ impl<'c, F: Field> SourceDelivery<'c, F> {
         Ok(())
     }
 
-    // Adds to a sink's file the bytes that a block counts which it decodes, where there are any. The block is given by its
-    // place in the window.
+    // Adds to a file the bytes that the rows of its source count in a block which its sink decodes, where there are any. The
+    // block is given by its place in the window.
     fn append_decoded<S: Store>(
         &mut self,
         store: &mut S,
-        sink: usize,
+        file: usize,
         place: usize,
     ) -> Result<(), Failed>
-        requires sink { sink < vec_len self.old.outputs }
+        requires file { file < vec_len self.old.outputs }
         requires place { place < self.old.runner.count }
         requires few_blocks { self.old.runner.count ≤ most_blocks }
         requires decoded { HasDecoded self.old.runner }
@@ -73,20 +83,21 @@ impl<'c, F: Field> SourceDelivery<'c, F> {
         ensures kept { KeepsStore S.Store store.old store.new }
         ensures appended { OnOk result ((moves : List Move) → HasCarriedBy self.old.runner moves
             → MakesCalls S.Store store.old store.new (Are (appends_of (parts_from
-            (paths_of self.old) self.old.runner.code self.old.runner.pattern
-            (packets_given moves) (self.old.runner.first + place) sink 1 ∷ [])))) }
+            (outputs_in self.old) self.old.runner.code self.old.runner.pattern
+            (packets_given moves) (self.old.runner.first + place) file 1 ∷ [])))) }
         ensures failed { OnErr result ((moves : List Move) → HasCarriedBy self.old.runner moves
             → MakesCalls S.Store store.old store.new (StopsWithin (appends_of (parts_from
-            (paths_of self.old) self.old.runner.code self.old.runner.pattern
-            (packets_given moves) (self.old.runner.first + place) sink 1 ∷ [])))) }
+            (outputs_in self.old) self.old.runner.code self.old.runner.pattern
+            (packets_given moves) (self.old.runner.first + place) file 1 ∷ [])))) }
     {
+        let sink = self.parts.sink(file);
         self.runner
             .block(sink as u32, place as u32, &mut self.decoded);
-        let received = counted(&self.decoded);
+        let received = counted(self.parts.rows(file, &self.decoded));
         if received.is_empty() {
             return Ok(());
         }
-        store.append(self.outputs[sink].as_str(), received)
+        store.append(self.outputs[file].as_str(), received)
     }
 
     // Adds to each sink's file what it decodes of a block that was carried.
@@ -101,15 +112,15 @@ impl<'c, F: Field> SourceDelivery<'c, F> {
             → S.made store.new path }
         ensures appended { OnOk result ((moves : List Move) → HasCarriedBy self.old.runner moves
             → MakesCalls S.Store store.old store.new (Are (appends_of (turn_at
-            (paths_of self.old) self.old.runner.code self.old.runner.pattern
+            (outputs_in self.old) self.old.runner.code self.old.runner.pattern
             (packets_given moves) (self.old.runner.first + place) ∷ [])))) }
         ensures failed { OnErr result ((moves : List Move) → HasCarriedBy self.old.runner moves
             → MakesCalls S.Store store.old store.new (StopsWithin (appends_of (turn_at
-            (paths_of self.old) self.old.runner.code self.old.runner.pattern
+            (outputs_in self.old) self.old.runner.code self.old.runner.pattern
             (packets_given moves) (self.old.runner.first + place) ∷ [])))) }
     {
-        for sink in 0..self.outputs.len() {
-            self.append_decoded(store, sink, place)?;
+        for file in 0..self.outputs.len() {
+            self.append_decoded(store, file, place)?;
         }
         Ok(())
     }
@@ -124,11 +135,11 @@ impl<'c, F: Field> SourceDelivery<'c, F> {
         ensures still { IsStill self.old self.new }
         ensures appended { OnOk result ((moves : List Move) → HasCarriedBy self.old.runner moves
             → MakesCalls S.Store store.old store.new (Are (appends_of (turns_from
-            (paths_of self.old) self.old.runner.code self.old.runner.pattern
+            (outputs_in self.old) self.old.runner.code self.old.runner.pattern
             (packets_given moves) self.old.runner.first count)))) }
         ensures failed { OnErr result ((moves : List Move) → HasCarriedBy self.old.runner moves
             → MakesCalls S.Store store.old store.new (StopsWithin (appends_of (turns_from
-            (paths_of self.old) self.old.runner.code self.old.runner.pattern
+            (outputs_in self.old) self.old.runner.code self.old.runner.pattern
             (packets_given moves) self.old.runner.first count)))) }
     {
         for place in 0..count {
@@ -151,6 +162,7 @@ impl<'c, F: Field> SourceDelivery<'c, F> {
             < self.old.window * capacity self.old.runner.code.rate }
         ensures runner { self.new.runner ≡ self.old.runner }
         ensures outputs { self.new.outputs ≡ self.old.outputs }
+        ensures parts { self.new.parts ≡ self.old.parts }
         ensures window { self.new.window ≡ self.old.window }
         ensures more { from < result }
         ensures within { result ≤ length bytes.now }
@@ -165,6 +177,16 @@ impl<'c, F: Field> SourceDelivery<'c, F> {
         end
     }
 
+    // How many sinks there are.
+    pub(crate) fn sinks(&self) -> usize
+        ensures { result ≡ length self.now.runner.code.net.sinks }
+    {
+        match self.parts {
+            Parts::One => self.outputs.len(),
+            Parts::Two(_) => self.outputs.len() / 2,
+        }
+    }
+
     /// How much was sent of a source of so many bytes.
     pub(crate) fn counts(&self, bytes: u64) -> SentCounts
         requires { bytes ≤ last_place }
@@ -174,12 +196,57 @@ impl<'c, F: Field> SourceDelivery<'c, F> {
         SentCounts {
             bytes,
             generations: bytes / u64::from(cap(self.rate)) + 1,
-            sinks: self.outputs.len() as u64,
+            sinks: self.sinks() as u64,
         }
     }
 }
 
 impl<'c, F: Field + Send + Sync> SourceDelivery<'c, F> {
+    // Carries so many blocks over the links, which stand in the room for those of a window, and adds what comes of them to each
+    // sink's file.
+    pub(crate) fn carry_blocks<S: Store, K: Links, G: Gate + Sync, R: Threads + Sync>(
+        &mut self,
+        rt: &R,
+        store: &mut S,
+        links: &mut K,
+        count: usize,
+        gate: &G,
+    ) -> Result<(), DeliveryFault>
+        requires some_blocks { 1 ≤ count }
+        requires few_blocks { count ≤ self.old.window }
+        requires can { CanCarry self.old.runner (K.flying links.old) (K.room links.old) }
+        requires numbered { self.old.runner.next + count ≤ 2 ^ 32 }
+        requires made { (path : List ℕ) → Contains (paths_of self.old) path
+            → S.made store.old path }
+        ensures outputs { self.new.outputs ≡ self.old.outputs }
+        ensures parts { self.new.parts ≡ self.old.parts }
+        ensures window { self.new.window ≡ self.old.window }
+        ensures gathered { self.new.gathered ≡ self.old.gathered }
+        ensures moved { OnOk result (HasMoved count self.old.runner self.new.runner) }
+        ensures can { OnOk result
+            (CanCarry self.new.runner (K.flying links.new) (K.room links.new)) }
+        ensures delivered { OnOk result ((blocks : List (List ℕ))
+            → StandIn self.old.runner.code count blocks self.old.blocks.items
+            → MakesBoth S.Store K.Links store.old store.new links.old links.new
+            (DeliversBlocks (K.faithful links.old) self.old.runner.code self.old.runner.pattern
+            (outputs_in self.old) self.old.runner.next blocks Are)) }
+        ensures interrupted { IfErr result (λ fault. (blocks : List (List ℕ))
+            → StandIn self.old.runner.code count blocks self.old.blocks.items
+            → MakesBoth S.Store K.Links store.old store.new links.old links.new
+            (InterruptsBlocks (K.faithful links.old) self.old.runner.code self.old.runner.pattern
+            (outputs_in self.old) self.old.runner.next blocks fault)) }
+    {
+        let window = &self.blocks[..count * (self.rate as usize * ROW)];
+        let Ok(()) = self.runner.carry(window, links) else {
+            return Err(DeliveryFault::Links);
+        };
+        self.runner.decode_all(rt, gate);
+        match self.append_window(store, count) {
+            Ok(()) => Ok(()),
+            Err(_) => Err(DeliveryFault::Write),
+        }
+    }
+
     // Carries what was gathered over the links, as so many blocks, and adds what comes of them to each sink's file.
     fn carry_gathered<S: Store, K: Links, G: Gate + Sync, R: Threads + Sync>(
         &mut self,
@@ -196,6 +263,7 @@ impl<'c, F: Field + Send + Sync> SourceDelivery<'c, F> {
         requires made { (path : List ℕ) → Contains (paths_of self.old) path
             → S.made store.old path }
         ensures outputs { self.new.outputs ≡ self.old.outputs }
+        ensures parts { self.new.parts ≡ self.old.parts }
         ensures window { self.new.window ≡ self.old.window }
         ensures moved { OnOk result (HasMoved count self.old.runner self.new.runner) }
         ensures can { OnOk result
@@ -204,25 +272,17 @@ impl<'c, F: Field + Send + Sync> SourceDelivery<'c, F> {
         ensures delivered { OnOk result
             (MakesBoth S.Store K.Links store.old store.new links.old links.new
             (DeliversBlocks (K.faithful links.old) self.old.runner.code self.old.runner.pattern
-            (paths_of self.old) self.old.runner.next
+            (outputs_in self.old) self.old.runner.next
             (blocks_from self.old.gathered.items self.old.runner.code.rate 0 count) Are)) }
         ensures interrupted { IfErr result (λ fault.
             MakesBoth S.Store K.Links store.old store.new links.old links.new
             (InterruptsBlocks (K.faithful links.old) self.old.runner.code self.old.runner.pattern
-            (paths_of self.old) self.old.runner.next
+            (outputs_in self.old) self.old.runner.next
             (blocks_from self.old.gathered.items self.old.runner.code.rate 0 count) fault)) }
     {
         cut_blocks(&self.gathered, self.rate, count, &mut self.blocks);
         self.gathered.clear();
-        let window = &self.blocks[..count * (self.rate as usize * ROW)];
-        let Ok(()) = self.runner.carry(window, links) else {
-            return Err(DeliveryFault::Links);
-        };
-        self.runner.decode_all(rt, gate);
-        match self.append_window(store, count) {
-            Ok(()) => Ok(()),
-            Err(_) => Err(DeliveryFault::Write),
-        }
+        self.carry_blocks(rt, store, links, count, gate)
     }
 
     // Carries what was gathered, where that fills a window.
@@ -238,6 +298,7 @@ impl<'c, F: Field + Send + Sync> SourceDelivery<'c, F> {
         requires made { (path : List ℕ) → Contains (paths_of self.old) path
             → S.made store.old path }
         ensures outputs { self.new.outputs ≡ self.old.outputs }
+        ensures parts { self.new.parts ≡ self.old.parts }
         ensures window { self.new.window ≡ self.old.window }
         ensures gone_on { OnOk result (HasGoneOn self.old.runner self.new.runner) }
         ensures can { OnOk result
@@ -250,7 +311,7 @@ impl<'c, F: Field + Send + Sync> SourceDelivery<'c, F> {
         ensures delivered { OnOk result
             (MakesBoth S.Store K.Links store.old store.new links.old links.new
             (DeliversBlocks (K.faithful links.old) self.old.runner.code self.old.runner.pattern
-            (paths_of self.old) self.old.runner.next
+            (outputs_in self.old) self.old.runner.next
             (blocks_from self.old.gathered.items self.old.runner.code.rate 0
             (self.new.runner.next - self.old.runner.next)) Are)) }
         ensures full { OnErr result
@@ -259,7 +320,7 @@ impl<'c, F: Field + Send + Sync> SourceDelivery<'c, F> {
         ensures interrupted { IfErr result (λ fault.
             MakesBoth S.Store K.Links store.old store.new links.old links.new
             (InterruptsBlocks (K.faithful links.old) self.old.runner.code self.old.runner.pattern
-            (paths_of self.old) self.old.runner.next
+            (outputs_in self.old) self.old.runner.next
             (blocks_from self.old.gathered.items self.old.runner.code.rate 0 self.old.window)
             fault)) }
     {
@@ -287,6 +348,7 @@ impl<'c, F: Field + Send + Sync> SourceDelivery<'c, F> {
         requires made { (path : List ℕ) → Contains (paths_of self.old) path
             → S.made store.old path }
         ensures outputs { self.new.outputs ≡ self.old.outputs }
+        ensures parts { self.new.parts ≡ self.old.parts }
         ensures window { self.new.window ≡ self.old.window }
         ensures gone_on { OnOk result (HasGoneOn self.old.runner self.new.runner) }
         ensures can { OnOk result
@@ -299,13 +361,13 @@ impl<'c, F: Field + Send + Sync> SourceDelivery<'c, F> {
         ensures delivered { OnOk result
             (MakesBoth S.Store K.Links store.old store.new links.old links.new
             (DeliversBlocks (K.faithful links.old) self.old.runner.code self.old.runner.pattern
-            (paths_of self.old) self.old.runner.next
+            (outputs_in self.old) self.old.runner.next
             (blocks_from (self.old.gathered.items ++ bytes.now) self.old.runner.code.rate 0
             (self.new.runner.next - self.old.runner.next)) Are)) }
         ensures interrupted { IfErr result (λ fault.
             MakesBoth S.Store K.Links store.old store.new links.old links.new
             (InterruptsBytes (K.faithful links.old) self.old.runner.code self.old.runner.pattern
-            (paths_of self.old) self.old.runner.next (self.old.gathered.items ++ bytes.now)
+            (outputs_in self.old) self.old.runner.next (self.old.gathered.items ++ bytes.now)
             (length (self.old.gathered.items ++ bytes.now) / capacity self.old.runner.code.rate)
             fault)) }
     {
@@ -333,18 +395,19 @@ impl<'c, F: Field + Send + Sync> SourceDelivery<'c, F> {
         requires made { (path : List ℕ) → Contains (paths_of self.old) path
             → S.made store.old path }
         ensures outputs { self.new.outputs ≡ self.old.outputs }
+        ensures parts { self.new.parts ≡ self.old.parts }
         ensures window { self.new.window ≡ self.old.window }
         ensures code { OnOk result (self.new.runner.code ≡ self.old.runner.code) }
         ensures delivered { OnOk result
             (MakesBoth S.Store K.Links store.old store.new links.old links.new
             (DeliversBlocks (K.faithful links.old) self.old.runner.code self.old.runner.pattern
-            (paths_of self.old) self.old.runner.next
+            (outputs_in self.old) self.old.runner.next
             (blocks_from self.old.gathered.items self.old.runner.code.rate 0
             (block_count self.old.gathered.items self.old.runner.code.rate)) Are)) }
         ensures interrupted { IfErr result (λ fault.
             MakesBoth S.Store K.Links store.old store.new links.old links.new
             (InterruptsBlocks (K.faithful links.old) self.old.runner.code self.old.runner.pattern
-            (paths_of self.old) self.old.runner.next
+            (outputs_in self.old) self.old.runner.next
             (blocks_from self.old.gathered.items self.old.runner.code.rate 0
             (block_count self.old.gathered.items self.old.runner.code.rate)) fault)) }
     {
@@ -371,11 +434,11 @@ impl<'c, F: Field + Send + Sync> SourceDelivery<'c, F> {
         ensures delivered { OnOk result
             (MakesBoth S.Store K.Links store.old store.new links.old links.new
             (DeliversSome (K.faithful links.old) self.old.runner.code self.old.runner.pattern
-            (paths_of self.old) source.now (block_count source.now self.old.runner.code.rate))) }
+            (outputs_in self.old) source.now (block_count source.now self.old.runner.code.rate))) }
         ensures interrupted { IfErr result (λ fault.
             MakesBoth S.Store K.Links store.old store.new links.old links.new
             (Interrupts (K.faithful links.old) self.old.runner.code self.old.runner.pattern
-            (paths_of self.old) source.now fault)) }
+            (outputs_in self.old) source.now fault)) }
     {
         self.gather(rt, store, links, source, gate)?;
         self.carry_last(rt, store, links, gate)?;

@@ -1,15 +1,19 @@
 //! A code at work over links, and the files of its sinks.
-ghost use Rattle.std.specs.Prelude.{◌≡◌, ◌*◌, ◌<◌, ◌≤◌, ◌∷◌, [], IfOk, OnErr, OnOk, false, length, vec_capacity, vec_len};
+ghost use Rattle.std.specs.Prelude.{◌≡◌, ◌*◌, ◌<◌, ◌≤◌, ◌∷◌, [], IfOk, OnErr, OnOk, false, length, true, vec_capacity, vec_len};
 ghost use Rattle.coded_traffic.specs.Traffic.{room_for};
 ghost use Rattle.generation_frame.specs.Blocks.{capacity, most_blocks, row_bytes};
 ghost use Rattle.gf_tables.specs.Kind.{IsOfKind};
 ghost use Rattle.lif_outside.specs.Moves.{opened};
 ghost use Rattle.relay_runner.specs.Runner.{IsRefused};
+ghost use Rattle.source_delivery.specs.Parts.{files_of, is_split};
+ghost use Rattle.source_delivery.specs.declared.parts.Parts.TheVariants.{One};
 
+use crate::parts::Parts;
 use code_checker::Checked;
 use generation_frame::{MOST_BLOCKS, ROW, cap};
 use gf_tables::Field;
 use lif_outside::Links;
+use node_program::Code;
 use relay_runner::{LEAST_SINKS, Runner};
 use std::alloc::{AllocError, Global};
 
@@ -48,7 +52,9 @@ pub struct SourceDelivery<'c, F> {
     pub rate: u32,
     /// The code at work under the pattern.
     pub runner: Runner<'c, F>,
-    /// The path of each sink's file.
+    /// How the code's rows are shared among the sources.
+    pub parts: Parts,
+    /// The paths of the sinks' files, sink by sink.
     pub outputs: Vec<String>,
     /// How many blocks are carried at a time.
     pub window: usize,
@@ -59,7 +65,8 @@ pub struct SourceDelivery<'c, F> {
     /// Room for a block as a sink decodes it.
     pub decoded: Vec<u8>,
     ghost rate_of: { rate ≡ runner.code.rate },
-    ghost sinks: { vec_len outputs ≡ length runner.code.net.sinks },
+    ghost split: { is_split parts runner.code.rate ≡ true },
+    ghost files: { vec_len outputs ≡ files_of parts (length runner.code.net.sinks) },
     ghost some_blocks: { 1 ≤ window },
     ghost few_blocks: { window ≤ most_blocks },
     ghost few_bytes: { vec_len gathered ≤ window * capacity runner.code.rate },
@@ -86,9 +93,18 @@ fn window_of(links: usize, sinks: usize, rate: usize) -> usize
         .clamp(1, MOST_BLOCKS)
 }
 
+// How many blocks of a code are carried at a time.
+pub(crate) fn window_for(code: &Code) -> usize
+    ensures some_blocks { 1 ≤ result }
+    ensures few_blocks { result ≤ most_blocks }
+{
+    let net = &code.net;
+    window_of(net.links.len(), net.sinks.len(), code.rate as usize)
+}
+
 impl<'c, F: Field> SourceDelivery<'c, F> {
-    /// A code at work under a pattern, on the files of these paths. The links are opened last, with the number given. `F` is
-    /// the code's field.
+    /// A code at work under a pattern on one source, and on the files of these paths, one for each sink. The links are opened
+    /// last, with the number given. `F` is the code's field.
     pub fn open<K: Links>(
         alloc: Global,
         code: &'c Checked,
@@ -105,7 +121,44 @@ impl<'c, F: Field> SourceDelivery<'c, F> {
         ensures pattern { IfOk result (λ delivery. delivery.runner.pattern ≡ pattern) }
         ensures from_start { IfOk result (λ delivery. delivery.runner.next ≡ 0) }
         ensures works { IfOk result (λ delivery. delivery.runner.has_failed ≡ false) }
+        ensures parts { IfOk result (λ delivery. delivery.parts ≡ One) }
         ensures outputs { IfOk result (λ delivery. delivery.outputs ≡ outputs) }
+        ensures nothing { IfOk result (λ delivery. delivery.gathered.items ≡ []) }
+        ensures opened { OnOk result
+            (K.moves (opened seed (room_for code.now) ∷ []) links.old links.new) }
+        ensures refused { OnErr result
+            (IsRefused K.moves seed (room_for code.now) links.old links.new) }
+    {
+        let window = window_for(code.code());
+        let parts = Parts::One;
+        SourceDelivery::open_within(alloc, code, pattern, seed, parts, outputs, window, links)
+    }
+
+    // So it is on as many sources, with a window of so many blocks.
+    pub(crate) fn open_within<K: Links>(
+        alloc: Global,
+        code: &'c Checked,
+        pattern: u32,
+        seed: u64,
+        parts: Parts,
+        outputs: Vec<String>,
+        window: usize,
+        links: &mut K,
+    ) -> Result<SourceDelivery<'c, F>, AllocError>
+        requires pattern { pattern < length code.now.net.patterns }
+        requires field { IsOfKind code.now.field F.SIZE F.BYTES F.MARK F.product }
+        requires nothing_flies { K.flying links.old ≡ [] }
+        requires split { is_split parts code.now.rate ≡ true }
+        requires outputs { vec_len outputs ≡ files_of parts (length code.now.net.sinks) }
+        requires some_blocks { 1 ≤ window }
+        requires few_blocks { window ≤ most_blocks }
+        ensures at_work { IfOk result (λ delivery. delivery.runner.code ≡ code.now) }
+        ensures pattern { IfOk result (λ delivery. delivery.runner.pattern ≡ pattern) }
+        ensures from_start { IfOk result (λ delivery. delivery.runner.next ≡ 0) }
+        ensures works { IfOk result (λ delivery. delivery.runner.has_failed ≡ false) }
+        ensures parts { IfOk result (λ delivery. delivery.parts ≡ parts) }
+        ensures outputs { IfOk result (λ delivery. delivery.outputs ≡ outputs) }
+        ensures window { IfOk result (λ delivery. delivery.window ≡ window) }
         ensures nothing { IfOk result (λ delivery. delivery.gathered.items ≡ []) }
         ensures opened { OnOk result
             (K.moves (opened seed (room_for code.now) ∷ []) links.old links.new) }
@@ -114,8 +167,6 @@ impl<'c, F: Field> SourceDelivery<'c, F> {
     {
         let rate = code.code().rate;
         let block_bytes = rate as usize * ROW;
-        let net = &code.code().net;
-        let window = window_of(net.links.len(), net.sinks.len(), rate as usize);
         let gathered = Vec::with_capacity(alloc, window * cap(rate) as usize)?;
         let blocks = vec![in alloc; 0u8; window * block_bytes]?;
         let decoded = vec![in alloc; 0u8; block_bytes]?;
@@ -123,6 +174,7 @@ impl<'c, F: Field> SourceDelivery<'c, F> {
         Ok(SourceDelivery {
             rate,
             runner,
+            parts,
             outputs,
             window,
             gathered,

@@ -3,7 +3,7 @@ ghost use Rattle.std.specs.Prelude.{◌≡◌, ◌<◌, [], List, ℕ, Contains,
 ghost use Rattle.lif_outside.specs.Calls.{MakesBoth};
 ghost use Rattle.lif_outside.specs.Limits.{last_place};
 ghost use Rattle.source_delivery.specs.Delivering.{CanCarry};
-ghost use Rattle.source_delivery.specs.Delivery.{paths_of};
+ghost use Rattle.source_delivery.specs.Delivery.{outputs_in, paths_of};
 ghost use Rattle.source_delivery.specs.declared.streaming.StreamFault.TheVariants.{Sinks};
 
 use crate::delivery::{DeliveryFault, SentCounts, SourceDelivery};
@@ -58,11 +58,11 @@ impl<'c, F: Field + Send + Sync> SourceDelivery<'c, F> {
         ensures all { IfOk result (λ counts.
             MakesBoth S.Store K.Links store.old store.new links.old links.new
             (StreamsAll (K.faithful links.old) self.old.runner.code self.old.runner.pattern
-            (paths_of self.old) path.now limit counts)) }
+            (outputs_in self.old) path.now limit counts)) }
         ensures stopped { IfErr result (λ why.
             MakesBoth S.Store K.Links store.old store.new links.old links.new
             (StopsStreaming (K.faithful links.old) self.old.runner.code self.old.runner.pattern
-            (paths_of self.old) path.now limit why)) }
+            (outputs_in self.old) path.now limit why)) }
     {
         let mut at = 0;
         let mut chunk = [0; CHUNK];

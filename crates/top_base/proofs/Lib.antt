@@ -1,5 +1,6 @@
 pub mod ActingLaws
 pub mod AcceptingLaws
+pub mod BothPathLaws
 pub mod CodeFileLaws
 pub mod DraftFileLaws
 pub mod Exits

@@ -7,6 +7,7 @@ use Rattle.std.proofs.Math.Bool.{or-false}
 use Rattle.std.proofs.lemmas.Bool.{cases_Bool, cases_order, false_from_ne_true, le-ltb}
 use Rattle.std.proofs.lemmas.List.{get_or-map, length-map, take_more, take-append-drop}
 use Rattle.std.proofs.lemmas.List.Folds.{find-append}
+use Rattle.std.proofs.lemmas.Map.Made.{find_same}
 use Rattle.std.proofs.lemmas.Slice.Eq.{bytes_eq-Decides}
 use Rattle.lif_outside.specs.Files.{AreDistinct}
 use Rattle.top_base.proofs.PathLaws.{count_more}
@@ -56,6 +57,22 @@ pub shared_of_distinct : (inputs outputs : List (List ℕ)) → AreDistinct outp
 shared_of_distinct inputs outputs distinct =
     find_alike (is_shared inputs outputs) (λ path. list_any (bytes_eq path) inputs) outputs (λ path.
     ap (λ twice. list_any (bytes_eq path) inputs || twice) (le-ltb 1 (count_by (bytes_eq path) outputs) (counted_once path outputs distinct)) ∙ or-false _)
+
+-- what is found of the inputs by a path is that path, where an input has it
+found_input : (path : List ℕ) (inputs : List (List ℕ)) (is : Bool) → list_any (bytes_eq path) inputs ≡ is → find (bytes_eq path) inputs ≡ cond is (Some path) None
+found_input path inputs is has = find_same bytes_eq-Decides path inputs ∙ ap (λ b. cond b (Some path) None) has
+
+pub input_is : (path : List ℕ) (inputs : List (List ℕ)) (input : List ℕ) → find (bytes_eq path) inputs ≡ Some input → (list_any (bytes_eq path) inputs ≡ true) × (path ≡ input)
+input_is path inputs input found = elim (cases_Bool (list_any (bytes_eq path) inputs)) [
+  | inl has ↦ let same : Some path ≡ Some input = sym (found_input path inputs true has) ∙ found in (has, cc)
+  | inr not ↦ let none : None ≡ Some input = sym (found_input path inputs false not) ∙ found in absurd (cc)
+]
+
+pub no_input : (path : List ℕ) (inputs : List (List ℕ)) → find (bytes_eq path) inputs ≡ None → list_any (bytes_eq path) inputs ≡ false
+no_input path inputs none = elim (cases_Bool (list_any (bytes_eq path) inputs)) [
+  | inl has ↦ let same : Some path ≡ None = sym (found_input path inputs true has) ∙ none in absurd (cc)
+  | inr not ↦ not
+]
 
 -- where no item so far passes, the next one is found if it passes
 pub find_here : {X Y : Type 0} (view : X → Y) (test : Y → Bool) (xs : List X) (i : ℕ) (x : X) → i < length xs → find test (take i (map view xs)) ≡ None → x ≡ get_or xs i x → test (view x) ≡ true → find test (map view xs) ≡ Some (view x)

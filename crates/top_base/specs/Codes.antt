@@ -1,7 +1,7 @@
 -- The numbers of the statuses.
 use Rattle.std.specs.Prelude.{ℕ}
 use Rattle.top_base.specs.declared.status.Status.{Status}
-use Rattle.top_base.specs.declared.status.Status.TheVariants.{Done, Usage, NetRefused, ZeroRate, TooManyDemands, RateOver, CodeRefused, CheckFailed, UnknownPattern, ReadFault, WriteFault, TooLong, OutOfMemory, SamePath, LinkFault, RateUnmet, StreamRefused, UnknownNode, BadBlocks, UnknownLink, NotDecoding, TwinRefused}
+use Rattle.top_base.specs.declared.status.Status.TheVariants.{Done, Usage, NetRefused, ZeroRate, TooManyDemands, RateOver, CodeRefused, CheckFailed, UnknownPattern, ReadFault, WriteFault, TooLong, OutOfMemory, SamePath, LinkFault, RateUnmet, StreamRefused, UnknownNode, BadBlocks, UnknownLink, NotDecoding, TwinRefused, BadSplit}
 
 abbrev pub code_of : Status → ℕ
 code_of Done = 0
@@ -26,3 +26,4 @@ code_of (BadBlocks generation count) = 19
 code_of UnknownLink = 20
 code_of (NotDecoding demand block) = 21
 code_of (TwinRefused why) = 22
+code_of (BadSplit rate) = 23

@@ -1,6 +1,6 @@
 -- The commands that words were read as.
 use Rattle.std.specs.Prelude.{map, string_bytes}
-use Rattle.top_base.specs.Words.{AtNode, Blind, Compile, Demo, Finish, Migrate, Send, Twin, Command as Form, blind, check, compile, cuts, demo, finish, migrate, order, relay, send, sink, twin}
+use Rattle.top_base.specs.Words.{AtNode, Blind, Compile, Demo, Finish, Migrate, Send, SendTwo, Twin, Command as Form, blind, check, compile, cuts, demo, finish, migrate, order, relay, send, send_two, sink, twin}
 use Rattle.top_base.specs.declared.words.BlindWords.{BlindWords}
 use Rattle.top_base.specs.declared.words.CompileWords.{CompileWords}
 use Rattle.top_base.specs.declared.words.FinishWords.{FinishWords}
@@ -8,6 +8,7 @@ use Rattle.top_base.specs.declared.demo_words.DemoWords.{DemoWords}
 use Rattle.top_base.specs.declared.words.MigrateWords.{MigrateWords}
 use Rattle.top_base.specs.declared.words.NodeWords.{NodeWords}
 use Rattle.top_base.specs.declared.words.SendWords.{SendWords}
+use Rattle.top_base.specs.declared.send_two_words.SendTwoWords.{SendTwoWords}
 use Rattle.top_base.specs.declared.twin_words.TwinWords.{TwinWords}
 use Rattle.top_base.specs.declared.words.Command.{Command}
 use Rattle.top_base.specs.declared.words.Command.TheVariants as read
@@ -41,6 +42,11 @@ abbrev pub twin_given_in : TwinWords → Twin
 twin_given_in words =
     record { net = words.net.now; second = words.second.now; r1 = words.r1; r2 = words.r2; code = words.code.now; report = words.report.now }
 
+-- what a command `sendtwo` is given, by its words
+abbrev pub send_two_given_in : SendTwoWords → SendTwo
+send_two_given_in words =
+    record { code = words.code.now; pattern = words.pattern.now; seed = words.seed; first_rate = words.first_rate; first = words.first.now; second = words.second.now; prefix = words.prefix.now }
+
 -- what a command `demo` is given, by its words
 abbrev pub demo_given_in : DemoWords → Demo
 demo_given_in words = record { n = words.n; k = words.k; bytes = words.bytes }
@@ -58,3 +64,4 @@ command_in (read.Sink words) = sink (node_given_in words)
 command_in (read.Blind words) = blind (blind_given_in words)
 command_in (read.Finish words) = finish (finish_given_in words)
 command_in (read.Twin words) = twin (twin_given_in words)
+command_in (read.SendTwo words) = send_two (send_two_given_in words)

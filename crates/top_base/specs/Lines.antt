@@ -22,7 +22,7 @@ use Rattle.top_base.specs.declared.status.TwinWhy.{TwinWhy}
 use Rattle.top_base.specs.declared.status.TwinWhy.TheVariants as twin
 
 abbrev pub usage_line : List ℕ
-usage_line = codes "usage: lif order NET | cuts NET | compile NET CODE REPORT | check CODE | send CODE PATTERN SEED SRC PREFIX | demo N K BYTES | migrate OLD NEW | relay CODE PATTERN NODE IN OUT | sink CODE PATTERN SINK IN DST | blind CODE SRC PREFIX LINK | finish DRAFT CODE | twin NET SECOND R1 R2 CODE REPORT\n"
+usage_line = codes "usage: lif order NET | cuts NET | compile NET CODE REPORT | check CODE | send CODE PATTERN SEED SRC PREFIX | demo N K BYTES | migrate OLD NEW | relay CODE PATTERN NODE IN OUT | sink CODE PATTERN SINK IN DST | blind CODE SRC PREFIX LINK | finish DRAFT CODE | twin NET SECOND R1 R2 CODE REPORT | sendtwo CODE PATTERN SEED R1 SRC1 SRC2 PREFIX\n"
 
 abbrev pub read_fault_line : List ℕ
 read_fault_line = codes "read fault\n"
@@ -175,6 +175,10 @@ twin_why_name twin.TooMany = codes "TooMany"
 abbrev pub twin_refused_line : TwinWhy → List ℕ
 twin_refused_line why = codes "twin refused: " ++ twin_why_name why ++ codes "\n"
 
+-- the rate of a code, to which a rate of the first source isn't fit
+abbrev pub bad_split_line : ℕ → List ℕ
+bad_split_line rate = codes "bad split: rate " ++ decimal rate ++ codes "\n"
+
 -- the rank of a sink where links fail, and whether that is all of a rate
 abbrev pub rank_line : Net → ℕ → ℕ → ℕ → List ℕ
 rank_line net rate sink rank =
@@ -184,6 +188,11 @@ rank_line net rate sink rank =
 abbrev pub sent_line : ℕ → ℕ → ℕ → List ℕ
 sent_line bytes generations sinks =
     codes "sent " ++ decimal bytes ++ codes " bytes in " ++ decimal generations ++ codes " generations to " ++ decimal sinks ++ codes " sinks\n"
+
+-- the line of two sources that were sent
+abbrev pub sent_both_line : ℕ → ℕ → ℕ → ℕ → List ℕ
+sent_both_line first second generations sinks =
+    codes "sent " ++ decimal first ++ codes " and " ++ decimal second ++ codes " bytes in " ++ decimal generations ++ codes " generations to " ++ decimal sinks ++ codes " sinks\n"
 
 -- the lines of a node that wrote so many frames, and of a sink that got so many bytes
 abbrev pub relayed_line : ℕ → ℕ → ℕ → List ℕ

@@ -54,6 +54,16 @@ pub record Send : Type 0 where
   pub source : List ℕ
   pub prefix : List ℕ
 
+-- what a command `sendtwo` is given: the rate of the first source is any number
+pub record SendTwo : Type 0 where
+  pub code : List ℕ
+  pub pattern : List ℕ
+  pub seed : ℕ
+  pub first_rate : ℕ
+  pub first : List ℕ
+  pub second : List ℕ
+  pub prefix : List ℕ
+
 -- the greatest length of a source that is sent
 abbrev pub source_limit : ℕ
 source_limit = 1099511627776
@@ -82,6 +92,7 @@ pub data Command : Type 0 where
   blind : (given : Blind) → Command
   finish : (given : Finish) → Command
   twin : (given : Twin) → Command
+  send_two : (given : SendTwo) → Command
 
 -- `order NET`
 abbrev pub order_of : List (List ℕ) → Option Command
@@ -160,6 +171,17 @@ abbrev pub twin_of : List (List ℕ) → Option Command
 twin_of (net ∷ second ∷ r1 ∷ r2 ∷ code ∷ report ∷ []) = twin_with net second (number_of r1) (number_of r2) code report
 twin_of _ = None
 
+-- `sendtwo CODE PATTERN SEED R1 SRC1 SRC2 PREFIX`
+abbrev pub send_two_with : List ℕ → List ℕ → Option ℕ → Option ℕ → List ℕ → List ℕ → List ℕ → Option Command
+send_two_with code pattern (Some seed) (Some first_rate) first second prefix =
+    Some (send_two (record { code = code; pattern = pattern; seed = seed; first_rate = first_rate; first = first; second = second; prefix = prefix }))
+send_two_with code pattern _ _ first second prefix = None
+
+abbrev pub send_two_of : List (List ℕ) → Option Command
+send_two_of (code ∷ pattern ∷ seed ∷ first_rate ∷ first ∷ second ∷ prefix ∷ []) =
+    send_two_with code pattern (number_of seed) (number_of first_rate) first second prefix
+send_two_of _ = None
+
 -- the command that words are
 abbrev pub command_of : List (List ℕ) → Option Command
 command_of [] = None
@@ -176,4 +198,5 @@ command_of (name ∷ given) =
     else if bytes_eq name (codes "blind") then blind_of given
     else if bytes_eq name (codes "finish") then finish_of given
     else if bytes_eq name (codes "twin") then twin_of given
+    else if bytes_eq name (codes "sendtwo") then send_two_of given
     else None

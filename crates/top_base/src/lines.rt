@@ -6,7 +6,7 @@ ghost use Rattle.name_texts.specs.Names.{demand_text};
 ghost use Rattle.net_model.specs.Demands.{demand_count};
 ghost use Rattle.net_model.specs.Limits.{longest_name};
 ghost use Rattle.top_base.specs.Given.{demo_given_in};
-ghost use Rattle.top_base.specs.Lines.{accepted_line, check_failed_line, code_refused_line, code_text, compiled_line, demo_lines, detail_text, finished_line, link_fault_line, migrated_line, net_refused_line, not_decoding_line, out_of_memory_line, rate_over_line, received_line, relayed_line, stream_refused_line, stream_why_text, bad_blocks_line, unknown_link_line, unknown_node_line, read_fault_line, same_path_line, sent_line, served_text, too_long_line, too_many_demands_line, twin_refused_line, twinned_line, unknown_pattern_line, usage_line, write_fault_line};
+ghost use Rattle.top_base.specs.Lines.{accepted_line, check_failed_line, code_refused_line, code_text, compiled_line, demo_lines, detail_text, finished_line, link_fault_line, migrated_line, net_refused_line, not_decoding_line, out_of_memory_line, rate_over_line, received_line, relayed_line, stream_refused_line, stream_why_text, bad_blocks_line, bad_split_line, unknown_link_line, unknown_node_line, read_fault_line, same_path_line, sent_both_line, sent_line, served_text, too_long_line, too_many_demands_line, twin_refused_line, twinned_line, unknown_pattern_line, usage_line, write_fault_line};
 
 use crate::demo_words::DemoWords;
 use crate::status::TwinWhy;
@@ -237,7 +237,7 @@ impl<'a> Line<'a> {
         ensures { result ≡ usage_line }
     {
         Line::of(begin(
-            b"usage: lif order NET | cuts NET | compile NET CODE REPORT | check CODE | send CODE PATTERN SEED SRC PREFIX | demo N K BYTES | migrate OLD NEW | relay CODE PATTERN NODE IN OUT | sink CODE PATTERN SINK IN DST | blind CODE SRC PREFIX LINK | finish DRAFT CODE | twin NET SECOND R1 R2 CODE REPORT\n",
+            b"usage: lif order NET | cuts NET | compile NET CODE REPORT | check CODE | send CODE PATTERN SEED SRC PREFIX | demo N K BYTES | migrate OLD NEW | relay CODE PATTERN NODE IN OUT | sink CODE PATTERN SINK IN DST | blind CODE SRC PREFIX LINK | finish DRAFT CODE | twin NET SECOND R1 R2 CODE REPORT | sendtwo CODE PATTERN SEED R1 SRC1 SRC2 PREFIX\n",
         ))
     }
 
@@ -417,6 +417,16 @@ impl<'a> Line<'a> {
         Line::of(text)
     }
 
+    /// The first of two sources has a rate that isn't below that of the code, or is 0.
+    pub fn bad_split(rate: u32) -> Line<'a>
+        ensures { result ≡ bad_split_line rate }
+    {
+        let mut text = begin(b"bad split: rate ");
+        push_number(&mut text, u64::from(rate));
+        push(&mut text, b"\n");
+        Line::of(text)
+    }
+
     /// A node wrote frames on its links.
     pub fn relayed(frames: u64, links: u64, generations: u64) -> Line<'a>
         ensures { result ≡ relayed_line frames links generations }
@@ -507,6 +517,22 @@ impl<'a> Line<'a> {
         ensures { result ≡ sent_line bytes generations sinks }
     {
         Line::of(sent_text(bytes, generations, sinks))
+    }
+
+    /// Two sources were sent.
+    pub fn sent_both(first: u64, second: u64, generations: u64, sinks: u64) -> Line<'a>
+        ensures { result ≡ sent_both_line first second generations sinks }
+    {
+        let mut text = begin(b"sent ");
+        push_number(&mut text, first);
+        push(&mut text, b" and ");
+        push_number(&mut text, second);
+        push(&mut text, b" bytes in ");
+        push_number(&mut text, generations);
+        push(&mut text, b" generations to ");
+        push_number(&mut text, sinks);
+        push(&mut text, b" sinks\n");
+        Line::of(text)
     }
 
     /// A source was sent, behind lines that have room for this one. It takes no memory.

@@ -133,6 +133,11 @@ pub enum Status {
     },
     /// Two sources aren't joined.
     TwinRefused(TwinWhy),
+    /// The rate of the first of two sources isn't below that of the code, or is 0.
+    BadSplit {
+        /// The rate of the code.
+        rate: u32,
+    },
 }
 
 impl Status {
@@ -166,6 +171,7 @@ impl Status {
             Status::UnknownLink => 20,
             Status::NotDecoding { .. } => 21,
             Status::TwinRefused(_) => 22,
+            Status::BadSplit { .. } => 23,
         }
     }
 }

@@ -1,10 +1,11 @@
 //! The words that the program is called with.
 ghost use Rattle.std.specs.Prelude.{◌≡◌, Some, map, string_bytes};
 ghost use Rattle.std.specs.Option.{option_map};
-ghost use Rattle.top_base.specs.Words.{are_rates, blind_of, check_of, command_of, compile_of, cuts_of, demo_of, demo_with, finish_of, migrate_of, order_of, relay_of, send_of, sink_of, twin_of};
+ghost use Rattle.top_base.specs.Words.{are_rates, blind_of, check_of, command_of, compile_of, cuts_of, demo_of, demo_with, finish_of, migrate_of, order_of, relay_of, send_of, send_two_of, sink_of, twin_of};
 ghost use Rattle.top_base.specs.Given.{command_in};
 
 use crate::demo_words::{DEMO_LIMIT, DemoWords};
+use crate::send_two_words::SendTwoWords;
 use crate::twin_words::TwinWords;
 use net_maker::demo_fits;
 use net_model::HIGHEST_RATE;
@@ -112,6 +113,8 @@ pub enum Command<'a> {
     Finish(FinishWords<'a>),
     /// `twin NET SECOND R1 R2 CODE REPORT`.
     Twin(TwinWords<'a>),
+    /// `sendtwo CODE PATTERN SEED R1 SRC1 SRC2 PREFIX`.
+    SendTwo(SendTwoWords<'a>),
 }
 
 /// The command that the words are, if they are one.
@@ -134,6 +137,7 @@ pub fn command_of(words: &[String]) -> Option<Command<'_>>
         "blind" => blind_of(given),
         "finish" => finish_of(given),
         "twin" => twin_of(given),
+        "sendtwo" => send_two_of(given),
         _ => None,
     }
 }
@@ -326,5 +330,25 @@ fn twin_of(given: &[String]) -> Option<Command<'_>>
         r2: r2 as u32,
         code: code.as_str(),
         report: report.as_str(),
+    }))
+}
+
+// `sendtwo CODE PATTERN SEED R1 SRC1 SRC2 PREFIX`.
+fn send_two_of(given: &[String]) -> Option<Command<'_>>
+    ensures { option_map command_in result ≡ send_two_of (map string_bytes given.now) }
+{
+    let [code, pattern, seed, first_rate, first, second, prefix] = given else {
+        return None;
+    };
+    let seed = number_of(seed.as_bytes())?;
+    let first_rate = number_of(first_rate.as_bytes())?;
+    Some(Command::SendTwo(SendTwoWords {
+        code: code.as_str(),
+        pattern: pattern.as_str(),
+        seed,
+        first_rate,
+        first: first.as_str(),
+        second: second.as_str(),
+        prefix: prefix.as_str(),
     }))
 }

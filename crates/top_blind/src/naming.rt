@@ -72,7 +72,7 @@ pub fn find_failed<'a>(
 {
     see_known(words, &code.net)?;
     let outputs = output_paths(alloc, words.prefix, &code.net)?;
-    if let Some(path) = shared_path(words.code, words.source, &outputs) {
+    if let Some(path) = shared_path(&[words.code, words.source], &outputs) {
         return Err(Outcome {
             status: Status::SamePath,
             line: Line::same_path(path),

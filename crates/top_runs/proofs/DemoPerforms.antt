@@ -22,7 +22,7 @@ use Rattle.top_runs.specs.Demo.Command.{demo_command}
 use Rattle.top_runs.specs.Demo.Due.{ChangesTo, DueOf, LinksWork}
 use Rattle.top_runs.specs.Demo.Given.{blocks_in, source_of}
 use Rattle.top_runs.specs.Demo.Runs.{CarriesSource, RunsDemo}
-use Rattle.source_delivery.specs.Carried.{Breaks}
+use Rattle.source_delivery.specs.Carried.{Breaks, file_block}
 
 module _ (faithful : Bool) (demo : Demo) where
   -- there is no call on the store
@@ -30,7 +30,7 @@ module _ (faithful : Bool) (demo : Demo) where
   files_stay calls deeds before after accounted none = keep_files before.files after.files deeds.calls.on_store (none_keep deeds.calls.on_store none) accounted.files
 
   -- the call that failed is among those on the links
-  broken : (code : Code) (calls : Calls) → CarriesSource faithful demo code (Breaks faithful code 0 (source_of demo) (blocks_in demo code)) calls → list_any moves.is_fault calls.on_links ≡ true
+  broken : (code : Code) (calls : Calls) → CarriesSource faithful demo code (Breaks faithful code 0 (file_block (source_of demo) code.rate) (blocks_in demo code)) calls → list_any moves.is_fault calls.on_links ≡ true
   broken code calls is =
       let links = is.on_links in
       let breaks = links.holds_later.rest in

@@ -14,7 +14,7 @@ use Rattle.top_base.specs.Lines.{demo_lines, out_of_memory_line}
 use Rattle.top_base.specs.declared.status.Status.{Status}
 use Rattle.top_base.specs.declared.status.Status.TheVariants.{OutOfMemory}
 use Rattle.top_base.specs.Words.{Demo}
-use Rattle.source_delivery.proofs.CarriedLaws.{carried-some, length-blocks_from, over-are}
+use Rattle.source_delivery.proofs.CarriedLaws.{carried-some, length-blocks_in, over-are}
 use Rattle.source_delivery.proofs.DeliveryLaws.{opened-can}
 use Rattle.top_runs.proofs.FrameLaws.{length-put, length-traffic}
 use Rattle.top_runs.proofs.TallyLaws.{sum-turns, tallies-unstopped}
@@ -22,10 +22,10 @@ use Rattle.source_delivery.proofs.TurnLaws.{turns-are}
 use Rattle.top_runs.specs.Demo.Given.{IsDemoCode, blocks_in, demo_seed, source_of}
 use Rattle.top_runs.specs.Demo.Runs.{CarriesSource, RunsDemo, Shows, received_before, sum_received}
 use Rattle.top_runs.specs.Demo.Tally.{Tallies, sum_of}
-use Rattle.source_delivery.specs.Carried.{AreCarried, Breaks, IsOver, blocks_from, packets_given}
+use Rattle.source_delivery.specs.Carried.{AreCarried, Breaks, IsOver, blocks_from, file_block, packets_given}
 use Rattle.source_delivery.specs.Delivering.{CanCarry, DeliversSome, Interrupts}
-use Rattle.top_runs.specs.Send.Runs.{link_calls}
-use Rattle.source_delivery.specs.Turns.{turns_before}
+use Rattle.top_runs.specs.Sending.{link_calls}
+use Rattle.source_delivery.specs.Turns.{one_each, turns_before}
 use Rattle.source_delivery.specs.declared.delivery.DeliveryFault.TheVariants as fault
 use Rattle.top_runs.specs.declared.tally.Tally.{Tally}
 
@@ -54,7 +54,7 @@ module _ (faithful : Bool) (demo : Demo) (code : Code) (made : IsDemoCode demo c
   after_open = link_calls (opened demo_seed (room_for code) ∷ calls.on_links)
 
   -- all was carried
-  module _ (some : DeliversSome faithful code 0 paths (source_of demo) (blocks_in demo code) calls) where
+  module _ (some : DeliversSome faithful code 0 (one_each paths) (source_of demo) (blocks_in demo code) calls) where
     abbrev blocks : ℕ
     blocks = blocks_in demo code
 
@@ -68,13 +68,13 @@ module _ (faithful : Bool) (demo : Demo) (code : Code) (made : IsDemoCode demo c
 
     are : AreCarried faithful code 0 0 (blocks_from (source_of demo) code.rate 0 blocks) calls.on_links
     are = subst (λ n. AreCarried faithful code 0 0 (blocks_from (source_of demo) code.rate 0 n) calls.on_links) some.number
-        (over-are faithful code 0 (source_of demo) blocks some.delivered.carried calls.on_links some.delivered.on_links)
+        (over-are faithful code 0 (file_block (source_of demo) code.rate) blocks some.delivered.carried calls.on_links some.delivered.on_links)
 
     -- so many frames were put
     frames : length (pairs_put calls.on_links) ≡ blocks * (length (live_links_of code 0) * pieces)
     frames =
         let those = blocks_from (source_of demo) code.rate 0 blocks in
-        let count : length those ≡ blocks = length-blocks_from (source_of demo) code.rate 0 blocks in
+        let count : length those ≡ blocks = length-blocks_in (file_block (source_of demo) code.rate) 0 blocks in
         length-put (carried-some faithful code 0 0 those calls.on_links (omega (arith, count)) are)
         ∙ length-traffic code 0 (record { first = 0; blocks = those })
         ∙ ap (λ n. n * (length (live_links_of code 0) * pieces)) count
@@ -101,8 +101,8 @@ module _ (faithful : Bool) (demo : Demo) (code : Code) (made : IsDemoCode demo c
     }
 
   -- a call on the links failed
-  pub broken-off : Interrupts faithful code 0 paths (source_of demo) fault.Links calls
-      → CarriesSource faithful demo code (Breaks faithful code 0 (source_of demo) (blocks_in demo code)) after_open
+  pub broken-off : Interrupts faithful code 0 (one_each paths) (source_of demo) fault.Links calls
+      → CarriesSource faithful demo code (Breaks faithful code 0 (file_block (source_of demo) code.rate) (blocks_in demo code)) after_open
   broken-off is = record {
     made = made;
     carried = is.carried;
@@ -111,7 +111,7 @@ module _ (faithful : Bool) (demo : Demo) (code : Code) (made : IsDemoCode demo c
   }
 
   -- an append didn't
-  pub never-unwritten : Interrupts faithful code 0 paths (source_of demo) fault.Write calls → ⊥
+  pub never-unwritten : Interrupts faithful code 0 (one_each paths) (source_of demo) fault.Write calls → ⊥
   never-unwritten is =
-      tallies-unstopped paths (appends_of (turns_before paths code 0 (packets_given calls.on_links) is.carried)) calls.on_store old new
-      (turns-are paths code 0 (packets_given calls.on_links) is.carried) is.on_store tallies
+      tallies-unstopped paths (appends_of (turns_before (one_each paths) code 0 (packets_given calls.on_links) is.carried)) calls.on_store old new
+      (turns-are (one_each paths) code 0 (packets_given calls.on_links) is.carried) is.on_store tallies

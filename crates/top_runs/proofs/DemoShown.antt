@@ -11,10 +11,10 @@ use Rattle.lif_outside.proofs.OpenLaws.{quiet-after, seed-after}
 use Rattle.lif_outside.specs.Calls.{Calls}
 use Rattle.lif_outside.specs.Moves.{FollowMoves, InFlight, Move, is_fault, opened, pairs_put}
 use Rattle.node_program.specs.declared.code.Code.{Code}
-use Rattle.source_delivery.specs.Carried.{IsCarried, packets_given, AreCarried, CarriesFirst, IsOver, blocks_from}
+use Rattle.source_delivery.specs.Carried.{IsCarried, packets_given, AreCarried, CarriesFirst, IsOver, blocks_from, file_block}
 use Rattle.top_base.specs.Lines.{demo_lines}
 use Rattle.top_base.specs.Words.{Demo}
-use Rattle.source_delivery.proofs.CarriedLaws.{carried-decoded, carried-some, length-blocks_from}
+use Rattle.source_delivery.proofs.CarriedLaws.{carried-decoded, carried-some, length-blocks_in}
 use Rattle.top_runs.proofs.DemoRuns.{none-there}
 use Rattle.top_runs.proofs.FrameLaws.{length-put}
 use Rattle.top_runs.proofs.TallyLaws.{sum-pieces}
@@ -22,6 +22,7 @@ use Rattle.top_runs.specs.Demo.Due.{IsShown}
 use Rattle.top_runs.specs.Demo.Given.{blocks_in, demo_seed, source_of}
 use Rattle.top_runs.specs.Demo.Runs.{Demonstrates, Shows, sum_received}
 use Rattle.source_delivery.specs.Turns.{received_at}
+use Rattle.source_delivery.specs.declared.parts.Parts.TheVariants.{One}
 
 module _ (faithful : Bool) (demo : Demo) (code : Code) (line : List ℕ) (calls : Calls) (shows : Shows faithful demo code line calls) where
   abbrev source : List ℕ
@@ -36,7 +37,7 @@ module _ (faithful : Bool) (demo : Demo) (code : Code) (line : List ℕ) (calls 
   -- all blocks were carried as one window
   carries : IsCarried faithful code 0 (record { first = 0; blocks = blocks_from source code.rate 0 blocks }) first
   carries =
-      carried-some faithful code 0 0 (blocks_from source code.rate 0 blocks) first (omega (arith, length-blocks_from source code.rate 0 blocks))
+      carried-some faithful code 0 0 (blocks_from source code.rate 0 blocks) first (omega (arith, length-blocks_in (file_block source code.rate) 0 blocks))
       (subst (λ n. AreCarried faithful code 0 0 (blocks_from source code.rate 0 n) first) shows.all shows.carries.on_links.holds_later.carries)
 
   made-are : calls.on_links ≡ opened demo_seed (room_for code) ∷ first
@@ -66,14 +67,14 @@ module _ (faithful : Bool) (demo : Demo) (code : Code) (line : List ℕ) (calls 
 
   -- by faithful links each sink gets the source
   pieces : faithful ≡ true → (generation place : ℕ) → generation < blocks → place < length code.net.sinks
-      → received_at code 0 (packets_given calls.on_links) generation place ≡ piece_of source code.rate generation
+      → received_at One code 0 (packets_given calls.on_links) generation place ≡ piece_of source code.rate generation
   pieces by_faithful generation place below within =
       let known : 0 < length code.net.patterns = none-there demo code shows.carries.made in
-      ap (λ made. received_at code 0 (packets_given made) generation place) made-are
-      ∙ ap counted_bytes (carried-decoded faithful code 0 source blocks IsOver blocks first over known by_faithful generation place below within)
+      ap (λ made. received_at One code 0 (packets_given made) generation place) made-are
+      ∙ ap counted_bytes (carried-decoded faithful code 0 (file_block source code.rate) blocks IsOver blocks first over known by_faithful generation place below within)
       ∙ counted-block code.rate (piece_of source code.rate generation) (omega (arith, length-piece_of source code.rate generation))
     where
-      over : CarriesFirst faithful code 0 source blocks IsOver blocks first
+      over : CarriesFirst faithful code 0 (file_block source code.rate) blocks IsOver blocks first
       over = record { first = first; later = []; moves_are = sym (append-nil first); some = omega arith; carries = subst (λ n. AreCarried faithful code 0 0 (blocks_from source code.rate 0 n) first) shows.all shows.carries.on_links.holds_later.carries; rest = refl }
 
   total : faithful ≡ true → sum_received code (packets_given calls.on_links) blocks ≡ (length code.net.sinks * sum source) % 2 ^ 64

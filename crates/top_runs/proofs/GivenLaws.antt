@@ -22,8 +22,8 @@ module _ (words : SendWords) (code at_hand : Code) where
       ∙ ap (λ code. pattern_named code.net words.pattern.now) is)
 
   -- the paths of the sinks' files, by the code at hand
-  pub outputs_in : (paths : List (List ℕ)) → at_hand ≡ code → paths ≡ output_paths words.prefix.now at_hand.net → paths ≡ outputs_of (given_in words) code
-  outputs_in paths is are = are ∙ ap (λ code. output_paths words.prefix.now code.net) is
+  pub paths_in : (paths : List (List ℕ)) → at_hand ≡ code → paths ≡ output_paths words.prefix.now at_hand.net → paths ≡ outputs_of (given_in words) code
+  paths_in paths is are = are ∙ ap (λ code. output_paths words.prefix.now code.net) is
 
 -- the pattern of a code at work, where it is the one that is named
 pub pattern-at_work : (send : Send) (code : Code) (pattern : ℕ) → pattern_of send code ≡ Some pattern → pattern ≡ pattern_in send code

@@ -3,8 +3,14 @@ pub mod DemoRuns
 pub mod DemoShown
 pub mod FrameLaws
 pub mod GivenLaws
+pub mod MarkedLaws
 pub mod ReceivedLaws
 pub mod SendCalls
 pub mod SendLeaving
 pub mod SendPerforms
+pub mod SendTwoCalls
+pub mod SendTwoGiven
+pub mod SendTwoLeaving
+pub mod SendTwoPerforms
+pub mod SendingLaws
 pub mod TallyLaws

@@ -16,9 +16,10 @@ use Rattle.lif_outside.specs.FileCalls.{Written, appends_of, bytes_appended}
 use Rattle.lif_outside.specs.Files.{AreDistinct}
 use Rattle.item_list.proofs.Maps.{same_made}
 use Rattle.node_program.specs.declared.code.Code.{Code}
-use Rattle.top_runs.specs.Send.Changes.{received_by}
+use Rattle.top_runs.specs.Sending.{received_by}
 use Rattle.command_steps.specs.Filling.{has_bytes}
-use Rattle.source_delivery.specs.Turns.{parts_from, received_at, turn_at, turns_before}
+use Rattle.source_delivery.specs.Turns.{Outputs, parts_from, received_at, turn_at, turns_before}
+use Rattle.source_delivery.specs.declared.parts.Parts.{Parts}
 
 -- of distinct paths, each stands at one place
 
@@ -45,32 +46,32 @@ part-adds path other (byte ∷ bytes) parts =
     let some : nat_lt 0 (length (byte ∷ bytes)) ≡ true = grind arith in
     ap (λ test. bytes_appended path (map part_call (cond test ((other, byte ∷ bytes) ∷ parts) parts))) some
 
-module _ (paths : List (List ℕ)) (code : Code) (pattern : ℕ) (came : List Packet) (path : List ℕ) (place : ℕ) (distinct : AreDistinct paths) (there : slice_get paths place ≡ Some path) where
-  within : place < length paths
-  within = slice_get_within paths place path there
+module _ (outputs : Outputs) (code : Code) (pattern : ℕ) (came : List Packet) (path : List ℕ) (place : ℕ) (distinct : AreDistinct outputs.paths) (there : slice_get outputs.paths place ≡ Some path) where
+  within : place < length outputs.paths
+  within = slice_get_within outputs.paths place path there
 
-  here : slice_index_or paths place [] ≡ path
-  here = get_or_from_slice_get paths place path [] there
+  here : slice_index_or outputs.paths place [] ≡ path
+  here = get_or_from_slice_get outputs.paths place path [] there
 
   module _ (generation : ℕ) where
     -- the appends for so many sinks, from one on
     abbrev calls_from : ℕ → ℕ → List Event
-    calls_from sink count = map part_call (parts_from paths code pattern came generation sink count)
+    calls_from sink count = map part_call (parts_from outputs code pattern came generation sink count)
 
     -- one sink's part, and those of the sinks behind it
     abbrev adds_by : ℕ → ℕ → Bool → List ℕ
-    adds_by sink count test = (if test then received_at code pattern came generation sink else []) ++ bytes_appended path (calls_from (sink + 1) count)
+    adds_by sink count test = (if test then received_at outputs.parts code pattern came generation sink else []) ++ bytes_appended path (calls_from (sink + 1) count)
 
-    first-adds : (sink count : ℕ) → bytes_appended path (calls_from sink (suc count)) ≡ adds_by sink count (bytes_eq (slice_index_or paths sink []) path)
+    first-adds : (sink count : ℕ) → bytes_appended path (calls_from sink (suc count)) ≡ adds_by sink count (bytes_eq (slice_index_or outputs.paths sink []) path)
     first-adds sink count =
-        part-adds path (slice_index_or paths sink []) (received_at code pattern came generation sink) (parts_from paths code pattern came generation (sink + 1) count)
+        part-adds path (slice_index_or outputs.paths sink []) (received_at outputs.parts code pattern came generation sink) (parts_from outputs code pattern came generation (sink + 1) count)
 
-    apart : (sink : ℕ) → sink < length paths → sink ≢ place → bytes_eq (slice_index_or paths sink []) path ≡ false
+    apart : (sink : ℕ) → sink < length outputs.paths → sink ≢ place → bytes_eq (slice_index_or outputs.paths sink []) path ≡ false
     apart sink below other =
-        false_from_ne_true _ (λ is. other (one_place paths sink place distinct below within ((bytes_eq-Decides (slice_index_or paths sink []) path).0 is ∙ sym here)))
+        false_from_ne_true _ (λ is. other (one_place outputs.paths sink place distinct below within ((bytes_eq-Decides (slice_index_or outputs.paths sink []) path).0 is ∙ sym here)))
 
     -- other sinks' parts add nothing
-    others-add : (sink count : ℕ) → place < sink → sink + count ≤ length paths → bytes_appended path (calls_from sink count) ≡ []
+    others-add : (sink count : ℕ) → place < sink → sink + count ≤ length outputs.paths → bytes_appended path (calls_from sink count) ≡ []
     others-add sink zero past few = refl
     others-add sink (suc count) past few =
         first-adds sink count
@@ -78,15 +79,15 @@ module _ (paths : List (List ℕ)) (code : Code) (pattern : ℕ) (came : List Pa
         ∙ others-add (sink + 1) count (omega arith) (omega arith)
 
     -- the sink's own adds what it gets
-    own-adds : (sink count : ℕ) → sink ≤ place → place < sink + count → sink + count ≤ length paths → bytes_appended path (calls_from sink count) ≡ received_at code pattern came generation place
+    own-adds : (sink count : ℕ) → sink ≤ place → place < sink + count → sink + count ≤ length outputs.paths → bytes_appended path (calls_from sink count) ≡ received_at outputs.parts code pattern came generation place
     own-adds sink zero begun below few = absurd (omega arith)
     own-adds sink (suc count) begun below few = elim (cases_order sink place) [
       | inl is ↦
-          let same : bytes_eq (slice_index_or paths sink []) path ≡ true = (bytes_eq-Decides (slice_index_or paths sink []) path).1 (ap (λ n. slice_index_or paths n []) is ∙ here) in
+          let same : bytes_eq (slice_index_or outputs.paths sink []) path ≡ true = (bytes_eq-Decides (slice_index_or outputs.paths sink []) path).1 (ap (λ n. slice_index_or outputs.paths n []) is ∙ here) in
           first-adds sink count ∙ ap (adds_by sink count) same
-          ∙ ap (λ rest. received_at code pattern came generation sink ++ rest) (others-add (sink + 1) count (omega (arith, is)) (omega arith))
-          ∙ append-nil (received_at code pattern came generation sink)
-          ∙ ap (received_at code pattern came generation) is
+          ∙ ap (λ rest. received_at outputs.parts code pattern came generation sink ++ rest) (others-add (sink + 1) count (omega (arith, is)) (omega arith))
+          ∙ append-nil (received_at outputs.parts code pattern came generation sink)
+          ∙ ap (received_at outputs.parts code pattern came generation) is
       | inr (inl before) ↦
           first-adds sink count ∙ ap (adds_by sink count) (apart sink (omega arith) (λ same. absurd (omega (arith, same, before))))
           ∙ own-adds (sink + 1) count (omega arith) (omega arith) (omega arith)
@@ -95,16 +96,16 @@ module _ (paths : List (List ℕ)) (code : Code) (pattern : ℕ) (came : List Pa
 
   -- and so it is turn by turn
   turns-give : (generations : List ℕ)
-      → bytes_appended path (appends_of (map (turn_at paths code pattern came) generations)) ≡ flat_map (λ generation. received_at code pattern came generation place) generations
+      → bytes_appended path (appends_of (map (turn_at outputs code pattern came) generations)) ≡ flat_map (λ generation. received_at outputs.parts code pattern came generation place) generations
   turns-give [] = refl
   turns-give (generation ∷ generations) =
-      let rest = appends_of (map (turn_at paths code pattern came) generations) in
-      bytes_appended-append path (calls_from generation 0 (length paths)) rest
-      ∙ ap (λ first. first ++ bytes_appended path rest) (own-adds generation 0 (length paths) (omega arith) (omega (arith, within)) (omega arith))
-      ∙ ap (λ later. received_at code pattern came generation place ++ later) (turns-give generations)
+      let rest = appends_of (map (turn_at outputs code pattern came) generations) in
+      bytes_appended-append path (calls_from generation 0 (length outputs.paths)) rest
+      ∙ ap (λ first. first ++ bytes_appended path rest) (own-adds generation 0 (length outputs.paths) (omega arith) (omega (arith, within)) (omega arith))
+      ∙ ap (λ later. received_at outputs.parts code pattern came generation place ++ later) (turns-give generations)
 
   -- what is appended to a sink's file is what the sink decodes of what came
-  pub bytes-received : (generations : ℕ) → bytes_appended path (appends_of (turns_before paths code pattern came generations)) ≡ received_by code pattern came generations place
+  pub bytes-received : (generations : ℕ) → bytes_appended path (appends_of (turns_before outputs code pattern came generations)) ≡ received_by outputs.parts code pattern came generations place
   bytes-received generations = turns-give (range_with_len 0 generations)
 
 -- ---- where a sink decodes the pieces of a file
@@ -123,10 +124,10 @@ joined : (f : ℕ → List ℕ) (numbers : List ℕ) → flat_map f numbers ≡ 
 joined f [] = refl
 joined f (number ∷ numbers) = ap (λ rest. f number ++ rest) (joined f numbers)
 
-pub pieces-received : (code : Code) (pattern : ℕ) (came : List Packet) (file : List ℕ) (rate place generations : ℕ)
-    → ((generation : ℕ) → generation < generations → received_at code pattern came generation place ≡ piece_of file rate generation)
-    → received_by code pattern came generations place ≡ concat (pieces_before file rate generations)
-pieces-received code pattern came file rate place generations pieces =
-    joined (λ generation. received_at code pattern came generation place) (range_with_len 0 generations)
-    ∙ ap concat (same_made (λ generation. received_at code pattern came generation place) (piece_of file rate) generations [] pieces)
+pub pieces-received : (parts : Parts) (code : Code) (pattern : ℕ) (came : List Packet) (file : List ℕ) (rate place generations : ℕ)
+    → ((generation : ℕ) → generation < generations → received_at parts code pattern came generation place ≡ piece_of file rate generation)
+    → received_by parts code pattern came generations place ≡ concat (pieces_before file rate generations)
+pieces-received parts code pattern came file rate place generations pieces =
+    joined (λ generation. received_at parts code pattern came generation place) (range_with_len 0 generations)
+    ∙ ap concat (same_made (λ generation. received_at parts code pattern came generation place) (piece_of file rate) generations [] pieces)
     ∙ sym (some-concat (map (piece_of file rate) (range_with_len 0 generations)))

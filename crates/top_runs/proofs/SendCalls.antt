@@ -13,8 +13,11 @@ use Rattle.top_base.specs.Lines.{sent_line, write_fault_line}
 use Rattle.top_base.specs.Words.{Send, source_limit}
 use Rattle.top_base.specs.declared.status.Status.TheVariants.{Done, WriteFault}
 use Rattle.top_runs.specs.Send.Given.{IsClear, outputs_of, pattern_in}
-use Rattle.top_runs.specs.Send.Runs.{Broken, Carries, RunsCode, behind_open, outcome_of}
-use Rattle.source_delivery.specs.Streaming.{AtRest, StopsStreaming, StreamsAll, StreamsSource}
+use Rattle.top_runs.specs.Send.Runs.{CarriesSource, RunsCode}
+use Rattle.top_runs.specs.Sending.{behind_open, outcome_of}
+use Rattle.source_delivery.specs.Carried.{Breaks}
+use Rattle.source_delivery.specs.Streaming.{AtRest, StopsStreaming, StreamsAll, StreamsSource, file_feed}
+use Rattle.source_delivery.specs.Turns.{one_each}
 use Rattle.source_delivery.specs.declared.delivery.DeliveryFault.TheVariants as fault
 use Rattle.source_delivery.specs.declared.delivery.SentCounts.{SentCounts}
 use Rattle.source_delivery.specs.declared.streaming.StreamFault.{StreamFault}
@@ -23,26 +26,28 @@ use Rattle.source_delivery.specs.declared.streaming.StreamFault.TheVariants as s
 module _ (faithful : Bool) (send : Send) (code : Code) (clear : IsClear send code) where
   -- a sink's file couldn't be created
   pub unmade : (line : List ℕ) (events : List Event) → line ≡ write_fault_line → StopsWithin (creates_of (outputs_of send code)) events
-      → RunsCode faithful send code WriteFault line (behind_open send code (record { on_store = events; on_links = [] }))
-  unmade line events said stop = (inl (record { clear = clear; on_links = refl; on_store = stop }), said)
+      → RunsCode faithful send code WriteFault line (behind_open send.seed code (record { on_store = events; on_links = [] }))
+  unmade line events said stop = (inl (record { clear = clear; stops = record { on_links = refl; on_store = stop } }), said)
 
   module _ (first : List Event) (created : Are (creates_of (outputs_of send code)) first) where
     -- SRC was streamed
     module _ (calls : Calls) where
       abbrev all : Calls
-      all = behind_open send code (record { on_store = first ++ calls.on_store; on_links = calls.on_links })
+      all = behind_open send.seed code (record { on_store = first ++ calls.on_store; on_links = calls.on_links })
 
-      abbrev carries : (P : List Event → Type 0) (Q : List Event → List Event → Type 0) (R : List ℕ → ℕ → ℕ → List Move → Type 0)
-          → StreamsSource faithful code (pattern_in send code) (outputs_of send code) P Q R calls → Carries faithful send code P Q R all
+      abbrev carries : (P : List Event → Type 0) (Q : List Event → List Event → Type 0) (R : (ℕ → List ℕ) → ℕ → ℕ → List Move → Type 0)
+          → StreamsSource faithful code (pattern_in send code) (one_each (outputs_of send code)) (file_feed code.rate) P Q R calls → CarriesSource faithful send code P Q R all
       carries P Q R is = record {
         clear = clear;
-        carried = is.carried;
-        on_store = record { first = first; later = calls.on_store; events_are = refl; holds_first = created; holds_later = is.on_store };
-        on_links = record { first = opened send.seed (room_for code) ∷ []; later = calls.on_links; events_are = refl; holds_first = refl; holds_later = is.on_links };
+        carries = record {
+          carried = is.carried;
+          on_store = record { first = first; later = calls.on_store; events_are = refl; holds_first = created; holds_later = is.on_store };
+          on_links = record { first = opened send.seed (room_for code) ∷ []; later = calls.on_links; events_are = refl; holds_first = refl; holds_later = is.on_links };
+        };
       }
 
       -- all was sent
-      pub sent : (counts : SentCounts) → StreamsAll faithful code (pattern_in send code) (outputs_of send code) send.source source_limit counts calls
+      pub sent : (counts : SentCounts) → StreamsAll faithful code (pattern_in send code) (one_each (outputs_of send code)) send.source source_limit counts calls
           → RunsCode faithful send code Done (sent_line counts.bytes counts.generations counts.sinks) all
       sent counts is = (
         is.source,
@@ -53,9 +58,9 @@ module _ (faithful : Bool) (send : Send) (code : Code) (clear : IsClear send cod
       )
 
       -- or not all was
-      pub unsent : (why : StreamFault) → StopsStreaming faithful code (pattern_in send code) (outputs_of send code) send.source source_limit why calls
+      pub unsent : (why : StreamFault) → StopsStreaming faithful code (pattern_in send code) (one_each (outputs_of send code)) send.source source_limit why calls
           → RunsCode faithful send code (outcome_of why).status (outcome_of why).line all
       unsent stream.Read is = (carries (ReadsToFault send.source source_limit) IsFrontOf AtRest is, refl)
       unsent stream.TooLong is = (carries (ReadsPastLimit send.source source_limit) IsFrontOf AtRest is, refl)
-      unsent (stream.Sinks fault.Links) is = (carries (ReadsAny send.source source_limit) IsFrontOf (Broken faithful send code) is, refl)
+      unsent (stream.Sinks fault.Links) is = (carries (ReadsAny send.source source_limit) IsFrontOf (Breaks faithful code (pattern_in send code)) is, refl)
       unsent (stream.Sinks fault.Write) is = (inr (carries (ReadsAny send.source source_limit) StopsWithin AtRest is), refl)

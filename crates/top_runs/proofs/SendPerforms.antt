@@ -1,22 +1,18 @@
 -- What has to be known of the command `send`.
-use Rattle.std.specs.Prelude.{◌≡◌, ◌≢◌, ℕ, Bool, true, false, List, [], ◌∷◌, ◌++◌, Option, Some, Ok, IsTrue, IsFalse}
+use Rattle.std.specs.Prelude.{◌≡◌, ◌≢◌, ℕ, Bool, true, false, List, Option, Some, Ok, IsTrue, IsFalse}
 use Rattle.std.specs.List.{list_any}
-use Rattle.std.proofs.lemmas.List.{append-nil}
 use Rattle.std.proofs.Common.{refl, sym, ap, subst, ◌∙◌, inl, inr, ⊎_elim}
 use Rattle.std.proofs.lemmas.Bool.{false≢true}
-use Rattle.coded_traffic.specs.Traffic.{room_for}
 use Rattle.lif_outside.specs.Calls.{Calls, Outside}
-use Rattle.lif_outside.specs.Events.{Event, HappenAt}
-use Rattle.lif_outside.proofs.FaultLaws.{HaveFailed, appends_unfailed, failed-append, fault_failed, none_failed, reads_unfailed, whole_unfailed}
+use Rattle.lif_outside.specs.Events.{HappenAt}
+use Rattle.lif_outside.proofs.FaultLaws.{HaveFailed, appends_unfailed, fault_failed, none_failed, reads_unfailed, whole_unfailed}
 use Rattle.lif_outside.specs.Files.{Files}
-use Rattle.lif_outside.specs.Moves.{Move, opened}
 use Rattle.lif_outside.specs.Moves as moves
-use Rattle.lif_outside.specs.FileCalls.{AreAppendsTo, ReadsPastLimit, ReadsToFault, ReadsWhole, StopsWithin}
+use Rattle.lif_outside.specs.FileCalls.{ReadsPastLimit, ReadsToFault, ReadsWhole, StopsWithin}
 use Rattle.lif_outside.proofs.FileCallLaws.{long_held}
 use Rattle.lif_outside.specs.Sequences.{Are, IsFrontOf}
-use Rattle.lif_outside.proofs.StreamLaws.{stream_failed}
 use Rattle.lif_outside.specs.Streams.{reads_in, writes_in}
-use Rattle.lif_outside.proofs.TurnLaws.{appends-failed, creates_of-failed, creates_of-unfailed, front_unfailed}
+use Rattle.lif_outside.proofs.TurnLaws.{appends-failed, creates_of-failed}
 use Rattle.node_program.specs.declared.code.Code.{Code}
 use Rattle.code_file.specs.Limits.{code_limit}
 use Rattle.top_base.specs.Accepting.{HoldsCode, IsCodeOf, RefusesCode}
@@ -35,11 +31,13 @@ use Rattle.top_base.specs.declared.status.Status.TheVariants.{Done, LinkFault, O
 use Rattle.top_runs.specs.Send.Changes.{Changes, ChangesTo}
 use Rattle.top_runs.specs.Send.Command.{send_command}
 use Rattle.top_runs.specs.Send.Due.{DueOf, DueWith, NoFault, OwedOf}
-use Rattle.source_delivery.specs.Carried.{AreCarried, packets_given}
-use Rattle.top_runs.specs.Send.Given.{outputs_of, pattern_in}
-use Rattle.top_runs.specs.Send.Runs.{AfterCreates, Broken, Carries, RunsCode, Sends, deliveries}
-use Rattle.source_delivery.specs.Streaming.{AtRest}
-use Rattle.top_runs.proofs.SendLeaving.{at_source, changes_with, deliveries_are, links_fault, part_keeps, source_held}
+use Rattle.source_delivery.specs.Carried.{Breaks}
+use Rattle.top_runs.specs.Send.Given.{outputs_of, pattern_in, sending_of}
+use Rattle.top_runs.specs.Send.Runs.{RunsCode, Sends}
+use Rattle.top_runs.specs.Sending.{Sending}
+use Rattle.source_delivery.specs.Streaming.{AtRest, Feed, file_feed}
+use Rattle.top_runs.proofs.SendLeaving.{by_reads, changes_with, source_held}
+use Rattle.top_runs.proofs.SendingLaws.{carried_failed, due_are, due_of, front_failed, links_fault, part_keeps, rest_well}
 
 module _ (faithful : Bool) (send : Send) where
   -- ---- of an accepted code
@@ -54,8 +52,8 @@ module _ (faithful : Bool) (send : Send) where
     due_with TooLong line calls a b inputs (is, line_is) happen =
         let past = ReadsPastLimit send.source source_limit in (
           is.clear,
-          long_held send.source source_limit (reads_in is.on_store.later) a b is.on_store.holds_later.reads
-              (at_source send code faithful past IsFrontOf AtRest calls is (part_keeps send code faithful) a b happen),
+          long_held send.source source_limit (reads_in is.carries.on_store.later) a b is.carries.on_store.holds_later.reads
+              (by_reads send code faithful past IsFrontOf AtRest calls is part_keeps a b happen),
           line_is,
         )
     due_with ReadFault line calls a b inputs runs happen = absurd (false≢true inputs)
@@ -64,47 +62,21 @@ module _ (faithful : Bool) (send : Send) where
     due_with OutOfMemory line calls a b inputs runs happen = absurd (false≢true inputs)
     due_with status line calls a b inputs runs happen = absurd runs
 
-    -- which of the calls on the store failed
-    created_failed : (P : List Event → Type 0) (c d : Bool) (calls : List Event) (is : AfterCreates send code P calls) → HaveFailed c d is.later → HaveFailed c d calls
-    created_failed P c d calls is later =
-        subst (HaveFailed c d) (sym is.events_are) (failed-append false false c d is.first is.later (subst (HaveFailed false false) (sym is.holds_first) (creates_of-unfailed (outputs_of send code))) later)
+    abbrev how : Sending
+    how = sending_of send code
 
-    module _ (P : List Event → Type 0) (Q : List Event → List Event → Type 0) (R : List ℕ → ℕ → ℕ → List Move → Type 0) (calls : Calls) (is : Carries faithful send code P Q R calls) where
-      abbrev due : List Event
-      due = deliveries send code (packets_given calls.on_links) is.carried (reads_in is.on_store.later)
-
-      due_are : AreAppendsTo (outputs_of send code) due
-      due_are = deliveries_are send code (packets_given calls.on_links) is.carried (reads_in is.on_store.later)
-
-      carried_failed : (c d : Bool) → HaveFailed c false (reads_in is.on_store.later) → HaveFailed false d (writes_in is.on_store.later) → HaveFailed c d calls.on_store
-      carried_failed c d reads writes = created_failed _ c d calls.on_store is.on_store (stream_failed is.on_store.later c d false false reads writes)
-
-    front_failed : (P : List Event → Type 0) (R : List ℕ → ℕ → ℕ → List Move → Type 0) (c : Bool) (calls : Calls) (is : Carries faithful send code P IsFrontOf R calls) → HaveFailed c false (reads_in is.on_store.later)
-        → HaveFailed c false calls.on_store
-    front_failed P R c calls is reads = carried_failed P IsFrontOf R calls is c false reads
-        (front_unfailed (outputs_of send code) (due P IsFrontOf R calls is) (writes_in is.on_store.later) (due_are P IsFrontOf R calls is) is.on_store.holds_later.writes)
-
-    -- and which of those on the links
-    carried-well : (pattern : ℕ) (blocks : List (List ℕ)) (made : List Move) → AreCarried faithful code pattern 0 blocks made → list_any moves.is_fault made ≡ false
-    carried-well pattern [] made none = ap (list_any moves.is_fault) none
-    carried-well pattern (block ∷ blocks) made carries = carries.well
-
-    rest_well : (P : List Event → Type 0) (Q : List Event → List Event → Type 0) (calls : Calls) → Carries faithful send code P Q AtRest calls → list_any moves.is_fault calls.on_links ≡ false
-    rest_well P Q calls is =
-        let links = is.on_links in
-        ap (list_any moves.is_fault) (links.events_are ∙ ap (λ (first : List Move). first ++ links.later) links.holds_first
-        ∙ ap (λ (later : List Move). opened send.seed (room_for code) ∷ later)
-        (links.holds_later.moves_are ∙ ap (λ (later : List Move). links.holds_later.first ++ later) links.holds_later.rest ∙ append-nil links.holds_later.first))
-        ∙ carried-well (pattern_in send code) _ links.holds_later.first links.holds_later.carries
+    abbrev feed : Feed
+    feed = file_feed code.rate
 
     failed_with : (status : Status) (line : List ℕ) (calls : Calls) → RunsCode faithful send code status line calls → HaveFailedBy status calls
     failed_with Done line calls (source, line_is, sent) =
-        let is = sent.delivered in
+        let is = sent.delivered.carries in
         let reads = ReadsWhole send.source source_limit source in
         record {
-          on_store = carried_failed reads Are AtRest calls is false false (whole_unfailed send.source source_limit source (reads_in is.on_store.later) is.on_store.holds_later.reads)
-              (subst (HaveFailed false false) (sym is.on_store.holds_later.writes) (appends_unfailed (outputs_of send code) (due reads Are AtRest calls is) (due_are reads Are AtRest calls is)));
-          on_links = rest_well reads Are calls is;
+          on_store = carried_failed code how feed faithful reads Are AtRest calls is false false (whole_unfailed send.source source_limit source (reads_in is.on_store.later) is.on_store.holds_later.reads)
+              (subst (HaveFailed false false) (sym is.on_store.holds_later.writes)
+              (appends_unfailed (outputs_of send code) (due_of code how feed faithful reads Are AtRest calls is) (due_are code how feed faithful reads Are AtRest calls is)));
+          on_links = rest_well code how feed faithful reads Are calls is;
         }
     failed_with UnknownPattern line calls (unknown, line_is, none) = none_failed-by UnknownPattern calls refl none
     failed_with SamePath line calls (path, pattern, shared, line_is, none) = none_failed-by SamePath calls refl none
@@ -112,34 +84,39 @@ module _ (faithful : Bool) (send : Send) where
       on_store = none_failed calls.on_store lacks.on_store;
       on_links = ⊎_elim (ap (list_any moves.is_fault)) (ap (list_any moves.is_fault)) lacks.on_links;
     }
-    failed_with ReadFault line calls (is, line_is) =
+    failed_with ReadFault line calls (carries, line_is) =
+        let is = carries.carries in
         let reads = ReadsToFault send.source source_limit in
         record {
-          on_store = front_failed reads AtRest true calls is (fault_failed send.source source_limit (reads_in is.on_store.later) is.on_store.holds_later.reads);
-          on_links = rest_well reads IsFrontOf calls is;
+          on_store = front_failed code how feed faithful reads AtRest true calls is (fault_failed send.source source_limit (reads_in is.on_store.later) is.on_store.holds_later.reads);
+          on_links = rest_well code how feed faithful reads IsFrontOf calls is;
         }
-    failed_with TooLong line calls (is, line_is) =
+    failed_with TooLong line calls (carries, line_is) =
+        let is = carries.carries in
         let reads = ReadsPastLimit send.source source_limit in
         record {
-          on_store = front_failed reads AtRest false calls is (reads_unfailed 0 send.source (reads_in is.on_store.later) is.on_store.holds_later.reads.reads);
-          on_links = rest_well reads IsFrontOf calls is;
+          on_store = front_failed code how feed faithful reads AtRest false calls is (reads_unfailed 0 send.source (reads_in is.on_store.later) is.on_store.holds_later.reads.reads);
+          on_links = rest_well code how feed faithful reads IsFrontOf calls is;
         }
-    failed_with LinkFault line calls (is, line_is) =
+    failed_with LinkFault line calls (carries, line_is) =
+        let is = carries.carries in
         let reads = ReadsAny send.source source_limit in
         record {
-          on_store = front_failed reads (Broken faithful send code) false calls is (any-unfailed send.source source_limit (reads_in is.on_store.later) is.on_store.holds_later.reads);
-          on_links = links_fault send code faithful calls is;
+          on_store = front_failed code how feed faithful reads (Breaks faithful code (pattern_in send code)) false calls is (any-unfailed send.source source_limit (reads_in is.on_store.later) is.on_store.holds_later.reads);
+          on_links = links_fault code how feed faithful reads IsFrontOf calls is;
         }
     failed_with WriteFault line calls (inl is, line_is) = record {
-      on_store = creates_of-failed (outputs_of send code) calls.on_store is.on_store;
-      on_links = ap (list_any moves.is_fault) is.on_links;
+      on_store = creates_of-failed (outputs_of send code) calls.on_store is.stops.on_store;
+      on_links = ap (list_any moves.is_fault) is.stops.on_links;
     }
-    failed_with WriteFault line calls (inr is, line_is) =
+    failed_with WriteFault line calls (inr carries, line_is) =
+        let is = carries.carries in
         let reads = ReadsAny send.source source_limit in
         record {
-          on_store = carried_failed reads StopsWithin AtRest calls is false true (any-unfailed send.source source_limit (reads_in is.on_store.later) is.on_store.holds_later.reads)
-              (appends-failed (outputs_of send code) (due reads StopsWithin AtRest calls is) (writes_in is.on_store.later) (due_are reads StopsWithin AtRest calls is) is.on_store.holds_later.writes);
-          on_links = rest_well reads StopsWithin calls is;
+          on_store = carried_failed code how feed faithful reads StopsWithin AtRest calls is false true (any-unfailed send.source source_limit (reads_in is.on_store.later) is.on_store.holds_later.reads)
+              (appends-failed (outputs_of send code) (due_of code how feed faithful reads StopsWithin AtRest calls is) (writes_in is.on_store.later) (due_are code how feed faithful reads StopsWithin AtRest calls is)
+              is.on_store.holds_later.writes);
+          on_links = rest_well code how feed faithful reads StopsWithin calls is;
         }
     failed_with status line calls runs = absurd runs
 

@@ -17,7 +17,8 @@ use Rattle.node_program.specs.declared.code.Code.{Code}
 use Rattle.top_runs.specs.Demo.Runs.{received_before}
 use Rattle.top_runs.specs.Demo.Tally.{Tallies, sum_of}
 use Rattle.command_steps.specs.Filling.{has_bytes}
-use Rattle.source_delivery.specs.Turns.{part_at, received_at, turn_at, turns_before}
+use Rattle.source_delivery.specs.Turns.{Outputs, one_each, part_at, received_at, turn_at, turns_before}
+use Rattle.source_delivery.specs.declared.parts.Parts.TheVariants.{One}
 use Rattle.top_runs.specs.declared.tally.Tally.{Tally}
 
 -- no append fails
@@ -44,22 +45,22 @@ add-assoc : (a b c : ℕ) → a + (b + c) ≡ a + b + c
 add-assoc a b c = omega arith
 
 -- the sum of what is appended in one turn is that of what the sinks get
-module _ (paths : List (List ℕ)) (code : Code) (pattern : ℕ) (came : List Packet) (generation : ℕ) where
+module _ (outputs : Outputs) (code : Code) (pattern : ℕ) (came : List Packet) (generation : ℕ) where
   abbrev calls_at : List ℕ → List Event
-  calls_at places = map (λ (part : Written). appended part.0 part.1) (filter has_bytes (map (part_at paths code pattern came generation) places))
+  calls_at places = map (λ (part : Written). appended part.0 part.1) (filter has_bytes (map (part_at outputs code pattern came generation) places))
 
-  sum-turn : (places : List ℕ) → sum_by sum_of (calls_at places) ≡ sum (flat_map (received_at code pattern came generation) places)
+  sum-turn : (places : List ℕ) → sum_by sum_of (calls_at places) ≡ sum (flat_map (received_at outputs.parts code pattern came generation) places)
   sum-turn [] = refl
   sum-turn (place ∷ places) =
-      let bytes = received_at code pattern came generation place in
-      let rest = flat_map (received_at code pattern came generation) places in
+      let bytes = received_at outputs.parts code pattern came generation place in
+      let rest = flat_map (received_at outputs.parts code pattern came generation) places in
       by_test bytes (nat_lt 0 (length bytes)) refl ∙ ap (λ n. sum bytes + n) (sum-turn places) ∙ sym (sum_by-append (λ byte. byte) bytes rest)
     where
       part : Written
-      part = part_at paths code pattern came generation place
+      part = part_at outputs code pattern came generation place
 
       parts : List Written
-      parts = filter has_bytes (map (part_at paths code pattern came generation) places)
+      parts = filter has_bytes (map (part_at outputs code pattern came generation) places)
 
       by_test : (bytes : List ℕ) (test : Bool) → nat_lt 0 (length bytes) ≡ test
           → sum_by sum_of (map (λ (part : Written). appended part.0 part.1) (cond test ((part.0, bytes) ∷ parts) parts)) ≡ sum bytes + sum_by sum_of (calls_at places)
@@ -71,20 +72,20 @@ module _ (paths : List (List ℕ)) (code : Code) (pattern : ℕ) (came : List Pa
 -- and so it is in all turns
 module _ (paths : List (List ℕ)) (code : Code) (came : List Packet) (each : length paths ≡ length code.net.sinks) where
   sum-turns_at : (generations : List ℕ)
-      → sum_by sum_of (appends_of (map (turn_at paths code 0 came) generations))
-      ≡ sum (flat_map (λ generation. flat_map (received_at code 0 came generation) (range_with_len 0 (length code.net.sinks))) generations)
+      → sum_by sum_of (appends_of (map (turn_at (one_each paths) code 0 came) generations))
+      ≡ sum (flat_map (λ generation. flat_map (received_at One code 0 came generation) (range_with_len 0 (length code.net.sinks))) generations)
   sum-turns_at [] = refl
   sum-turns_at (generation ∷ generations) =
-      let here = calls_at paths code 0 came generation (range_with_len 0 (length paths)) in
-      let bytes = flat_map (received_at code 0 came generation) (range_with_len 0 (length code.net.sinks)) in
-      let rest = flat_map (λ generation. flat_map (received_at code 0 came generation) (range_with_len 0 (length code.net.sinks))) generations in
-      sum_by-append sum_of here (appends_of (map (turn_at paths code 0 came) generations))
-      ∙ ap (λ n. n + sum_by sum_of (appends_of (map (turn_at paths code 0 came) generations)))
-      (sum-turn paths code 0 came generation (range_with_len 0 (length paths)) ∙ ap (λ n. sum (flat_map (received_at code 0 came generation) (range_with_len 0 n))) each)
+      let here = calls_at (one_each paths) code 0 came generation (range_with_len 0 (length paths)) in
+      let bytes = flat_map (received_at One code 0 came generation) (range_with_len 0 (length code.net.sinks)) in
+      let rest = flat_map (λ generation. flat_map (received_at One code 0 came generation) (range_with_len 0 (length code.net.sinks))) generations in
+      sum_by-append sum_of here (appends_of (map (turn_at (one_each paths) code 0 came) generations))
+      ∙ ap (λ n. n + sum_by sum_of (appends_of (map (turn_at (one_each paths) code 0 came) generations)))
+      (sum-turn (one_each paths) code 0 came generation (range_with_len 0 (length paths)) ∙ ap (λ n. sum (flat_map (received_at One code 0 came generation) (range_with_len 0 n))) each)
       ∙ ap (λ n. sum bytes + n) (sum-turns_at generations)
       ∙ sym (sum_by-append (λ byte. byte) bytes rest)
 
-  pub sum-turns : (generations : ℕ) → sum_by sum_of (appends_of (turns_before paths code 0 came generations)) ≡ sum (received_before code came generations)
+  pub sum-turns : (generations : ℕ) → sum_by sum_of (appends_of (turns_before (one_each paths) code 0 came generations)) ≡ sum (received_before code came generations)
   sum-turns generations = sum-turns_at (range_with_len 0 generations)
 
 -- ---- where each sink gets the pieces of a file
@@ -127,18 +128,18 @@ module _ (code : Code) (came : List Packet) (file : List ℕ) (rate : ℕ) where
       ∙ add-assoc (sum x) (sum (concat xs)) (sum (concat ys)) ∙ ap (λ n. n + sum (concat ys)) (sym (sum_by-append (λ byte. byte) x (concat xs)))
 
   -- the sum is that of the pieces, for each sink
-  pub sum-pieces : (generations : ℕ) → ((generation place : ℕ) → generation < generations → place < length code.net.sinks → received_at code 0 came generation place ≡ piece_of file rate generation)
+  pub sum-pieces : (generations : ℕ) → ((generation place : ℕ) → generation < generations → place < length code.net.sinks → received_at One code 0 came generation place ≡ piece_of file rate generation)
       → sum (received_before code came generations) ≡ length code.net.sinks * sum (concat (pieces_before file rate generations))
   sum-pieces zero pieces = let none : 0 ≡ length code.net.sinks * 0 = omega arith in none
   sum-pieces (suc generations) pieces =
       let one : suc generations ≡ generations + 1 = omega arith in
       let sinks = length code.net.sinks in
       let piece = piece_of file rate generations in
-      let all : ℕ → List ℕ = λ generation. flat_map (received_at code 0 came generation) (range_with_len 0 sinks) in
+      let all : ℕ → List ℕ = λ generation. flat_map (received_at One code 0 came generation) (range_with_len 0 sinks) in
       ap (λ n. sum (received_before code came n)) one
       ∙ flat_map-more all generations
       ∙ ap (λ n. n + sum (all generations)) (sum-pieces generations (λ generation place below within. pieces generation place (omega (arith, below)) within))
-      ∙ ap (λ n. sinks * sum (concat (pieces_before file rate generations)) + n) (sum-each piece (received_at code 0 came generations) sinks (λ place within. pieces generations place (omega arith) within))
+      ∙ ap (λ n. sinks * sum (concat (pieces_before file rate generations)) + n) (sum-each piece (received_at One code 0 came generations) sinks (λ place within. pieces generations place (omega arith) within))
       ∙ sym (times-sum sinks (sum (concat (pieces_before file rate generations))) (sum piece))
       ∙ ap (λ n. sinks * (sum (concat (pieces_before file rate generations)) + n)) (sym (sum-one piece))
       ∙ ap (λ n. sinks * n) (sym (concat-append (pieces_before file rate generations) (cond (nat_lt 0 (length piece)) (piece ∷ []) [])))

@@ -6,7 +6,8 @@ ghost use Rattle.lif_outside.specs.Moves.{opened};
 ghost use Rattle.coded_traffic.specs.Traffic.{room_for};
 ghost use Rattle.top_base.specs.Given.{given_in};
 ghost use Rattle.top_runs.specs.Send.Ready.{IsReady};
-ghost use Rattle.top_runs.specs.Send.Runs.{RunsCode, link_calls};
+ghost use Rattle.top_runs.specs.Send.Runs.{RunsCode};
+ghost use Rattle.top_runs.specs.Sending.{link_calls};
 
 use code_checker::Checked;
 use gf_tables::Field;
@@ -39,7 +40,7 @@ pub fn prepare<'a, 'c, F: Field, K: Links>(
         });
     };
     let outputs = output_paths(alloc, words.prefix, net)?;
-    if let Some(path) = shared_path(words.code, words.source, &outputs) {
+    if let Some(path) = shared_path(&[words.code, words.source], &outputs) {
         return Err(Outcome {
             status: Status::SamePath,
             line: Line::same_path(path),

@@ -7,7 +7,8 @@ ghost use Rattle.top_base.specs.Performs.{RunsOn};
 ghost use Rattle.top_runs.specs.Send.Command.{send_command};
 ghost use Rattle.source_delivery.specs.Delivering.{CanCarry};
 ghost use Rattle.top_runs.specs.Send.Ready.{IsReady};
-ghost use Rattle.top_runs.specs.Send.Runs.{RunsCode, Sends, behind_open, outcome_of};
+ghost use Rattle.top_runs.specs.Send.Runs.{RunsCode, Sends};
+ghost use Rattle.top_runs.specs.Sending.{behind_open, outcome_of};
 
 use crate::preparing::prepare;
 use code_checker::Checked;
@@ -18,8 +19,8 @@ use std::alloc::Global;
 use std::thread::Threads;
 use top_base::{FileRefusal, Line, Outcome, SOURCE_LIMIT, SendWords, Status, read_accepted};
 
-// What a source that wasn't sent to its end makes of the command.
-fn interrupted<'a>(fault: StreamFault) -> Outcome<'a>
+/// What a source that wasn't sent to its end makes of the command.
+pub(crate) fn interrupted<'a>(fault: StreamFault) -> Outcome<'a>
     ensures { result ≡ outcome_of fault }
 {
     match fault {
@@ -44,7 +45,7 @@ fn deliver<'a, F: Field + Send + Sync, S: Store, K: Links, G: Gate + Sync, R: Th
     requires can { CanCarry delivery.runner (K.flying links.old) (K.room links.old) }
     ensures { MakesBoth S.Store K.Links store.old store.new links.old links.new
         (λ calls. RunsCode (K.faithful links.old) (given_in words.now) code.now
-        result.status result.line (behind_open (given_in words.now) code.now calls)) }
+        result.status result.line (behind_open words.now.seed code.now calls)) }
 {
     let Ok(()) = delivery.create_outputs(store) else {
         return Outcome::write_fault();

@@ -13,7 +13,7 @@ ghost use Rattle.top_runs.specs.Demo.Given.{IsDemoCode, demo_seed};
 ghost use Rattle.top_runs.specs.Demo.Ready.{IsBegun};
 ghost use Rattle.top_runs.specs.Demo.Runs.{RunsDemo};
 ghost use Rattle.source_delivery.specs.Delivering.{CanCarry};
-ghost use Rattle.top_runs.specs.Send.Runs.{link_calls};
+ghost use Rattle.top_runs.specs.Sending.{link_calls};
 
 use crate::tally::Tally;
 use code_checker::Checked;

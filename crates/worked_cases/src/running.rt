@@ -25,7 +25,7 @@ struct Outside {
 // Whether words may lead to calls on links.
 fn may_carry(words: &[String]) -> bool {
     match words.first() {
-        Some(word) => matches!(word.as_str(), "send" | "demo"),
+        Some(word) => matches!(word.as_str(), "send" | "demo" | "sendtwo"),
         None => false,
     }
 }

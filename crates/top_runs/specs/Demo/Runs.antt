@@ -13,14 +13,15 @@ use Rattle.top_base.specs.declared.status.Status.{Status}
 use Rattle.top_base.specs.declared.status.Status.TheVariants.{Done, LinkFault, OutOfMemory}
 use Rattle.top_runs.specs.Demo.Due.{IsShown}
 use Rattle.top_runs.specs.Demo.Given.{IsDemoCode, blocks_in, demo_seed, source_of}
-use Rattle.source_delivery.specs.Carried.{Breaks, CarriesFirst, IsOver, packets_given}
+use Rattle.source_delivery.specs.Carried.{Breaks, CarriesFirst, IsOver, file_block, packets_given}
 use Rattle.source_delivery.specs.Turns.{received_at}
+use Rattle.source_delivery.specs.declared.parts.Parts.TheVariants.{One}
 
 -- what all sinks of a code get of the first generations, by what came
 
 abbrev pub received_before : Code → List Packet → ℕ → List ℕ
 received_before code came generations =
-    flat_map (λ generation. flat_map (received_at code 0 came generation) (range_with_len 0 (length code.net.sinks))) (range_with_len 0 generations)
+    flat_map (λ generation. flat_map (received_at One code 0 came generation) (range_with_len 0 (length code.net.sinks))) (range_with_len 0 generations)
 
 -- the sum of these bytes, as 64 bits count it
 abbrev pub sum_received : Code → List Packet → ℕ → ℕ
@@ -32,7 +33,7 @@ pub record CarriesSource (faithful : Bool) (demo : Demo) (code : Code) (R : ℕ 
   pub carried : ℕ
   pub on_store : calls.on_store ≡ []
   pub on_links : Then (Are (opened demo_seed (room_for code) ∷ []))
-      (CarriesFirst faithful code 0 (source_of demo) (blocks_in demo code) R carried) calls.on_links
+      (CarriesFirst faithful code 0 (file_block (source_of demo) code.rate) (blocks_in demo code) R carried) calls.on_links
 
 -- All were carried, and the lines say so: with the number of the frames that were put, and the sum of the bytes that the sinks
 -- decode of what came.
@@ -59,7 +60,7 @@ pub record LacksMemory (demo : Demo) (calls : Calls) : Type 0 where
 abbrev pub RunsDemo : Bool → Demo → Status → List ℕ → Calls → Type 0
 RunsDemo faithful demo Done line calls = Demonstrates faithful demo line calls
 RunsDemo faithful demo LinkFault line calls =
-    (code : Code) × CarriesSource faithful demo code (Breaks faithful code 0 (source_of demo) (blocks_in demo code)) calls
+    (code : Code) × CarriesSource faithful demo code (Breaks faithful code 0 (file_block (source_of demo) code.rate) (blocks_in demo code)) calls
     × (line ≡ link_fault_line)
 RunsDemo faithful demo OutOfMemory line calls = LacksMemory demo calls × (line ≡ out_of_memory_line)
 RunsDemo faithful demo status line calls = ⊥

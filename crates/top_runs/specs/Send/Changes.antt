@@ -1,6 +1,5 @@
 -- What `send` leaves, by its outcome: what the files hold, where that is told, and which counts rose.
-use Rattle.std.specs.Prelude.{◌≡◌, ◌⊎◌, ℕ, Bool, true, List, [], Contains, Ok, Option, Some, flat_map, slice_get, unwrap_or}
-use Rattle.std.specs.List.{range_with_len}
+use Rattle.std.specs.Prelude.{◌≡◌, ◌⊎◌, ℕ, Bool, true, List, [], Contains, Ok, Option, Some, slice_get, unwrap_or}
 use Rattle.generation_frame.specs.Blocks.{block_count}
 use Rattle.generation_frame.specs.declared.frame.Packet.{Packet}
 use Rattle.lif_outside.specs.Calls.{Outside}
@@ -21,7 +20,8 @@ use Rattle.top_base.specs.declared.outcome.Outcome.{Outcome}
 use Rattle.top_base.specs.declared.status.Status.{Status}
 use Rattle.top_base.specs.declared.status.Status.TheVariants.{Done, LinkFault, ReadFault, TooLong, WriteFault}
 use Rattle.top_runs.specs.Send.Given.{IsClear, line_of_sent, outputs_of, pattern_in}
-use Rattle.source_delivery.specs.Turns.{received_at}
+use Rattle.source_delivery.specs.declared.parts.Parts.TheVariants.{One}
+use Rattle.top_runs.specs.Sending.{received_by}
 
 -- No file but those of the sinks is changed, and of what stood at the path of each and stands there this holds.
 
@@ -37,16 +37,11 @@ pub record HasCode (send : Send) (code : Code) (before : Outside) : Type 0 where
 abbrev pub HasSource : Send → List ℕ → Outside → Type 0
 HasSource send source before = Told before.files (λ files. HoldsShort source_limit source (files send.source))
 
--- what a sink's file gets of the first generations, by its place: block by block, what the sink decodes of the packets that came
-abbrev pub received_by : Code → ℕ → List Packet → ℕ → ℕ → List ℕ
-received_by code pattern came generations place =
-    flat_map (λ generation. received_at code pattern came generation place) (range_with_len 0 generations)
-
 -- what stands at a path, where it is that of a sink's file, is what this sink decodes of the packets that came, of all blocks of the source
 abbrev pub HoldsReceived : Send → Code → List ℕ → List Packet → List ℕ → Option (List ℕ) → Type 0
 HoldsReceived send code source came path file =
     (place : ℕ) → slice_get (outputs_of send code) place ≡ Some path
-    → Holds (received_by code (pattern_in send code) came (block_count source code.rate) place) file
+    → Holds (received_by One code (pattern_in send code) came (block_count source code.rate) place) file
 
 -- Every sink's file is what the sink decodes of what the links gave, whatever that is. Where the links are faithful it is the source.
 -- They were opened with SEED, and nothing flies on them.

@@ -6,6 +6,8 @@ use Rattle.top_base.specs.Lines.{sent_line}
 use Rattle.top_base.specs.Named.{pattern_named}
 use Rattle.top_base.specs.Paths.{output_paths, shared_path}
 use Rattle.top_base.specs.Words.{Send}
+use Rattle.source_delivery.specs.Turns.{one_each}
+use Rattle.top_runs.specs.Sending.{Sending}
 
 -- the number of the pattern that is named
 abbrev pub pattern_of : Send → Code → Option ℕ
@@ -19,7 +21,11 @@ pattern_in send code = unwrap_or (pattern_of send code) 0
 abbrev pub outputs_of : Send → Code → List (List ℕ)
 outputs_of send code = output_paths send.prefix code.net
 
--- the first of them that is that of an input or of another output
+-- how it is sent: one file for each sink
+abbrev pub sending_of : Send → Code → Sending
+sending_of send code = record { pattern = pattern_in send code; seed = send.seed; outputs = one_each (outputs_of send code) }
+
+-- the first path of an output that is that of an input or of another output
 abbrev pub shared_of : Send → Code → Option (List ℕ)
 shared_of send code = shared_path (send.code ∷ send.source ∷ []) (outputs_of send code)
 

@@ -5,7 +5,7 @@ use net_reader::ReadRefusal;
 use std::alloc::Global;
 
 // Each status with its number.
-fn numbers(alloc: Global) -> [(Status, u8); 21] {
+fn numbers(alloc: Global) -> [(Status, u8); 22] {
     let cycle = LinkList::of(Vec::new(alloc));
     let side = Side::of(Vec::new(alloc));
     let unmet = Side::of(Vec::new(alloc));
@@ -55,6 +55,7 @@ fn numbers(alloc: Global) -> [(Status, u8); 21] {
         (Status::TwinRefused(TwinWhy::UnknownSecond), 22),
         (Status::TwinRefused(TwinWhy::NameTaken), 22),
         (Status::TwinRefused(TwinWhy::TooMany), 22),
+        (Status::BadSplit { rate: 2 }, 23),
     ]
 }
 

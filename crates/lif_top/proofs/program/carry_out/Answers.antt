@@ -10,7 +10,7 @@ use Rattle.top_base.specs.Words.{Command, blind, check, command_of, compile, cut
 use Rattle.top_base.specs.declared.status.Status.TheVariants.{Usage}
 use Rattle.top_runs.specs.Demo.Runs.{RunsDemo}
 use Rattle.lif_top.specs.Promises.{does_form}
-use Rattle.top_runs.specs.Send.Runs.{link_calls}
+use Rattle.top_runs.specs.Sending.{link_calls}
 use Rattle.lif_top.proofs.CommandLaws.{runs_form}
 use Rattle.lif_top.proofs.program.carry_out.Goals as goal
 

@@ -3,16 +3,18 @@ use Rattle.std.proofs.Common.{◌≡◌, ◌∷◌, [], None, Some, inl, inr, ma
 use Rattle.std.specs.Option.{option_map}
 use Rattle.coded_traffic.specs.Traffic.{room_for}
 use Rattle.lif_outside.proofs.CallLaws.{calls_of}
-use Rattle.lif_outside.specs.Files.{AreDistinct}
 use Rattle.lif_outside.specs.Moves.{Move, open_refused}
-use Rattle.top_runs.proofs.GivenLaws.{named_in, outputs_in}
+use Rattle.top_runs.proofs.GivenLaws.{named_in, paths_in}
 use Rattle.top_base.proofs.Exits.{if_err}
 use Rattle.top_base.specs.FileReading as files
 use Rattle.top_base.specs.Given.{given_in}
 use Rattle.top_base.specs.Paths.{shared_path}
 use Rattle.top_base.specs.declared.reading.FileRefusal.TheVariants as refused
 use Rattle.top_runs.specs.Send.Given.{shared_of}
-use Rattle.top_runs.specs.Send.Runs.{RunsCode, link_calls}
+use Rattle.top_runs.specs.Send.Runs.{RunsCode}
+use Rattle.top_runs.specs.Sending.{link_calls}
+use Rattle.source_delivery.specs.Delivery.{paths_of}
+use Rattle.source_delivery.specs.Turns.{one_each}
 use Rattle.top_runs.proofs.preparing.prepare.Goals as goal
 
 -- where no call was made
@@ -26,7 +28,7 @@ returns-in-Some-shared_path-clause-refused g c =
     let words = c.args.words.now in
     let path = c.before.before.in-Some-shared_path.path in
     let named = named_in words c.args.code.now c.code.result.now c.as_bytes.result.now c.pattern_named.result c.code.ensures.value c.as_bytes.ensures.value c.pattern_named.ensures in
-    let outputs = ap (map string_bytes) c.deref.ensures.value ∙ outputs_in words c.args.code.now c.code.result.now _ c.code.ensures.value c.in_ok-outputs.ensures.paths in
+    let outputs = ap (map string_bytes) c.deref.ensures.value ∙ paths_in words c.args.code.now c.code.result.now _ c.code.ensures.value c.in_ok-outputs.ensures.paths in
     let shared : shared_of (given_in words) c.args.code.now ≡ Some path.now =
     sym (sym (ap (option_map (λ one. one.now)) c.in-Some-shared_path.is) ∙ c.shared_path.ensures ∙ ap (shared_path (words.code.now ∷ words.source.now ∷ [])) outputs) in
     calls_of _ [] (g.met.K.Links.no_moves c.args.links.now) (path.now, subst IsSome (sym (named ∙ c.in-Some.is)) refl, shared, c.same_path.ensures, refl)
@@ -49,7 +51,7 @@ pub returns-clause-ready : goal.returns-clause-ready
 returns-clause-ready g c =
     let words = c.args.words.now in
     let named = named_in words c.args.code.now c.code.result.now c.as_bytes.result.now c.pattern_named.result c.code.ensures.value c.as_bytes.ensures.value c.pattern_named.ensures in
-    let paths = outputs_in words c.args.code.now c.code.result.now _ c.code.ensures.value c.in_ok-outputs.ensures.paths in
+    let paths = paths_in words c.args.code.now c.code.result.now _ c.code.ensures.value c.in_ok-outputs.ensures.paths in
     let apart : shared_of (given_in words) c.args.code.now ≡ None =
     sym (sym (ap (option_map (λ one. one.now)) c.in_default-shared_path.is) ∙ c.shared_path.ensures
     ∙ ap (shared_path (words.code.now ∷ words.source.now ∷ [])) (ap (map string_bytes) c.deref.ensures.value ∙ paths)) in
@@ -60,7 +62,7 @@ returns-clause-ready g c =
       pattern = named ∙ c.in-Some.is ∙ ap Some (sym taken.pattern);
       from_start = taken.from_start;
       works = taken.works;
-      paths = ap (λ outputs. map string_bytes outputs.items) taken.outputs ∙ paths;
-      distinct = subst (λ outputs. AreDistinct (map string_bytes outputs.items)) (sym taken.outputs) c.in_ok-outputs.ensures.distinct;
+      outputs = ap (λ parts. record { paths = paths_of c.in_ok-open.field-0; parts = parts }) taken.parts
+          ∙ ap one_each (ap (λ outputs. map string_bytes outputs.items) taken.outputs ∙ paths);
       nothing = taken.nothing;
     }

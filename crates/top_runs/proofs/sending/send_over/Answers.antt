@@ -8,7 +8,8 @@ use Rattle.lif_outside.specs.Moves.{opened}
 use Rattle.top_base.specs.Given.{given_in}
 use Rattle.source_delivery.proofs.DeliveryLaws.{opened-can}
 use Rattle.top_runs.proofs.GivenLaws.{pattern-within}
-use Rattle.top_runs.specs.Send.Runs.{RunsCode, Sends, behind_open, link_calls}
+use Rattle.top_runs.specs.Send.Runs.{RunsCode, Sends}
+use Rattle.top_runs.specs.Sending.{behind_open, link_calls}
 use Rattle.top_runs.proofs.sending.send_over.Goals as goal
 
 pub deliver-requires-clause-can : goal.deliver-requires-clause-can
@@ -29,7 +30,7 @@ returns-in-Ok g c =
     let outcome = c.deliver.result in
     let opening = opened send.seed (room_for code) in
     let same = (g.met.K.Links.accounts (opening ∷ []) _ _ c.in-Ok.ensures.opened).same_faithful in
-    let Delivers : Bool → Calls → Type 0 = λ faithful calls. RunsCode faithful send code outcome.status outcome.line (behind_open send code calls) in
+    let Delivers : Bool → Calls → Type 0 = λ faithful calls. RunsCode faithful send code outcome.status outcome.line (behind_open send.seed code calls) in
     both_behind_move g.met.K.Links.more_moves (Delivers (g.K.Links.faithful c.prepare.new.links)) (Sends (g.K.Links.faithful c.args.links.now) send code outcome) opening
     c.in-Ok.ensures.opened c.deliver.ensures (λ calls is. subst (λ faithful. Delivers faithful calls) same is)
 

@@ -5,6 +5,8 @@ use Rattle.top_runs.proofs.FrameLaws.{count-live}
 use Rattle.node_program.specs.CodeValue.{is_live_in}
 use Rattle.node_program.specs.declared.code.Code.{Code}
 use Rattle.generation_frame.specs.Blocks.{pieces}
+use Rattle.source_delivery.specs.Delivery.{paths_of}
+use Rattle.source_delivery.specs.Turns.{one_each}
 use Rattle.top_runs.proofs.showing.begin.Goals as goal
 
 -- where there was no memory before that, the links weren't called
@@ -26,7 +28,8 @@ returns-clause-begun g c =
       pattern = delivery.pattern;
       from_start = delivery.from_start;
       works = delivery.works;
-      paths = ap (λ outputs. map string_bytes outputs.items) delivery.outputs ∙ c.in_ok-outputs.ensures.empty ∙ ap (λ n. replicate n []) (c.len.ensures ∙ ap (λ (code : Code). length code.net.sinks) c.code-2.ensures.value);
+      outputs = ap (λ parts. record { paths = paths_of c.in_ok-delivery.delivery; parts = parts }) delivery.parts
+          ∙ ap one_each (ap (λ outputs. map string_bytes outputs.items) delivery.outputs ∙ c.in_ok-outputs.ensures.empty ∙ ap (λ n. replicate n []) (c.len.ensures ∙ ap (λ (code : Code). length code.net.sinks) c.code-2.ensures.value));
       nothing = delivery.nothing;
       source = c.in_ok-source.ensures;
       frames = c.frames_of-frames.ensures ∙ ap (λ live. count_by (λ is. is) live * pieces) c.as_slice.ensures

@@ -1,4 +1,4 @@
-use Rattle.std.proofs.Common.{◌≡◌, ◌≤◌, ◌*◌, [], ◌∷◌, ℕ, List, length, refl, sym, ap, subst, subst₂, ◌∙◌, arith}
+use Rattle.std.proofs.Common.{◌≡◌, ◌≤◌, ◌*◌, [], ◌∷◌, ℕ, List, length, replicate, refl, sym, ap, subst, subst₂, ◌∙◌, arith}
 use Rattle.std.proofs.Math.Nat.{div-le_self, mul-le-mul}
 use Rattle.std.proofs.lemmas.List.{length-replicate}
 use Rattle.std.proofs.lemmas.List.FromFn.{length-map-range_with_len}
@@ -16,8 +16,8 @@ use Rattle.source_delivery.proofs.Triples.{subst-three}
 use Rattle.top_runs.specs.Demo.Given.{blocks_in, demo_seed, source_of}
 use Rattle.top_runs.specs.Demo.Runs.{RunsDemo}
 use Rattle.source_delivery.specs.Delivering.{DeliversSome, Interrupts}
-use Rattle.source_delivery.specs.Delivery.{paths_of}
-use Rattle.top_runs.specs.Send.Runs.{link_calls}
+use Rattle.source_delivery.specs.Turns.{one_each}
+use Rattle.top_runs.specs.Sending.{link_calls}
 use Rattle.source_delivery.specs.declared.delivery.DeliveryFault.TheVariants as fault
 use Rattle.top_runs.proofs.showing.run.Goals as goal
 
@@ -55,13 +55,15 @@ returns-in-Ok g c =
     let code = c.args.code.now in
     let faithful = g.K.Links.faithful c.args.links.now in
     let begun = c.requires.begun in
-    let paths = paths_of c.args.begun.delivery in
+    let work = c.args.begun.delivery.runner in
+    let paths = replicate (length code.net.sinks) [] in
     let both = c.in-Ok.ensures.delivered in
     let counts = c.in-Ok.counts in
     let source = c.deref.ensures.value ∙ begun.source in
-    let each : length paths ≡ length code.net.sinks = ap length begun.paths ∙ length-replicate (length code.net.sinks) [] in
-    let some : DeliversSome faithful code 0 paths (source_of demo) (blocks_in demo code) both.calls =
-    same-source begun.at_work begun.pattern source (λ code pattern source. DeliversSome faithful code pattern paths source (block_count source code.rate) both.calls) both.holds in
+    let each : length paths ≡ length code.net.sinks = length-replicate (length code.net.sinks) [] in
+    let some : DeliversSome faithful code 0 (one_each paths) (source_of demo) (blocks_in demo code) both.calls =
+    same-source begun.at_work begun.pattern source (λ code pattern source. DeliversSome faithful code pattern (one_each paths) source (block_count source code.rate) both.calls)
+    (subst (λ outputs. DeliversSome faithful work.code work.pattern outputs c.deref.result.now (block_count c.deref.result.now work.code.rate) both.calls) begun.outputs both.holds) in
     let generations : counts.generations ≡ blocks_in demo code =
     same-source begun.at_work begun.pattern source (λ code pattern source. counts.generations ≡ block_count source code.rate) c.in-Ok.ensures.counts.generations in
     let shows =
@@ -76,13 +78,14 @@ returns-in-Err-Links g c =
     let code = c.args.code.now in
     let faithful = g.K.Links.faithful c.args.links.now in
     let begun = c.requires.begun in
-    let paths = paths_of c.args.begun.delivery in
+    let work = c.args.begun.delivery.runner in
+    let paths = replicate (length code.net.sinks) [] in
     let both = c.in-Err-Links.ensures.interrupted in
     let source = c.deref.ensures.value ∙ begun.source in
-    let each : length paths ≡ length code.net.sinks = ap length begun.paths ∙ length-replicate (length code.net.sinks) [] in
-    let is : Interrupts faithful code 0 paths (source_of demo) fault.Links both.calls =
-    same-source begun.at_work begun.pattern source (λ code pattern source. Interrupts faithful code pattern paths source fault.Links both.calls)
-    (subst (λ why. Interrupts faithful c.args.begun.delivery.runner.code c.args.begun.delivery.runner.pattern paths c.deref.result.now why both.calls) c.in-Err-Links.field-0-is both.holds) in
+    let each : length paths ≡ length code.net.sinks = length-replicate (length code.net.sinks) [] in
+    let is : Interrupts faithful code 0 (one_each paths) (source_of demo) fault.Links both.calls =
+    same-source begun.at_work begun.pattern source (λ code pattern source. Interrupts faithful code pattern (one_each paths) source fault.Links both.calls)
+    (subst₂ (λ why outputs. Interrupts faithful work.code work.pattern outputs c.deref.result.now why both.calls) c.in-Err-Links.field-0-is begun.outputs both.holds) in
     record {
       made = both.calls.on_links;
       lead = both.on_links;
@@ -96,10 +99,11 @@ unreachable-requires g c =
     let code = c.args.code.now in
     let faithful = g.K.Links.faithful c.args.links.now in
     let begun = c.requires.begun in
-    let paths = paths_of c.args.begun.delivery in
+    let work = c.args.begun.delivery.runner in
+    let paths = replicate (length code.net.sinks) [] in
     let both = c.in-Err-Write.ensures.interrupted in
     let source = c.deref.ensures.value ∙ begun.source in
-    let each : length paths ≡ length code.net.sinks = ap length begun.paths ∙ length-replicate (length code.net.sinks) [] in
+    let each : length paths ≡ length code.net.sinks = length-replicate (length code.net.sinks) [] in
     never-unwritten faithful demo code c.requires.made paths each both.calls _ c.carry_source.new.store both.on_store
-    (same-source begun.at_work begun.pattern source (λ code pattern source. Interrupts faithful code pattern paths source fault.Write both.calls)
-    (subst (λ why. Interrupts faithful c.args.begun.delivery.runner.code c.args.begun.delivery.runner.pattern paths c.deref.result.now why both.calls) c.in-Err-Write.field-0-is both.holds))
+    (same-source begun.at_work begun.pattern source (λ code pattern source. Interrupts faithful code pattern (one_each paths) source fault.Write both.calls)
+    (subst₂ (λ why outputs. Interrupts faithful work.code work.pattern outputs c.deref.result.now why both.calls) c.in-Err-Write.field-0-is begun.outputs both.holds))

@@ -6,7 +6,7 @@ use Rattle.top_base.specs.Given.{demo_given_in}
 use Rattle.top_runs.proofs.DemoRuns.{can-carry, not-begun}
 use Rattle.top_runs.specs.Demo.Given.{demo_seed}
 use Rattle.top_runs.specs.Demo.Runs.{RunsDemo}
-use Rattle.top_runs.specs.Send.Runs.{link_calls}
+use Rattle.top_runs.specs.Sending.{link_calls}
 use Rattle.top_runs.proofs.showing.show.Goals as goal
 
 pub run-requires-clause-can : goal.run-requires-clause-can

@@ -36,15 +36,30 @@ const SAID: &[(&[&str], u8, &[u8])] = &[
         0,
         b"sent 92 bytes in 1 generations to 2 sinks\n",
     ),
+    (
+        &["sendtwo", "code", "none", "1", "1", "code", "code", "out"],
+        0,
+        b"sent 92 and 92 bytes in 1 generations to 2 sinks\n",
+    ),
+    (
+        &["sendtwo", "code", "none", "1", "2", "code", "code", "out"],
+        23,
+        b"bad split: rate 2\n",
+    ),
     (&["demo", "4", "2", "67108865"], 2, USAGE),
     (&["check", "code", "code"], 2, USAGE),
     (&["send", "code", "none", "1", "code"], 2, USAGE),
     (&["send", "code", "none", "1", "code", "out", ""], 2, USAGE),
+    (
+        &["sendtwo", "code", "none", "1", "1", "code", "out"],
+        2,
+        USAGE,
+    ),
     (&[], 2, USAGE),
 ];
 
 const USAGE: &[u8] =
-    b"usage: lif order NET | cuts NET | compile NET CODE REPORT | check CODE | send CODE PATTERN SEED SRC PREFIX | demo N K BYTES | migrate OLD NEW | relay CODE PATTERN NODE IN OUT | sink CODE PATTERN SINK IN DST | blind CODE SRC PREFIX LINK | finish DRAFT CODE | twin NET SECOND R1 R2 CODE REPORT\n";
+    b"usage: lif order NET | cuts NET | compile NET CODE REPORT | check CODE | send CODE PATTERN SEED SRC PREFIX | demo N K BYTES | migrate OLD NEW | relay CODE PATTERN NODE IN OUT | sink CODE PATTERN SINK IN DST | blind CODE SRC PREFIX LINK | finish DRAFT CODE | twin NET SECOND R1 R2 CODE REPORT | sendtwo CODE PATTERN SEED R1 SRC1 SRC2 PREFIX\n";
 
 // Whether words end with a number, and that is said.
 fn says<R: Threads + Sync>(

@@ -29,7 +29,7 @@ fn says_alone<R: Threads + Sync>(
 #[test]
 fn words_may_be_missing(rt: HostRuntime) {
     let usage =
-        b"usage: lif order NET | cuts NET | compile NET CODE REPORT | check CODE | send CODE PATTERN SEED SRC PREFIX | demo N K BYTES | migrate OLD NEW | relay CODE PATTERN NODE IN OUT | sink CODE PATTERN SINK IN DST | blind CODE SRC PREFIX LINK | finish DRAFT CODE | twin NET SECOND R1 R2 CODE REPORT\n";
+        b"usage: lif order NET | cuts NET | compile NET CODE REPORT | check CODE | send CODE PATTERN SEED SRC PREFIX | demo N K BYTES | migrate OLD NEW | relay CODE PATTERN NODE IN OUT | sink CODE PATTERN SINK IN DST | blind CODE SRC PREFIX LINK | finish DRAFT CODE | twin NET SECOND R1 R2 CODE REPORT | sendtwo CODE PATTERN SEED R1 SRC1 SRC2 PREFIX\n";
     assert!(rt; says_alone(&rt, rt.alloc(), Words::NotText, 2, usage));
     assert!(rt; says_alone(&rt, rt.alloc(), Words::NoMemory, 13, b"out of memory\n"));
 }

@@ -5,17 +5,17 @@ use Rattle.lif_outside.specs.FileCalls.{appends_of}
 use Rattle.lif_outside.specs.Sequences.{Are}
 use Rattle.relay_runner.specs.Carried.{HasCarriedBy, packets_given}
 use Rattle.source_delivery.specs.Delivering.{IsStill}
-use Rattle.source_delivery.specs.Delivery.{paths_of}
+use Rattle.source_delivery.specs.Delivery.{outputs_in, paths_of}
 use Rattle.source_delivery.specs.Turns.{parts_from}
 use Rattle.source_delivery.proofs.delivery.SourceDelivery.append_block.Given as goal
 
-abbrev pub invariant-loop-sink : goal.invariant-loop-sink
-invariant-loop-sink g l =
+abbrev pub invariant-loop-file : goal.invariant-loop-file
+invariant-loop-file g l =
     let work = l.initial.self.runner in
     record {
       still : IsStill l.initial.self l.self;
       made : (path : List ℕ) → Contains (paths_of l.initial.self) path → g.S.Store.made l.store path;
       calls : (moves : List Move) → HasCarriedBy work moves
           → MakesCalls g.S.Store l.initial.store l.store
-          (Are (appends_of (parts_from (paths_of l.initial.self) work.code work.pattern (packets_given moves) (work.first + l.place) 0 l.sink ∷ [])));
+          (Are (appends_of (parts_from (outputs_in l.initial.self) work.code work.pattern (packets_given moves) (work.first + l.place) 0 l.file ∷ [])));
     }

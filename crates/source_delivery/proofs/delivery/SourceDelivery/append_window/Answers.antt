@@ -8,18 +8,18 @@ use Rattle.lif_outside.specs.FileCalls.{StopsWithin, appends_of}
 use Rattle.relay_runner.specs.Carried.{HasCarriedBy, packets_given}
 use Rattle.relay_runner.specs.Decoding.{HasDecoded}
 use Rattle.relay_runner.specs.Running.{Running}
-use Rattle.source_delivery.proofs.DeliveryLaws.{still-here, still-then}
+use Rattle.source_delivery.proofs.DeliveryLaws.{still-here, still-outputs, still-then}
 use Rattle.source_delivery.proofs.TurnLaws.{turns-next, turns-stopped}
-use Rattle.source_delivery.specs.Delivery.{paths_of}
-use Rattle.source_delivery.specs.Turns.{turn_at, turns_from}
+use Rattle.source_delivery.specs.Delivery.{outputs_in}
+use Rattle.source_delivery.specs.Turns.{Outputs, turn_at, turns_from}
 use Rattle.source_delivery.proofs.delivery.SourceDelivery.append_window.Goals as goal
 
 -- the appends of a turn, and of the first ones, by the runner
-abbrev turn : ℕ → List Move → List (List ℕ) → Running → List Event
-turn place moves paths runner = appends_of (turn_at paths runner.code runner.pattern (packets_given moves) (runner.first + place) ∷ [])
+abbrev turn : ℕ → List Move → Outputs → Running → List Event
+turn place moves outputs runner = appends_of (turn_at outputs runner.code runner.pattern (packets_given moves) (runner.first + place) ∷ [])
 
-abbrev turns : ℕ → List Move → List (List ℕ) → Running → List Event
-turns count moves paths runner = appends_of (turns_from paths runner.code runner.pattern (packets_given moves) runner.first count)
+abbrev turns : ℕ → List Move → Outputs → Running → List Event
+turns count moves outputs runner = appends_of (turns_from outputs runner.code runner.pattern (packets_given moves) runner.first count)
 
 pub loop-place-init : goal.loop-place-init
 loop-place-init g c = record {
@@ -48,22 +48,22 @@ pub returns-in_err-append_block-clause-failed : goal.returns-in_err-append_block
 returns-in_err-append_block-clause-failed g c =
     let self = c.args.self.now in
     let runner = self.runner in
-    let paths = paths_of self in
+    let outputs = outputs_in self in
     let n = c.loop-place.place in
     let was = c.loop-place.invariant in
     on_err c.from_residual.result (λ moves by.
-    let all : List Event = turns c.args.count moves paths runner in
+    let all : List Event = turns c.args.count moves outputs runner in
     calls_then g.met.S.Store.more_calls _ _ (StopsWithin all) (was.calls moves by)
     (c.in_err-append_block.ensures.failed moves (subst (λ runner. HasCarriedBy runner moves) (sym was.still.runner) by))
     (λ first later one other. subst (λ first. StopsWithin all (first ++ later)) (sym one)
-    (turns-stopped paths runner.code runner.pattern (packets_given moves) runner.first c.args.count n c.loop-place-test.true later
-    (subst₂ (λ (runner : Running) outputs. StopsWithin (turn n moves (map string_bytes outputs.items) runner) later) was.still.runner was.still.outputs other))))
+    (turns-stopped outputs runner.code runner.pattern (packets_given moves) runner.first c.args.count n c.loop-place-test.true later
+    (subst₂ (λ (runner : Running) outputs. StopsWithin (turn n moves outputs runner) later) was.still.runner (still-outputs was.still) other))))
 
 pub loop-place-preserved : goal.loop-place-preserved
 loop-place-preserved g c =
     let self = c.args.self.now in
     let runner = self.runner in
-    let paths = paths_of self in
+    let outputs = outputs_in self in
     let n = c.loop-place.place in
     let was = c.loop-place.invariant in
     record {
@@ -73,14 +73,14 @@ loop-place-preserved g c =
           calls_then g.met.S.Store.more_calls _ _ _ (was.calls moves by)
           (c.in_ok-append_block.ensures.appended moves (subst (λ runner. HasCarriedBy runner moves) (sym was.still.runner) by))
           (λ first later one other. ap (λ (events : List Event). events ++ later) one
-          ∙ ap (λ (events : List Event). turns n moves paths runner ++ events)
-          (other ∙ ap (turn n moves (map string_bytes c.loop-place.self.outputs.items)) was.still.runner
-          ∙ ap (λ outputs. turn n moves (map string_bytes outputs.items) runner) was.still.outputs)
-          ∙ turns-next paths runner.code runner.pattern (packets_given moves) runner.first n);
+          ∙ ap (λ (events : List Event). turns n moves outputs runner ++ events)
+          (other ∙ ap (turn n moves (outputs_in c.loop-place.self)) was.still.runner
+          ∙ ap (λ outputs. turn n moves outputs runner) (still-outputs was.still))
+          ∙ turns-next outputs runner.code runner.pattern (packets_given moves) runner.first n);
     }
 
 pub returns-clause-appended : goal.returns-clause-appended
 returns-clause-appended g c = λ moves by.
     let self = c.args.self.now in
     let all : c.loop-place.place ≡ c.args.count = omega arith in
-    calls_weaker _ _ (c.loop-place.invariant.calls moves by) (λ made is. is ∙ ap (λ count. turns count moves (paths_of self) self.runner) all)
+    calls_weaker _ _ (c.loop-place.invariant.calls moves by) (λ made is. is ∙ ap (λ count. turns count moves (outputs_in self) self.runner) all)

@@ -5,7 +5,7 @@ use Rattle.lif_outside.specs.Sequences.{Are}
 use Rattle.source_delivery.proofs.GatherLaws.{behind-all, on_ok_both}
 use Rattle.source_delivery.specs.Carried.{blocks_from}
 use Rattle.source_delivery.specs.Delivering.{DeliversBlocks, IsBehind}
-use Rattle.source_delivery.specs.Delivery.{paths_of}
+use Rattle.source_delivery.specs.Delivery.{outputs_in}
 use Rattle.source_delivery.proofs.delivery.SourceDelivery.carry_full.Goals as goal
 
 pub returns-then-len-window_bytes-clause-delivered : goal.returns-then-len-window_bytes-clause-delivered
@@ -17,7 +17,7 @@ returns-then-len-window_bytes-clause-delivered g c =
       calls = record { on_store = []; on_links = [] };
       on_store = g.met.S.Store.no_calls c.args.store.now;
       on_links = g.met.K.Links.no_moves c.args.links.now;
-      holds = subst (λ n. DeliversBlocks (g.K.Links.faithful c.args.links.now) runner.code runner.pattern (paths_of self) runner.next (blocks_from self.gathered.items runner.code.rate 0 n) Are
+      holds = subst (λ n. DeliversBlocks (g.K.Links.faithful c.args.links.now) runner.code runner.pattern (outputs_in self) runner.next (blocks_from self.gathered.items runner.code.rate 0 n) Are
           (record { on_store = []; on_links = [] })) none (record { on_links = refl; on_store = refl });
     }
 

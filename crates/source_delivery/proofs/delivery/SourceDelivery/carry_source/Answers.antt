@@ -7,12 +7,13 @@ use Rattle.lif_outside.specs.Calls.{Calls}
 use Rattle.lif_outside.specs.Sequences.{Are}
 use Rattle.node_program.specs.declared.code.Code.{Code}
 use Rattle.top_base.proofs.Exits.{if_err}
-use Rattle.source_delivery.proofs.DeliveryLaws.{delivers-some, interrupts-some}
+use Rattle.source_delivery.proofs.DeliveryLaws.{delivers-some, interrupts-some, outputs-same}
 use Rattle.source_delivery.proofs.GatherLaws.{count-left, interrupts-more, left-delivered, left-interrupted}
 use Rattle.source_delivery.proofs.Triples.{subst-three}
 use Rattle.source_delivery.specs.Carried.{blocks_from}
 use Rattle.source_delivery.specs.Delivering.{DeliversBlocks, DeliversSome, HasGoneOn, Interrupts, InterruptsBlocks, InterruptsBytes}
-use Rattle.source_delivery.specs.Delivery.{AreCounts, paths_of}
+use Rattle.source_delivery.specs.Delivery.{AreCounts, outputs_in}
+use Rattle.source_delivery.specs.Turns.{Outputs}
 use Rattle.source_delivery.proofs.delivery.SourceDelivery.carry_source.Given as given
 use Rattle.source_delivery.proofs.delivery.SourceDelivery.carry_source.Goals as goal
 use Rattle.source_delivery.proofs.delivery.SourceDelivery.carry_source.Goals.{After-gather}
@@ -62,16 +63,16 @@ carry_last-requires-clause-made g c κs within = λ path there.
     (c.requires.made path (subst (λ outputs. Contains (map string_bytes outputs.items) path) c.gather.ensures.outputs there))
 
 -- what is said by the runner at hand is said of the one that began
-retold : (D : Bool → Code → ℕ → List (List ℕ) → ℕ → Type 0) (g : given.Over) (c : After-gather g) (gone_on : HasGoneOn c.args.self.now.runner c.gather.new.self.runner)
+retold : (D : Bool → Code → ℕ → Outputs → ℕ → Type 0) (g : given.Over) (c : After-gather g) (gone_on : HasGoneOn c.args.self.now.runner c.gather.new.self.runner)
     → g.K.Links.faithful c.gather.new.links ≡ g.K.Links.faithful c.args.links.now
-    → D (g.K.Links.faithful c.gather.new.links) c.gather.new.self.runner.code c.gather.new.self.runner.pattern (paths_of c.gather.new.self) c.gather.new.self.runner.next
-    → D (g.K.Links.faithful c.args.links.now) c.args.self.now.runner.code c.args.self.now.runner.pattern (paths_of c.args.self.now) (c.args.self.now.runner.next + blocks g c)
+    → D (g.K.Links.faithful c.gather.new.links) c.gather.new.self.runner.code c.gather.new.self.runner.pattern (outputs_in c.gather.new.self) c.gather.new.self.runner.next
+    → D (g.K.Links.faithful c.args.links.now) c.args.self.now.runner.code c.args.self.now.runner.pattern (outputs_in c.args.self.now) (c.args.self.now.runner.next + blocks g c)
 retold D g c gone_on faithful holds =
     let next : c.gather.new.self.runner.next ≡ c.args.self.now.runner.next + blocks g c = omega (arith, gone_on.more) in
-    subst (λ n. D (g.K.Links.faithful c.args.links.now) c.args.self.now.runner.code c.args.self.now.runner.pattern (paths_of c.args.self.now) n) next
-    (subst (λ outputs. D (g.K.Links.faithful c.args.links.now) c.args.self.now.runner.code c.args.self.now.runner.pattern (map string_bytes outputs.items) c.gather.new.self.runner.next)
-    c.gather.ensures.outputs
-    (subst-three (λ faithful code pattern. D faithful code pattern (paths_of c.gather.new.self) c.gather.new.self.runner.next) faithful gone_on.code gone_on.pattern holds))
+    subst (λ n. D (g.K.Links.faithful c.args.links.now) c.args.self.now.runner.code c.args.self.now.runner.pattern (outputs_in c.args.self.now) n) next
+    (subst (λ outputs. D (g.K.Links.faithful c.args.links.now) c.args.self.now.runner.code c.args.self.now.runner.pattern outputs c.gather.new.self.runner.next)
+    (outputs-same c.gather.new.self c.args.self.now c.gather.ensures.outputs c.gather.ensures.parts)
+    (subst-three (λ faithful code pattern. D faithful code pattern (outputs_in c.gather.new.self) c.gather.new.self.runner.next) faithful gone_on.code gone_on.pattern holds))
 
 pub returns-in_err-gather-clause-interrupted : goal.returns-in_err-gather-clause-interrupted
 returns-in_err-gather-clause-interrupted g c =
@@ -83,10 +84,10 @@ returns-in_err-gather-clause-interrupted g c =
     if_err _ c.from_residual.result why c.from_residual.ensures.1
     (both_weaker _ _ c.in_err-gather.ensures.interrupted
     (λ calls is.
-    interrupts-some faithful runner.code runner.pattern (paths_of self) c.requires.can.known c.args.source.now why calls
-    (interrupts-more faithful runner.code runner.pattern (paths_of self) 0 c.args.source.now (length c.args.source.now / capacity runner.code.rate) (block_count c.args.source.now runner.code.rate) (omega arith) why calls
-    (subst (λ bytes. InterruptsBytes faithful runner.code runner.pattern (paths_of self) 0 bytes (length bytes / capacity runner.code.rate) why calls) (all g at)
-    (subst (λ n. InterruptsBytes faithful runner.code runner.pattern (paths_of self) n (bytes g at) (length (bytes g at) / capacity runner.code.rate) why calls) c.requires.from_start is)))))
+    interrupts-some faithful runner.code runner.pattern (outputs_in self) c.requires.can.known c.args.source.now why calls
+    (interrupts-more faithful runner.code runner.pattern (outputs_in self) 0 c.args.source.now (length c.args.source.now / capacity runner.code.rate) (block_count c.args.source.now runner.code.rate) (omega arith) why calls
+    (subst (λ bytes. InterruptsBytes faithful runner.code runner.pattern (outputs_in self) 0 bytes (length bytes / capacity runner.code.rate) why calls) (all g at)
+    (subst (λ n. InterruptsBytes faithful runner.code runner.pattern (outputs_in self) n (bytes g at) (length (bytes g at) / capacity runner.code.rate) why calls) c.requires.from_start is)))))
 
 pub returns-in_err-carry_last-clause-interrupted : goal.returns-in_err-carry_last-clause-interrupted
 returns-in_err-carry_last-clause-interrupted g c =
@@ -101,15 +102,15 @@ returns-in_err-carry_last-clause-interrupted g c =
     let why = c.in_err-carry_last.field-0.0 in
     let kept = (g.met.K.Links.accounts first.delivered.calls.on_links _ _ first.delivered.on_links).same_faithful in
     if_err _ c.from_residual-in_err-carry_last.result why c.from_residual-in_err-carry_last.ensures.1
-    (both_then g.met.S.Store.more_calls g.met.K.Links.more_moves (DeliversBlocks faithful code runner.pattern (paths_of self) runner.next (blocks_from (bytes g at) code.rate 0 k) Are) _
-    (Interrupts faithful code runner.pattern (paths_of self) c.args.source.now why) first.delivered c.in_err-carry_last.ensures.interrupted
+    (both_then g.met.S.Store.more_calls g.met.K.Links.more_moves (DeliversBlocks faithful code runner.pattern (outputs_in self) runner.next (blocks_from (bytes g at) code.rate 0 k) Are) _
+    (Interrupts faithful code runner.pattern (outputs_in self) c.args.source.now why) first.delivered c.in_err-carry_last.ensures.interrupted
     (λ front later some broken.
-    interrupts-some faithful code runner.pattern (paths_of self) c.requires.can.known c.args.source.now why _
-    (subst (λ bytes. InterruptsBytes faithful code runner.pattern (paths_of self) 0 bytes (block_count bytes code.rate) why (record { on_store = front.on_store ++ later.on_store; on_links = front.on_links ++ later.on_links })) (all g at)
-    (subst (λ n. InterruptsBytes faithful code runner.pattern (paths_of self) n (bytes g at) (block_count (bytes g at) code.rate) why (record { on_store = front.on_store ++ later.on_store; on_links = front.on_links ++ later.on_links })) c.requires.from_start
-    (left-interrupted faithful code runner.pattern (paths_of self) c.requires.can.known runner.next k (block_count left code.rate) (bytes g at) left first.gathered front later some
+    interrupts-some faithful code runner.pattern (outputs_in self) c.requires.can.known c.args.source.now why _
+    (subst (λ bytes. InterruptsBytes faithful code runner.pattern (outputs_in self) 0 bytes (block_count bytes code.rate) why (record { on_store = front.on_store ++ later.on_store; on_links = front.on_links ++ later.on_links })) (all g at)
+    (subst (λ n. InterruptsBytes faithful code runner.pattern (outputs_in self) n (bytes g at) (block_count (bytes g at) code.rate) why (record { on_store = front.on_store ++ later.on_store; on_links = front.on_links ++ later.on_links })) c.requires.from_start
+    (left-interrupted faithful code runner.pattern (outputs_in self) c.requires.can.known runner.next k (block_count left code.rate) (bytes g at) left first.gathered front later some
     (block_count (bytes g at) code.rate) (omega (arith, count-left code k (bytes g at) left first.gathered)) why
-    (retold (λ faithful code pattern paths n. InterruptsBlocks faithful code pattern paths n (blocks_from left code.rate 0 (block_count left code.rate)) why later) g at first.gone_on kept broken))))))
+    (retold (λ faithful code pattern outputs n. InterruptsBlocks faithful code pattern outputs n (blocks_from left code.rate 0 (block_count left code.rate)) why later) g at first.gone_on kept broken))))))
 
 pub returns-clause-counts : goal.returns-clause-counts
 returns-clause-counts g c =
@@ -126,13 +127,13 @@ returns-clause-delivered g c =
     let k = blocks g at in
     let left = c.gather.new.self.gathered.items in
     let kept = (g.met.K.Links.accounts first.delivered.calls.on_links _ _ first.delivered.on_links).same_faithful in
-    both_then g.met.S.Store.more_calls g.met.K.Links.more_moves (DeliversBlocks faithful code runner.pattern (paths_of self) runner.next (blocks_from (bytes g at) code.rate 0 k) Are) _
-    (DeliversSome faithful code runner.pattern (paths_of self) c.args.source.now (block_count c.args.source.now code.rate)) first.delivered c.in_ok-carry_last.ensures.delivered
+    both_then g.met.S.Store.more_calls g.met.K.Links.more_moves (DeliversBlocks faithful code runner.pattern (outputs_in self) runner.next (blocks_from (bytes g at) code.rate 0 k) Are) _
+    (DeliversSome faithful code runner.pattern (outputs_in self) c.args.source.now (block_count c.args.source.now code.rate)) first.delivered c.in_ok-carry_last.ensures.delivered
     (λ front later some more.
     let calls : Calls = record { on_store = front.on_store ++ later.on_store; on_links = front.on_links ++ later.on_links } in
-    delivers-some faithful code runner.pattern (paths_of self) c.requires.can.known c.args.source.now calls
-    (subst (λ bytes. DeliversBlocks faithful code runner.pattern (paths_of self) 0 (blocks_from bytes code.rate 0 (block_count bytes code.rate)) Are calls) (all g at)
-    (subst (λ n. DeliversBlocks faithful code runner.pattern (paths_of self) n (blocks_from (bytes g at) code.rate 0 (block_count (bytes g at) code.rate)) Are calls) c.requires.from_start
-    (subst (λ n. DeliversBlocks faithful code runner.pattern (paths_of self) runner.next (blocks_from (bytes g at) code.rate 0 n) Are calls) (count-left code k (bytes g at) left first.gathered)
-    (left-delivered faithful code runner.pattern (paths_of self) c.requires.can.known runner.next k (block_count left code.rate) (bytes g at) left first.gathered front later some
-    (retold (λ faithful code pattern paths n. DeliversBlocks faithful code pattern paths n (blocks_from left code.rate 0 (block_count left code.rate)) Are later) g at first.gone_on kept more))))))
+    delivers-some faithful code runner.pattern (outputs_in self) c.requires.can.known c.args.source.now calls
+    (subst (λ bytes. DeliversBlocks faithful code runner.pattern (outputs_in self) 0 (blocks_from bytes code.rate 0 (block_count bytes code.rate)) Are calls) (all g at)
+    (subst (λ n. DeliversBlocks faithful code runner.pattern (outputs_in self) n (blocks_from (bytes g at) code.rate 0 (block_count (bytes g at) code.rate)) Are calls) c.requires.from_start
+    (subst (λ n. DeliversBlocks faithful code runner.pattern (outputs_in self) runner.next (blocks_from (bytes g at) code.rate 0 n) Are calls) (count-left code k (bytes g at) left first.gathered)
+    (left-delivered faithful code runner.pattern (outputs_in self) c.requires.can.known runner.next k (block_count left code.rate) (bytes g at) left first.gathered front later some
+    (retold (λ faithful code pattern outputs n. DeliversBlocks faithful code pattern outputs n (blocks_from left code.rate 0 (block_count left code.rate)) Are later) g at first.gone_on kept more))))))

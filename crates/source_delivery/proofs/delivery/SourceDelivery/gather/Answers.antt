@@ -9,12 +9,13 @@ use Rattle.lif_outside.specs.Sequences.{Are}
 use Rattle.node_program.specs.declared.code.Code.{Code}
 use Rattle.relay_runner.specs.Running.{Running}
 use Rattle.top_base.proofs.Exits.{if_err}
-use Rattle.source_delivery.proofs.DeliveryLaws.{numbered}
+use Rattle.source_delivery.proofs.DeliveryLaws.{numbered, outputs-same}
 use Rattle.source_delivery.proofs.GatherLaws.{behind-more, behind-none, behind-then, left-delivered, range-behind, rest-behind, rest-interrupted, same-blocks}
 use Rattle.source_delivery.proofs.Triples.{subst-three}
 use Rattle.source_delivery.specs.Carried.{blocks_from}
 use Rattle.source_delivery.specs.Delivering.{CanCarry, DeliversBlocks, InterruptsBlocks, InterruptsBytes, IsBehind}
-use Rattle.source_delivery.specs.Delivery.{paths_of}
+use Rattle.source_delivery.specs.Delivery.{outputs_in}
+use Rattle.source_delivery.specs.Turns.{Outputs}
 use Rattle.source_delivery.proofs.delivery.SourceDelivery.gather.Given as given
 use Rattle.source_delivery.proofs.delivery.SourceDelivery.gather.Goals as goal
 use Rattle.source_delivery.proofs.delivery.SourceDelivery.gather.Goals.{After-fill-place}
@@ -27,6 +28,7 @@ loop-place-init g c =
     record {
       gone_on = record { code = refl; pattern = refl; more = omega arith };
       outputs = refl;
+      parts = refl;
       window = refl;
       within = omega arith;
       room = c.requires.room;
@@ -39,7 +41,7 @@ loop-place-init g c =
         calls = record { on_store = []; on_links = [] };
         on_store = g.met.S.Store.no_calls c.args.store.now;
         on_links = g.met.K.Links.no_moves c.args.links.now;
-        holds = subst (λ n. DeliversBlocks (g.K.Links.faithful c.args.links.now) runner.code runner.pattern (paths_of self) runner.next (blocks_from (self.gathered.items ++ []) runner.code.rate 0 n) Are
+        holds = subst (λ n. DeliversBlocks (g.K.Links.faithful c.args.links.now) runner.code runner.pattern (outputs_in self) runner.next (blocks_from (self.gathered.items ++ []) runner.code.rate 0 n) Are
             (record { on_store = []; on_links = [] })) none (record { on_links = refl; on_store = refl });
       };
     }
@@ -72,26 +74,26 @@ left g c =
 
 -- the blocks that were delivered before are of them too
 some : (g : given.Over) (c : After-fill-place g) (faithful : Bool) (calls : Calls)
-    → DeliversBlocks faithful c.args.self.now.runner.code c.args.self.now.runner.pattern (paths_of c.args.self.now) c.args.self.now.runner.next (blocks_from (before g c) c.args.self.now.runner.code.rate 0 (blocks g c)) Are calls
-    → DeliversBlocks faithful c.args.self.now.runner.code c.args.self.now.runner.pattern (paths_of c.args.self.now) c.args.self.now.runner.next (blocks_from (now g c) c.args.self.now.runner.code.rate 0 (blocks g c)) Are calls
+    → DeliversBlocks faithful c.args.self.now.runner.code c.args.self.now.runner.pattern (outputs_in c.args.self.now) c.args.self.now.runner.next (blocks_from (before g c) c.args.self.now.runner.code.rate 0 (blocks g c)) Are calls
+    → DeliversBlocks faithful c.args.self.now.runner.code c.args.self.now.runner.pattern (outputs_in c.args.self.now) c.args.self.now.runner.next (blocks_from (now g c) c.args.self.now.runner.code.rate 0 (blocks g c)) Are calls
 some g c faithful calls is =
     let runner = c.args.self.now.runner in
     let part = slice_range c.args.bytes.now c.loop-place.place c.fill-place.result in
-    subst (λ those. DeliversBlocks faithful runner.code runner.pattern (paths_of c.args.self.now) runner.next those Are calls)
+    subst (λ those. DeliversBlocks faithful runner.code runner.pattern (outputs_in c.args.self.now) runner.next those Are calls)
     (sym (ap (λ bytes. blocks_from bytes runner.code.rate 0 (blocks g c)) (grown g c) ∙ same-blocks runner.code.rate (blocks g c) (before g c) c.loop-place.self.gathered.items part c.loop-place.invariant.left)) is
 
 -- what is said by the runner at hand is said of the one that began
-retold : (D : Bool → Code → ℕ → List (List ℕ) → ℕ → Type 0) (g : given.Over) (c : After-fill-place g)
-    → D (g.K.Links.faithful c.loop-place.links) c.fill-place.new.self.runner.code c.fill-place.new.self.runner.pattern (paths_of c.fill-place.new.self) c.fill-place.new.self.runner.next
-    → D (g.K.Links.faithful c.args.links.now) c.args.self.now.runner.code c.args.self.now.runner.pattern (paths_of c.args.self.now) (c.args.self.now.runner.next + blocks g c)
+retold : (D : Bool → Code → ℕ → Outputs → ℕ → Type 0) (g : given.Over) (c : After-fill-place g)
+    → D (g.K.Links.faithful c.loop-place.links) c.fill-place.new.self.runner.code c.fill-place.new.self.runner.pattern (outputs_in c.fill-place.new.self) c.fill-place.new.self.runner.next
+    → D (g.K.Links.faithful c.args.links.now) c.args.self.now.runner.code c.args.self.now.runner.pattern (outputs_in c.args.self.now) (c.args.self.now.runner.next + blocks g c)
 retold D g c holds =
     let was = c.loop-place.invariant in
     let next : c.loop-place.self.runner.next ≡ c.args.self.now.runner.next + blocks g c = omega (arith, was.gone_on.more) in
-    subst (λ n. D (g.K.Links.faithful c.args.links.now) c.args.self.now.runner.code c.args.self.now.runner.pattern (paths_of c.args.self.now) n)
+    subst (λ n. D (g.K.Links.faithful c.args.links.now) c.args.self.now.runner.code c.args.self.now.runner.pattern (outputs_in c.args.self.now) n)
     (ap (λ (runner : Running). runner.next) (same g c) ∙ next)
-    (subst (λ outputs. D (g.K.Links.faithful c.args.links.now) c.args.self.now.runner.code c.args.self.now.runner.pattern (map string_bytes outputs.items) c.fill-place.new.self.runner.next)
-    (c.fill-place.ensures.outputs ∙ was.outputs)
-    (subst-three (λ faithful code pattern. D faithful code pattern (paths_of c.fill-place.new.self) c.fill-place.new.self.runner.next) was.faithful
+    (subst (λ outputs. D (g.K.Links.faithful c.args.links.now) c.args.self.now.runner.code c.args.self.now.runner.pattern outputs c.fill-place.new.self.runner.next)
+    (outputs-same c.fill-place.new.self c.args.self.now (c.fill-place.ensures.outputs ∙ was.outputs) (c.fill-place.ensures.parts ∙ was.parts))
+    (subst-three (λ faithful code pattern. D faithful code pattern (outputs_in c.fill-place.new.self) c.fill-place.new.self.runner.next) was.faithful
     (ap (λ (runner : Running). runner.code) (same g c) ∙ was.gone_on.code) (ap (λ (runner : Running). runner.pattern) (same g c) ∙ was.gone_on.pattern) holds))
 
 pub carry_full-requires-clause-can : goal.carry_full-requires-clause-can
@@ -122,7 +124,7 @@ loop-place-preserved g c =
     let self = c.args.self.now in
     let runner = self.runner in
     let rate = runner.code.rate in
-    let paths = paths_of self in
+    let outputs = outputs_in self in
     let faithful = g.K.Links.faithful c.args.links.now in
     let was = c.loop-place.invariant in
     let after = c.in_ok-carry_full.ensures in
@@ -141,6 +143,7 @@ loop-place-preserved g c =
         more = omega (arith, same_next, was.gone_on.more, after.gone_on.more);
       };
       outputs = c.carry_full.ensures.outputs ∙ c.fill-place.ensures.outputs ∙ was.outputs;
+      parts = c.carry_full.ensures.parts ∙ c.fill-place.ensures.parts ∙ was.parts;
       window = c.carry_full.ensures.window ∙ same_window;
       within = c.fill-place.ensures.within;
       room = subst₂ (λ window rate. vec_len c.carry_full.new.self.gathered < window * capacity rate) same_window same_rate after.room;
@@ -151,12 +154,12 @@ loop-place-preserved g c =
           (behind-then rate done k (now g at) filled.gathered.items c.carry_full.new.self.gathered.items (left g at)
           (subst (λ rate. IsBehind rate k filled.gathered.items c.carry_full.new.self.gathered.items) same_rate after.gathered));
       calls = subst (λ n. MakesBoth g.S.Store g.K.Links c.args.store.now c.carry_full.new.store c.args.links.now c.carry_full.new.links
-          (DeliversBlocks faithful runner.code runner.pattern paths runner.next (blocks_from (now g at) rate 0 n) Are)) count
-          (both_then g.met.S.Store.more_calls g.met.K.Links.more_moves (DeliversBlocks faithful runner.code runner.pattern paths runner.next (blocks_from (before g at) rate 0 done) Are) _
-          (DeliversBlocks faithful runner.code runner.pattern paths runner.next (blocks_from (now g at) rate 0 (done + k)) Are) was.calls delivered
+          (DeliversBlocks faithful runner.code runner.pattern outputs runner.next (blocks_from (now g at) rate 0 n) Are)) count
+          (both_then g.met.S.Store.more_calls g.met.K.Links.more_moves (DeliversBlocks faithful runner.code runner.pattern outputs runner.next (blocks_from (before g at) rate 0 done) Are) _
+          (DeliversBlocks faithful runner.code runner.pattern outputs runner.next (blocks_from (now g at) rate 0 (done + k)) Are) was.calls delivered
           (λ front later is more.
-          left-delivered faithful runner.code runner.pattern paths c.requires.can.known runner.next done k (now g at) filled.gathered.items (left g at) front later (some g at faithful front is)
-          (retold (λ faithful code pattern paths n. DeliversBlocks faithful code pattern paths n (blocks_from filled.gathered.items code.rate 0 k) Are later) g at more)));
+          left-delivered faithful runner.code runner.pattern outputs c.requires.can.known runner.next done k (now g at) filled.gathered.items (left g at) front later (some g at faithful front is)
+          (retold (λ faithful code pattern outputs n. DeliversBlocks faithful code pattern outputs n (blocks_from filled.gathered.items code.rate 0 k) Are later) g at more)));
     }
 
 pub returns-in_err-carry_full-clause-interrupted : goal.returns-in_err-carry_full-clause-interrupted
@@ -165,7 +168,7 @@ returns-in_err-carry_full-clause-interrupted g c =
     let self = c.args.self.now in
     let runner = self.runner in
     let rate = runner.code.rate in
-    let paths = paths_of self in
+    let outputs = outputs_in self in
     let faithful = g.K.Links.faithful c.args.links.now in
     let was = c.loop-place.invariant in
     let filled = c.fill-place.new.self in
@@ -176,13 +179,13 @@ returns-in_err-carry_full-clause-interrupted g c =
     let all : now g at ++ rest ≡ self.gathered.items ++ c.args.bytes.now = sym (rest-behind self.gathered.items c.args.bytes.now c.fill-place.result) in
     let full : filled.window * capacity rate ≤ length filled.gathered.items = subst (λ rate. filled.window * capacity rate ≤ length filled.gathered.items) same_rate c.in_err-carry_full.ensures.full in
     if_err _ c.from_residual.result why c.from_residual.ensures.1
-    (both_then g.met.S.Store.more_calls g.met.K.Links.more_moves (DeliversBlocks faithful runner.code runner.pattern paths runner.next (blocks_from (before g at) rate 0 done) Are) _
-    (InterruptsBytes faithful runner.code runner.pattern paths runner.next (self.gathered.items ++ c.args.bytes.now) (length (self.gathered.items ++ c.args.bytes.now) / capacity rate) why)
+    (both_then g.met.S.Store.more_calls g.met.K.Links.more_moves (DeliversBlocks faithful runner.code runner.pattern outputs runner.next (blocks_from (before g at) rate 0 done) Are) _
+    (InterruptsBytes faithful runner.code runner.pattern outputs runner.next (self.gathered.items ++ c.args.bytes.now) (length (self.gathered.items ++ c.args.bytes.now) / capacity rate) why)
     was.calls c.in_err-carry_full.ensures.interrupted
     (λ front later is broken.
-    subst (λ bytes. InterruptsBytes faithful runner.code runner.pattern paths runner.next bytes (length bytes / capacity rate) why (record { on_store = front.on_store ++ later.on_store; on_links = front.on_links ++ later.on_links })) all
-    (rest-interrupted faithful runner.code runner.pattern paths c.requires.can.known runner.next done filled.window (now g at) filled.gathered.items rest (left g at) full front later why (some g at faithful front is)
-    (retold (λ faithful code pattern paths n. InterruptsBlocks faithful code pattern paths n (blocks_from filled.gathered.items code.rate 0 filled.window) why later) g at broken))))
+    subst (λ bytes. InterruptsBytes faithful runner.code runner.pattern outputs runner.next bytes (length bytes / capacity rate) why (record { on_store = front.on_store ++ later.on_store; on_links = front.on_links ++ later.on_links })) all
+    (rest-interrupted faithful runner.code runner.pattern outputs c.requires.can.known runner.next done filled.window (now g at) filled.gathered.items rest (left g at) full front later why (some g at faithful front is)
+    (retold (λ faithful code pattern outputs n. InterruptsBlocks faithful code pattern outputs n (blocks_from filled.gathered.items code.rate 0 filled.window) why later) g at broken))))
 
 -- the end of the bytes
 whole : (front bytes : List ℕ) (place : ℕ) → place ≤ length bytes → length bytes ≤ place → front ++ take place bytes ≡ front ++ bytes
@@ -199,6 +202,6 @@ returns-clause-delivered g c =
     let self = c.args.self.now in
     let runner = self.runner in
     both_weaker _ _ c.loop-place.invariant.calls
-    (λ calls is. subst (λ bytes. DeliversBlocks (g.K.Links.faithful c.args.links.now) runner.code runner.pattern (paths_of self) runner.next
+    (λ calls is. subst (λ bytes. DeliversBlocks (g.K.Links.faithful c.args.links.now) runner.code runner.pattern (outputs_in self) runner.next
     (blocks_from bytes runner.code.rate 0 (c.loop-place.self.runner.next - runner.next)) Are calls)
     (whole self.gathered.items c.args.bytes.now c.loop-place.place c.loop-place.invariant.within c.loop-place-test.false) is)

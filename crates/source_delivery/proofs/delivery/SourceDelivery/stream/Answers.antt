@@ -10,12 +10,14 @@ use Rattle.lif_outside.specs.Sequences.{Are}
 use Rattle.node_program.specs.declared.code.Code.{Code}
 use Rattle.top_base.proofs.Exits.{if_err}
 use Rattle.top_base.specs.FileReading.{ReadsNext}
+use Rattle.source_delivery.proofs.DeliveryLaws.{outputs-same}
 use Rattle.source_delivery.proofs.Triples.{subst-three}
 use Rattle.source_delivery.proofs.StreamingLaws.{IsOnStream, both_then_store, on-all, on-broken, on-carried, on-failed, on-long, on-none, on-read, on-stopped}
 use Rattle.source_delivery.specs.Carried.{blocks_from}
 use Rattle.source_delivery.specs.Delivering.{DeliversBlocks, InterruptsBlocks, InterruptsBytes, IsBehind}
-use Rattle.source_delivery.specs.Delivery.{AreCounts, paths_of}
+use Rattle.source_delivery.specs.Delivery.{AreCounts, outputs_in, paths_of}
 use Rattle.source_delivery.specs.Streaming.{StopsStreaming, StreamsAll}
+use Rattle.source_delivery.specs.Turns.{Outputs}
 use Rattle.source_delivery.specs.declared.streaming.StreamFault.TheVariants as stream
 use Rattle.source_delivery.proofs.delivery.SourceDelivery.stream.Given as given
 use Rattle.source_delivery.proofs.delivery.SourceDelivery.stream.Goals as goal
@@ -30,6 +32,7 @@ loop-at-init g c =
     record {
       gone_on = record { code = refl; pattern = refl; more = omega arith };
       outputs = refl;
+      parts = refl;
       window = refl;
       within = omega arith;
       room = omega (arith, self.gathered.ok.0, ap length c.requires.nothing, one-le-mul self.some_blocks size);
@@ -41,20 +44,20 @@ loop-at-init g c =
         on_store = g.met.S.Store.no_calls c.args.store.now;
         on_links = g.met.K.Links.no_moves c.args.links.now;
         holds =
-            subst (λ gathered. IsOnStream (g.K.Links.faithful c.args.links.now) runner.code runner.pattern (paths_of self) c.args.path.now 0 runner.next gathered (record { on_store = []; on_links = [] })) (sym c.requires.nothing)
-            (subst (λ n. IsOnStream (g.K.Links.faithful c.args.links.now) runner.code runner.pattern (paths_of self) c.args.path.now 0 n [] (record { on_store = []; on_links = [] })) (sym c.requires.from_start)
-            (on-none (g.K.Links.faithful c.args.links.now) runner.code runner.pattern (paths_of self) c.requires.can.known c.args.path.now));
+            subst (λ gathered. IsOnStream (g.K.Links.faithful c.args.links.now) runner.code runner.pattern (outputs_in self) c.args.path.now 0 runner.next gathered (record { on_store = []; on_links = [] })) (sym c.requires.nothing)
+            (subst (λ n. IsOnStream (g.K.Links.faithful c.args.links.now) runner.code runner.pattern (outputs_in self) c.args.path.now 0 n [] (record { on_store = []; on_links = [] })) (sym c.requires.from_start)
+            (on-none (g.K.Links.faithful c.args.links.now) runner.code runner.pattern (outputs_in self) c.requires.can.known c.args.path.now));
       };
     }
 
 -- what is said by the runner at hand is said of the one that began
-retold : (D : Bool → Code → ℕ → List (List ℕ) → Type 0) (g : given.Over) (c : After-read_next g)
-    → D (g.K.Links.faithful c.loop-at.links) c.loop-at.self.runner.code c.loop-at.self.runner.pattern (paths_of c.loop-at.self)
-    → D (g.K.Links.faithful c.args.links.now) c.args.self.now.runner.code c.args.self.now.runner.pattern (paths_of c.args.self.now)
+retold : (D : Bool → Code → ℕ → Outputs → Type 0) (g : given.Over) (c : After-read_next g)
+    → D (g.K.Links.faithful c.loop-at.links) c.loop-at.self.runner.code c.loop-at.self.runner.pattern (outputs_in c.loop-at.self)
+    → D (g.K.Links.faithful c.args.links.now) c.args.self.now.runner.code c.args.self.now.runner.pattern (outputs_in c.args.self.now)
 retold D g c holds =
     let was = c.loop-at.invariant in
-    subst (λ outputs. D (g.K.Links.faithful c.args.links.now) c.args.self.now.runner.code c.args.self.now.runner.pattern (map string_bytes outputs.items)) was.outputs
-    (subst-three (λ faithful code pattern. D faithful code pattern (paths_of c.loop-at.self)) was.faithful was.gone_on.code was.gone_on.pattern holds)
+    subst (λ outputs. D (g.K.Links.faithful c.args.links.now) c.args.self.now.runner.code c.args.self.now.runner.pattern outputs) (outputs-same c.loop-at.self c.args.self.now was.outputs was.parts)
+    (subst-three (λ faithful code pattern. D faithful code pattern (outputs_in c.loop-at.self)) was.faithful was.gone_on.code was.gone_on.pattern holds)
 
 -- the bytes that came
 abbrev bytes : (g : given.Over) (c : After-read_next g) → ℕ → List ℕ
@@ -63,7 +66,7 @@ bytes g c count = take count c.read_next.new.chunk
 -- the stream with what came
 abbrev Came : (g : given.Over) (c : After-read_next g) → ℕ → Calls → Type 0
 Came g c count =
-    IsOnStream (g.K.Links.faithful c.args.links.now) c.args.self.now.runner.code c.args.self.now.runner.pattern (paths_of c.args.self.now) c.args.path.now
+    IsOnStream (g.K.Links.faithful c.args.links.now) c.args.self.now.runner.code c.args.self.now.runner.pattern (outputs_in c.args.self.now) c.args.path.now
     (c.loop-at.at + length (bytes g c count)) c.loop-at.self.runner.next (c.loop-at.self.gathered.items ++ bytes g c count)
 
 came : (g : given.Over) (c : After-read_next g) (count : ℕ) → c.read_next.result ≡ Ok count → 0 < length (bytes g c count)
@@ -75,7 +78,7 @@ came g c count is some =
     both_then_store g.S.Store g.K.Links g.met.S.Store.more_calls _ _ (Came g c count) c.loop-at.invariant.calls last
     (λ calls events on reads.
     subst (λ events. Came g c count (record { on_store = calls.on_store ++ events; on_links = calls.on_links })) (sym reads.2)
-    (on-read (g.K.Links.faithful c.args.links.now) runner.code runner.pattern (paths_of self) c.requires.can.known c.args.path.now c.loop-at.at c.loop-at.self.runner.next c.loop-at.self.gathered.items calls on reads.0
+    (on-read (g.K.Links.faithful c.args.links.now) runner.code runner.pattern (outputs_in self) c.requires.can.known c.args.path.now c.loop-at.at c.loop-at.self.runner.next c.loop-at.self.gathered.items calls on reads.0
     (bytes g c count) some))
 
 -- what was made stays made
@@ -91,11 +94,11 @@ returns-in_default-clause-stopped g c =
     let runner = self.runner in
     let faithful = g.K.Links.faithful c.args.links.now in
     let last = subst (λ r. MakesCalls g.S.Store c.loop-at.store c.read_next.new.store (ReadsNext c.args.path.now c.loop-at.at c.read_next.new.chunk r)) c.in_default.is c.read_next.ensures.reads in
-    let Stops : Calls → Type 0 = StopsStreaming faithful runner.code runner.pattern (paths_of self) c.args.path.now c.args.limit stream.Read in
+    let Stops : Calls → Type 0 = StopsStreaming faithful runner.code runner.pattern (outputs_in self) c.args.path.now c.args.limit stream.Read in
     both_then_store g.S.Store g.K.Links g.met.S.Store.more_calls _ _ Stops c.loop-at.invariant.calls last
     (λ calls events on reads.
     subst (λ events. Stops (record { on_store = calls.on_store ++ events; on_links = calls.on_links })) (sym reads.1)
-    (on-failed faithful runner.code runner.pattern (paths_of self) c.requires.can.known c.args.path.now c.loop-at.at c.loop-at.self.runner.next c.loop-at.self.gathered.items calls on c.args.limit reads.0
+    (on-failed faithful runner.code runner.pattern (outputs_in self) c.requires.can.known c.args.path.now c.loop-at.at c.loop-at.self.runner.next c.loop-at.self.gathered.items calls on c.args.limit reads.0
     (omega arith)))
 
 pub carry_last-requires-clause-made : goal.carry_last-requires-clause-made
@@ -114,7 +117,7 @@ ended g c count is none =
 -- the stream and the read that gave nothing
 abbrev Ended : (g : given.Over) (c : After-read_next g) → Calls → Type 0
 Ended g c calls =
-    (front : Calls) × (room : ℕ) × (0 < room) × IsOnStream (g.K.Links.faithful c.args.links.now) c.args.self.now.runner.code c.args.self.now.runner.pattern (paths_of c.args.self.now) c.args.path.now
+    (front : Calls) × (room : ℕ) × (0 < room) × IsOnStream (g.K.Links.faithful c.args.links.now) c.args.self.now.runner.code c.args.self.now.runner.pattern (outputs_in c.args.self.now) c.args.path.now
     c.loop-at.at c.loop-at.self.runner.next c.loop-at.self.gathered.items front × (calls ≡ record { on_store = front.on_store ++ read c.args.path.now c.loop-at.at room [] ∷ []; on_links = front.on_links })
 
 at-end : (g : given.Over) (c : After-read_next g) (count : ℕ) → c.read_next.result ≡ Ok count → count ≡ 0
@@ -131,15 +134,15 @@ returns-then-count-eq0-clause-all g c =
     let runner = self.runner in
     let code = runner.code in
     let faithful = g.K.Links.faithful c.args.links.now in
-    let All : Calls → Type 0 = StreamsAll faithful code runner.pattern (paths_of self) c.args.path.now c.args.limit c.counts.result in
+    let All : Calls → Type 0 = StreamsAll faithful code runner.pattern (outputs_in self) c.args.path.now c.args.limit c.counts.result in
     let left = c.loop-at.self.gathered.items in
     let same : c.carry_last.new.self.runner.code ≡ code = c.in_ok-carry_last.ensures.code ∙ c.loop-at.invariant.gone_on.code in
     both_then g.met.S.Store.more_calls g.met.K.Links.more_moves (Ended g at) _ All (at-end g at c.in-Ok.count c.in-Ok.is c.if-count-eq0.true) c.in_ok-carry_last.ensures.delivered
     (λ first later over more.
     subst (λ (first : Calls). All (record { on_store = first.on_store ++ later.on_store; on_links = first.on_links ++ later.on_links })) (sym over.4)
-    (on-all faithful code runner.pattern (paths_of self) c.requires.can.known c.args.path.now c.loop-at.at c.loop-at.self.runner.next left over.0 over.3 c.args.limit over.1 over.2 (omega arith) later c.counts.result
+    (on-all faithful code runner.pattern (outputs_in self) c.requires.can.known c.args.path.now c.loop-at.at c.loop-at.self.runner.next left over.0 over.3 c.args.limit over.1 over.2 (omega arith) later c.counts.result
     (subst (λ code. AreCounts code over.3.file c.counts.result) same (c.counts.ensures over.3.file over.3.long))
-    (retold (λ faithful code pattern paths. DeliversBlocks faithful code pattern paths c.loop-at.self.runner.next (blocks_from left code.rate 0 (block_count left code.rate)) Are later) g at more)))
+    (retold (λ faithful code pattern outputs. DeliversBlocks faithful code pattern outputs c.loop-at.self.runner.next (blocks_from left code.rate 0 (block_count left code.rate)) Are later) g at more)))
 
 pub returns-in_err-carry_last-clause-stopped : goal.returns-in_err-carry_last-clause-stopped
 returns-in_err-carry_last-clause-stopped g c =
@@ -149,14 +152,14 @@ returns-in_err-carry_last-clause-stopped g c =
     let code = runner.code in
     let faithful = g.K.Links.faithful c.args.links.now in
     let why = c.in_err-carry_last.field-0.0 in
-    let Stops : Calls → Type 0 = StopsStreaming faithful code runner.pattern (paths_of self) c.args.path.now c.args.limit (stream.Sinks why) in
+    let Stops : Calls → Type 0 = StopsStreaming faithful code runner.pattern (outputs_in self) c.args.path.now c.args.limit (stream.Sinks why) in
     let left = c.loop-at.self.gathered.items in
     if_err _ c.from_residual.result (stream.Sinks why) c.from_residual.ensures.1
     (both_then g.met.S.Store.more_calls g.met.K.Links.more_moves (Ended g at) _ Stops (at-end g at c.in-Ok.count c.in-Ok.is c.if-count-eq0.true) c.in_err-carry_last.ensures.interrupted
     (λ first later over broken.
     subst (λ (first : Calls). Stops (record { on_store = first.on_store ++ later.on_store; on_links = first.on_links ++ later.on_links })) (sym over.4)
-    (on-broken faithful code runner.pattern (paths_of self) c.requires.can.known c.args.path.now c.loop-at.at c.loop-at.self.runner.next left over.0 over.3 c.args.limit over.1 over.2 (omega arith) later why
-    (retold (λ faithful code pattern paths. InterruptsBlocks faithful code pattern paths c.loop-at.self.runner.next (blocks_from left code.rate 0 (block_count left code.rate)) why later) g at broken))))
+    (on-broken faithful code runner.pattern (outputs_in self) c.requires.can.known c.args.path.now c.loop-at.at c.loop-at.self.runner.next left over.0 over.3 c.args.limit over.1 over.2 (omega arith) later why
+    (retold (λ faithful code pattern outputs. InterruptsBlocks faithful code pattern outputs c.loop-at.self.runner.next (blocks_from left code.rate 0 (block_count left code.rate)) why later) g at broken))))
 
 pub loop-at-preserved : goal.loop-at-preserved
 loop-at-preserved g c =
@@ -165,7 +168,7 @@ loop-at-preserved g c =
     let runner = self.runner in
     let code = runner.code in
     let rate = code.rate in
-    let paths = paths_of self in
+    let outputs = outputs_in self in
     let faithful = g.K.Links.faithful c.args.links.now in
     let was = c.loop-at.invariant in
     let after = c.in_ok-gather.ensures in
@@ -187,6 +190,7 @@ loop-at-preserved g c =
         more = omega (arith, was.gone_on.more, after.gone_on.more);
       };
       outputs = c.gather.ensures.outputs ∙ was.outputs;
+      parts = c.gather.ensures.parts ∙ was.parts;
       window = c.gather.ensures.window ∙ was.window;
       within = c.in-Ok.ensures.past;
       room = subst₂ (λ window rate. vec_len c.gather.new.self.gathered < window * capacity rate) was.window same_rate after.room;
@@ -194,14 +198,14 @@ loop-at-preserved g c =
       faithful = (g.met.K.Links.accounts delivered.calls.on_links _ _ delivered.on_links).same_faithful ∙ was.faithful;
       made = λ path there. (g.met.S.Store.accounts delivered.calls.on_store _ _ delivered.on_store).counts.still_made path
           (made g at path (subst (λ outputs. Contains (map string_bytes outputs.items) path) (sym was.outputs) there));
-      calls = subst (λ n. MakesBoth g.S.Store g.K.Links c.args.store.now c.gather.new.store c.args.links.now c.gather.new.links (IsOnStream faithful code runner.pattern paths c.args.path.now n c.gather.new.self.runner.next now)) next
-          (subst (λ n. MakesBoth g.S.Store g.K.Links c.args.store.now c.gather.new.store c.args.links.now c.gather.new.links (IsOnStream faithful code runner.pattern paths c.args.path.now (c.loop-at.at + length here) n now)) sum
-          (both_then g.met.S.Store.more_calls g.met.K.Links.more_moves (Came g at count) _ (IsOnStream faithful code runner.pattern paths c.args.path.now (c.loop-at.at + length here) (before + k) now)
+      calls = subst (λ n. MakesBoth g.S.Store g.K.Links c.args.store.now c.gather.new.store c.args.links.now c.gather.new.links (IsOnStream faithful code runner.pattern outputs c.args.path.now n c.gather.new.self.runner.next now)) next
+          (subst (λ n. MakesBoth g.S.Store g.K.Links c.args.store.now c.gather.new.store c.args.links.now c.gather.new.links (IsOnStream faithful code runner.pattern outputs c.args.path.now (c.loop-at.at + length here) n now)) sum
+          (both_then g.met.S.Store.more_calls g.met.K.Links.more_moves (Came g at count) _ (IsOnStream faithful code runner.pattern outputs c.args.path.now (c.loop-at.at + length here) (before + k) now)
           (came g at count c.in-Ok.is some) delivered
           (λ front later on more.
-          on-carried faithful code runner.pattern paths c.requires.can.known c.args.path.now (c.loop-at.at + length here) before (c.loop-at.self.gathered.items ++ here) front on k now later
+          on-carried faithful code runner.pattern outputs c.requires.can.known c.args.path.now (c.loop-at.at + length here) before (c.loop-at.self.gathered.items ++ here) front on k now later
           (subst (λ rate. IsBehind rate k (c.loop-at.self.gathered.items ++ here) now) same_rate after.gathered)
-          (retold (λ faithful code pattern paths. DeliversBlocks faithful code pattern paths before (blocks_from (c.loop-at.self.gathered.items ++ here) code.rate 0 k) Are later) g at more))));
+          (retold (λ faithful code pattern outputs. DeliversBlocks faithful code pattern outputs before (blocks_from (c.loop-at.self.gathered.items ++ here) code.rate 0 k) Are later) g at more))));
     }
 
 pub returns-in_err-gather-clause-stopped : goal.returns-in_err-gather-clause-stopped
@@ -210,7 +214,7 @@ returns-in_err-gather-clause-stopped g c =
     let self = c.args.self.now in
     let runner = self.runner in
     let code = runner.code in
-    let paths = paths_of self in
+    let outputs = outputs_in self in
     let faithful = g.K.Links.faithful c.args.links.now in
     let count = c.in-Ok.count in
     let here = bytes g at count in
@@ -218,13 +222,13 @@ returns-in_err-gather-clause-stopped g c =
     let some : 0 < length here = omega (arith, long) in
     let why = c.in_err-gather.field-0.0 in
     let before = c.loop-at.self.runner.next in
-    let Stops : Calls → Type 0 = StopsStreaming faithful code runner.pattern paths c.args.path.now c.args.limit (stream.Sinks why) in
+    let Stops : Calls → Type 0 = StopsStreaming faithful code runner.pattern outputs c.args.path.now c.args.limit (stream.Sinks why) in
     if_err _ c.from_residual-in_err-gather.result (stream.Sinks why) c.from_residual-in_err-gather.ensures.1
     (both_then g.met.S.Store.more_calls g.met.K.Links.more_moves (Came g at count) _ Stops (came g at count c.in-Ok.is some) c.in_err-gather.ensures.interrupted
     (λ front later on broken.
-    on-stopped faithful code runner.pattern paths c.requires.can.known c.args.path.now (c.loop-at.at + length here) before (c.loop-at.self.gathered.items ++ here) front on c.args.limit
+    on-stopped faithful code runner.pattern outputs c.requires.can.known c.args.path.now (c.loop-at.at + length here) before (c.loop-at.self.gathered.items ++ here) front on c.args.limit
     (omega (arith, long)) (omega (arith, long, c.in-Ok.ensures.past)) later why
-    (retold (λ faithful code pattern paths. InterruptsBytes faithful code pattern paths before (c.loop-at.self.gathered.items ++ here) (length (c.loop-at.self.gathered.items ++ here) / capacity code.rate) why later) g at broken)))
+    (retold (λ faithful code pattern outputs. InterruptsBytes faithful code pattern outputs before (c.loop-at.self.gathered.items ++ here) (length (c.loop-at.self.gathered.items ++ here) / capacity code.rate) why later) g at broken)))
 
 pub returns-clause-stopped : goal.returns-clause-stopped
 returns-clause-stopped g c =
@@ -232,4 +236,4 @@ returns-clause-stopped g c =
     let runner = self.runner in
     let past : c.loop-at.at ≡ c.args.limit + 1 = omega (arith, c.loop-at.invariant.within, c.loop-at-test.false) in
     both_weaker _ _ c.loop-at.invariant.calls
-    (λ calls on. on-long (g.K.Links.faithful c.args.links.now) runner.code runner.pattern (paths_of self) c.requires.can.known c.args.path.now c.loop-at.at c.loop-at.self.runner.next c.loop-at.self.gathered.items calls on c.args.limit past)
+    (λ calls on. on-long (g.K.Links.faithful c.args.links.now) runner.code runner.pattern (outputs_in self) c.requires.can.known c.args.path.now c.loop-at.at c.loop-at.self.runner.next c.loop-at.self.gathered.items calls on c.args.limit past)

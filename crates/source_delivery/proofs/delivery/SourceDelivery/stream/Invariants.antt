@@ -3,7 +3,7 @@ use Rattle.generation_frame.specs.Blocks.{capacity}
 use Rattle.lif_outside.specs.Calls.{MakesBoth}
 use Rattle.source_delivery.proofs.StreamingLaws.{IsOnStream}
 use Rattle.source_delivery.specs.Delivering.{CanCarry, HasGoneOn}
-use Rattle.source_delivery.specs.Delivery.{paths_of}
+use Rattle.source_delivery.specs.Delivery.{outputs_in, paths_of}
 use Rattle.source_delivery.proofs.delivery.SourceDelivery.stream.Given as goal
 
 -- what was read so far was carried and delivered, but for what is gathered
@@ -14,6 +14,7 @@ invariant-loop-at g l =
     record {
       gone_on : HasGoneOn work l.self.runner;
       outputs : l.self.outputs ≡ l.fn.self.outputs;
+      parts : l.self.parts ≡ l.fn.self.parts;
       window : l.self.window ≡ l.fn.self.window;
       within : l.at ≤ l.limit + 1;
       room : vec_len l.self.gathered < l.fn.self.window * capacity work.code.rate;
@@ -21,7 +22,7 @@ invariant-loop-at g l =
       faithful : bound.faithful l.links ≡ bound.faithful l.initial.links;
       made : (path : List ℕ) → Contains (paths_of l.fn.self) path → g.S.Store.made l.store path;
       calls : MakesBoth g.S.Store bound l.initial.store l.store l.initial.links l.links
-          (IsOnStream (bound.faithful l.initial.links) work.code work.pattern (paths_of l.fn.self) l.path l.at l.self.runner.next l.self.gathered.items);
+          (IsOnStream (bound.faithful l.initial.links) work.code work.pattern (outputs_in l.fn.self) l.path l.at l.self.runner.next l.self.gathered.items);
     }
 
 abbrev pub decreases-loop-at : goal.decreases-loop-at
