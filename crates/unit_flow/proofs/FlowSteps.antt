@@ -13,8 +13,9 @@ use Rattle.net_model.specs.declared.Demand.{Demand}
 use Rattle.net_model.specs.declared.net.Net.{Net}
 use Rattle.unit_flow.specs.Conservation.{IsConserved}
 use Rattle.unit_flow.proofs.ConservationLaws.{IsConserved-none, IsFlowNetwork-flow_network}
+use Rattle.unit_flow.specs.FlowOf.{HasValue}
 use Rattle.unit_flow.specs.Reaching.{IsReached}
-use Rattle.unit_flow.specs.Residual.{AreStates, ResidualNetwork, is_used}
+use Rattle.unit_flow.specs.Residual.{HasStates, IsUnused, ResidualNetwork, is_used}
 use Rattle.unit_flow.specs.Searching.{HasPlaces}
 use Rattle.unit_flow.proofs.SideLaws.{IsGreatestFlow-reached, IsLeastSide-reached, length-paths_reached}
 use Rattle.unit_flow.specs.Decomposition.{paths_of}
@@ -30,13 +31,20 @@ pub record IsFlowing (net : Net) (demand : Demand) (residual : ResidualNetwork) 
   pub places : HasPlaces (length net.nodes) search
   pub ticks : RoseByAtMost (2 * length net.links * value) old new
 
--- before the first search nothing is
-pub flowing_start : (net : Net) (demand : Demand) (residual : ResidualNetwork) (search : Search) (old : ℕ) → demand.sink < length net.sinks → residual.demand ≡ demand
-    → AreStates (flow_network net demand) residual.states → ((link : ℕ) → is_used residual.states link ≡ false) → HasPlaces (length net.nodes) search → IsFlowing net demand residual search 0 old old
-flowing_start net demand residual search old within kept are unused places =
+-- where no link is used, they are one of no unit
+pub HasValue-none : (net : Net) (demand : Demand) (residual : ResidualNetwork) → demand.sink < length net.sinks → residual.demand ≡ demand → HasStates net demand residual → IsUnused residual → HasValue net residual 0
+HasValue-none net demand residual within kept are unused =
+    let Conserved : Demand → Type 0 = λ wanted. IsConserved (flow_network net wanted) residual.states 0 in
+    subst Conserved (sym kept) (IsConserved-none (flow_network net demand) residual.states (IsFlowNetwork-flow_network net demand within) are unused)
+
+-- before the first search they are a flow already
+pub flowing_start : (net : Net) (demand : Demand) (residual : ResidualNetwork) (search : Search) (value old : ℕ) → residual.demand ≡ demand → HasValue net residual value → HasPlaces (length net.nodes) search
+    → IsFlowing net demand residual search value old old
+flowing_start net demand residual search value old kept conserved places =
+    let Conserved : Demand → Type 0 = λ wanted. IsConserved (flow_network net wanted) residual.states value in
     record {
       kept = kept;
-      conserved = IsConserved-none (flow_network net demand) residual.states (IsFlowNetwork-flow_network net demand within) are unused;
+      conserved = subst Conserved kept conserved;
       places = places;
       ticks = record { not_below = omega arith; not_above = omega arith };
     }

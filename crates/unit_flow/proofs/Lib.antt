@@ -11,4 +11,5 @@ pub mod ReachSteps
 pub mod CursorSteps
 pub mod TakingSteps
 pub mod BackSteps
+pub mod BeginSteps
 pub mod FlowSteps

@@ -6,5 +6,6 @@ pub mod FlowOf
 pub mod Reaching
 pub mod Visits
 pub mod Greatest
+pub mod Begun
 pub mod Sides
 pub mod Searching

@@ -73,7 +73,7 @@ fn go_back(net: &Net, residual: &mut Residual, search: &Search, entered: &mut [b
 }
 
 // Makes a used link free, or else used, and gives the node from which it could be passed.
-fn turn(net: &Net, residual: &mut Residual, entered: &mut [bool], link: u32) -> u32
+pub(crate) fn turn(net: &Net, residual: &mut Residual, entered: &mut [bool], link: u32) -> u32
     requires states { length residual.old.states ≡ length net.now.links }
     requires link { link < length net.now.links }
     requires entered { AreEntered net.now.links (length net.now.nodes) residual.old.states

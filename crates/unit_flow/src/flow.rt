@@ -3,10 +3,12 @@ ghost use Rattle.std.specs.Prelude.{◌<◌, IfOk, IsTrue, length};
 ghost use Rattle.link_chains.specs.Wiring.{IsWiring};
 ghost use Rattle.net_model.specs.Flows.{IsLeastSide, flow_network};
 ghost use Rattle.net_model.specs.Lists.{is_rising};
+ghost use Rattle.unit_flow.specs.Begun.{IsFlowToSink};
 ghost use Rattle.unit_flow.specs.Greatest.{CrossesAsOften, IsGreatest, first_links};
 ghost use Rattle.unit_flow.specs.Visits.{AreFewVisits};
 
 use crate::augmenting::augment;
+use crate::beginning::use_paths;
 use crate::decomposing::decompose;
 use crate::residual::Residual;
 use crate::search::Search;
@@ -70,10 +72,35 @@ pub fn max_flow_along<L: Ledger>(
     ensures as_many { IfOk result (CrossesAsOften net.now demand) }
     ensures ticks { AreFewVisits net.now demand steps.old steps.new }
 {
+    let none = ItemList::of(Vec::new(alloc));
+    max_flow_from(alloc, net, wiring, demand, &none, steps)
+}
+
+/// The same as [`max_flow_along`], begun from paths that share no link: a flow to the sink of the demand under
+/// whatever pattern. Those of them of which no link failed are a flow of the demand already, to which searches add,
+/// mostly one that finds no more.
+pub fn max_flow_from<L: Ledger>(
+    alloc: Global,
+    net: &Net,
+    wiring: &Wiring,
+    demand: Demand,
+    begun: &Paths,
+    steps: &mut Steps<L>,
+) -> Result<Flow, AllocError>
+    requires wiring { IsWiring net.now.links (length net.now.nodes) wiring.now }
+    requires sink { demand.sink < length net.now.sinks }
+    requires pattern { demand.pattern < length net.now.patterns }
+    requires begun { IsFlowToSink net.now demand begun.now }
+    ensures greatest { IfOk result (IsGreatest net.now demand) }
+    ensures rising { IfOk result (λ flow. IsTrue (is_rising (first_links flow.paths))) }
+    ensures side { IfOk result (λ flow. IsLeastSide (flow_network net.now demand) flow.side) }
+    ensures as_many { IfOk result (CrossesAsOften net.now demand) }
+    ensures ticks { AreFewVisits net.now demand steps.old steps.new }
+{
     let mut residual = Residual::start(alloc, net, demand)?;
     let mut search = Search::new(alloc, net.nodes.len())?;
     let mut entered = vec![in alloc; false; net.nodes.len()]?;
-    let mut value = 0;
+    let mut value = use_paths(net, &mut residual, &mut entered, begun);
     while augment(net, wiring, &mut residual, &mut search, &mut entered, steps) {
         value += 1;
     }

@@ -9,6 +9,7 @@
 #![tactic(auto)]
 
 mod augmenting;
+mod beginning;
 mod decomposing;
 mod flow;
 mod residual;

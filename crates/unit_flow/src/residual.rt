@@ -61,7 +61,7 @@ impl Residual {
     }
 
     // Whether a link is free.
-    fn is_free(&self, link: u32) -> bool
+    pub(crate) fn is_free(&self, link: u32) -> bool
         requires { link < length self.now.states }
         ensures { result ≡ is_free self.now.states link }
     {

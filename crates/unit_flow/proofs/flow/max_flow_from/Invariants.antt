@@ -1,7 +1,7 @@
 use Rattle.std.proofs.Common.{◌-◌, length}
 use Rattle.unit_flow.specs.Residual.{AreEntered}
 use Rattle.unit_flow.proofs.FlowSteps.{IsFlowing}
-use Rattle.unit_flow.proofs.flow.max_flow_along.Given as goal
+use Rattle.unit_flow.proofs.flow.max_flow_from.Given as goal
 
 -- the used links are a flow of so many units, and the nodes that they lead into are marked
 abbrev pub invariant-loop-value : goal.invariant-loop-value
