@@ -33,6 +33,14 @@ pub(crate) fn first_failure<G: Gate + Sync, R: Threads + Sync>(
     first_of_batches(code, batches, made)
 }
 
+/// The first demand that fails, and where. All are one batch, done by the thread that calls.
+pub(crate) fn first_of_all(alloc: Global, code: &Code) -> Result<Option<Failure>, AllocError>
+    ensures { IfOk result (IsFirstIn code.now 0 (demand_count code.now.net)) }
+{
+    let count = demands(&code.net) as u32;
+    first_between(alloc, &RowTables::new(), code, 0, count)
+}
+
 // The first failure of a batch, which enters the gate before.
 fn enter_batch<G: Gate>(
     alloc: Global,

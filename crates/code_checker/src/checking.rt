@@ -1,11 +1,14 @@
 //! The check of a code.
 ghost use Rattle.std.specs.Prelude.{◌≡◌, ◌≢◌, IfOk, IfErr, OnOk};
 ghost use Rattle.cut_bound.specs.Cuts.{IsWithinCuts};
+ghost use Rattle.net_model.specs.Demands.{demand_count};
 ghost use Rattle.node_program.specs.Decoding.{IsAccepted};
 ghost use Rattle.code_checker.specs.Checking.{IsRefusal};
+ghost use Rattle.code_checker.specs.First.{IsFirstIn};
 
-use crate::batches::first_failure;
+use crate::batches::{first_failure, first_of_all};
 use crate::checked::{CheckRefusal, Checked, Refused};
+use crate::products::Failure;
 use lif_outside::Gate;
 use node_program::Code;
 use std::alloc::{AllocError, Global};
@@ -32,8 +35,52 @@ pub fn check<G: Gate + Sync, R: Threads + Sync>(
         (λ refused. refused.why ≢ CheckRefusal.OutOfMemory → ¬ IsAccepted code) }
 {
     match first_failure(rt, alloc, &code, gate) {
-        Ok(None) => Ok(Checked::of(code)),
-        Ok(Some(failure)) => Err(Refused {
+        Ok(first) => verdict(code, first),
+        Err(AllocError) => Err(unchecked(code)),
+    }
+}
+
+/// The same on one thread, that of the call: all demands are one batch, and no gate is entered.
+pub fn check_alone(alloc: Global, code: Code) -> Result<Checked, Refused>
+    ensures checked { IfOk result (λ checked. checked ≡ code) }
+    ensures accepted { OnOk result (IsAccepted code) }
+    ensures cuts { OnOk result (IsWithinCuts code.net code.rate) }
+    ensures returned { IfErr result (λ refused. refused.code ≡ code) }
+    ensures refused { IfErr result (λ refused. IsRefusal code refused.why) }
+    ensures rejected { IfErr result
+        (λ refused. refused.why ≢ CheckRefusal.OutOfMemory → ¬ IsAccepted code) }
+{
+    match first_of_all(alloc, &code) {
+        Ok(first) => verdict(code, first),
+        Err(AllocError) => Err(unchecked(code)),
+    }
+}
+
+// A code that there was too little memory to check.
+fn unchecked(code: Code) -> Refused
+    ensures code { result.code ≡ code }
+    ensures why { result.why ≡ CheckRefusal.OutOfMemory }
+{
+    Refused {
+        code,
+        why: CheckRefusal::OutOfMemory,
+    }
+}
+
+// What becomes of a code by its first failure.
+fn verdict(code: Code, first: Option<Failure>) -> Result<Checked, Refused>
+    requires { IsFirstIn code 0 (demand_count code.net) first }
+    ensures checked { IfOk result (λ checked. checked ≡ code) }
+    ensures accepted { OnOk result (IsAccepted code) }
+    ensures cuts { OnOk result (IsWithinCuts code.net code.rate) }
+    ensures returned { IfErr result (λ refused. refused.code ≡ code) }
+    ensures refused { IfErr result (λ refused. IsRefusal code refused.why) }
+    ensures rejected { IfErr result
+        (λ refused. refused.why ≢ CheckRefusal.OutOfMemory → ¬ IsAccepted code) }
+{
+    match first {
+        None => Ok(Checked::of(code)),
+        Some(failure) => Err(Refused {
             code,
             why: CheckRefusal::NotIdentity {
                 demand: failure.demand,
@@ -41,10 +88,6 @@ pub fn check<G: Gate + Sync, R: Threads + Sync>(
                 column: failure.column,
                 found: failure.found,
             },
-        }),
-        Err(AllocError) => Err(Refused {
-            code,
-            why: CheckRefusal::OutOfMemory,
         }),
     }
 }

@@ -183,6 +183,16 @@ impl DueSums {
         Accepted::New
     }
 
+    /// Whether a piece of an input has come.
+    pub fn has_input(&self, generation: usize, input: u32, piece: u8) -> bool
+        requires generation { generation < length self.now.held }
+        requires input { input < self.now.inputs }
+        requires piece { piece < pieces }
+        ensures { result ≡ has_input self.now generation input piece }
+    {
+        self.tables[generation].held.is_held(input, piece)
+    }
+
     /// The bytes of a piece of an input that has come.
     pub fn input(&self, generation: usize, input: u32, piece: u8) -> &[u8; 128]
         requires generation { generation < length self.now.held }

@@ -6,21 +6,21 @@ use Rattle.code_checker.proofs.BatchSteps.{accepted}
 use Rattle.code_checker.proofs.CheckingLaws.{FailsFirst-refuses}
 use Rattle.code_checker.specs.First.{IsFirstIn}
 use Rattle.code_checker.specs.declared.products.Failure.{Failure}
-use Rattle.code_checker.proofs.checking.check.Goals as goal
+use Rattle.code_checker.proofs.checking.verdict.Goals as goal
 
 pub of-requires : goal.of-requires
-of-requires g c =
+of-requires c =
     let First : Option Failure → Type 0 = IsFirstIn c.args.code 0 (demand_count c.args.code.net) in
-    accepted c.args.code (subst First c.in-Ok-None.field-0-is c.in-Ok-None.ensures)
+    accepted c.args.code (subst First c.in-None.is c.requires)
 
-pub returns-in-Ok-None-clause-cuts : goal.returns-in-Ok-None-clause-cuts
-returns-in-Ok-None-clause-cuts g c =
+pub returns-in-None-clause-cuts : goal.returns-in-None-clause-cuts
+returns-in-None-clause-cuts c =
     let First : Option Failure → Type 0 = IsFirstIn c.args.code 0 (demand_count c.args.code.net) in
-    accepted-within_cuts c.args.code (accepted c.args.code (subst First c.in-Ok-None.field-0-is c.in-Ok-None.ensures))
+    accepted-within_cuts c.args.code (accepted c.args.code (subst First c.in-None.is c.requires))
 
-pub returns-in-Ok-Some-clause-rejected : goal.returns-in-Ok-Some-clause-rejected
-returns-in-Ok-Some-clause-rejected g c =
-    let failure = c.in-Ok-Some.failure in
+pub returns-in-Some-clause-rejected : goal.returns-in-Some-clause-rejected
+returns-in-Some-clause-rejected c =
+    let failure = c.in-Some.failure in
     let First : Option Failure → Type 0 = IsFirstIn c.args.code 0 (demand_count c.args.code.net) in
     λ other. FailsFirst-refuses c.args.code failure.demand failure.row failure.column failure.found
-    (subst First c.in-Ok-Some.field-0-is c.in-Ok-Some.ensures)
+    (subst First c.in-Some.is c.requires)
