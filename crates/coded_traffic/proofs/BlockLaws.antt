@@ -1,13 +1,11 @@
 -- Laws of the rows of elements that the bytes of a block are.
-use Rattle.std.specs.Prelude.{◌≡◌, ℕ, ◌<◌, ◌≤◌, ◌%◌, List, [], ◌∷◌, length, map}
+use Rattle.std.specs.Prelude.{◌≡◌, ℕ, ◌<◌, ◌≤◌, List, [], ◌∷◌, length, map}
 use Rattle.std.specs.List.{All, concat}
 use Rattle.std.proofs.Common.{arith, refl, sym, ap, ◌∙◌, subst, get_or}
 use Rattle.std.proofs.lemmas.List.{length-map, get_or-map}
 use Rattle.std.proofs.lemmas.List.Elements.{All-from_get_or, All-head, All-tail, recursion_from_All}
 use Rattle.std.proofs.lemmas.Option.{unwrap_or-slice_get}
 use Rattle.field_rows.specs.Bytes.{elements_of, bytes_of_elements}
-use Rattle.field_rows.proofs.BytesLaws.{bytes_of_elements-elements_of}
-use Rattle.gf_tables.specs.Product.{bytes_of_element}
 use Rattle.gf_tables.specs.declared.kind.FieldKind.{FieldKind}
 use Rattle.linear_algebra.proofs.EntryLaws.{get_or-rows_of, concat-rows_of}
 use Rattle.linear_algebra.specs.Matrices.{rows_of}
@@ -18,8 +16,8 @@ use Rattle.node_program.specs.Decoding.{IsBlock}
 use Rattle.node_program.specs.Value.{row_at, width_of}
 use Rattle.node_program.specs.declared.code.Code.{Code}
 use Rattle.generation_frame.specs.Blocks.{row_bytes}
-use Rattle.coded_traffic.specs.CodeBlocks.{block_elements, row_width, row_of, elements_at, IsBlockOf}
-use Rattle.coded_traffic.proofs.RowLaws.{row_lies_within, whole_row, length-row_of, row_of-bytes, elements_at-IsRow}
+use Rattle.coded_traffic.specs.CodeBlocks.{block_elements, row_width, elements_at, IsBlockOf}
+use Rattle.coded_traffic.proofs.RowLaws.{row_lies_within, row_of-back, elements_at-IsRow}
 
 -- as many rows of elements as the rate
 pub length-block_elements : (code : Code) (block : List ℕ) → length (block_elements code block) ≡ code.rate
@@ -77,8 +75,6 @@ bytes_of-block_elements code block is =
     let Back : List ℕ → Type 0 = λ row. bytes_of_elements code.field (elements_of code.field row) ≡ row in
     let back : All Back (rows_of code.rate row_bytes block) = All-from_get_or Back (rows_of code.rate row_bytes block) [] (λ i within.
     let below : i < code.rate = omega (arith, within, length-rows_of code.rate row_bytes block) in
-    let long = length-row_of block i (row_lies_within block code.rate i is.size below) in
     subst Back (sym (get_or-rows_of code.rate row_bytes i block below))
-    (bytes_of_elements-elements_of code.field (row_of block i) (row_of-bytes block i is.bytes)
-    (ap (λ n. n % bytes_of_element code.field) long ∙ whole_row code.field))) in
+    (row_of-back code.field block i is.bytes (row_lies_within block code.rate i is.size below))) in
     ap (λ (rows : List (List ℕ)). concat rows) (each_back code.field (rows_of code.rate row_bytes block) back) ∙ concat-rows_of code.rate row_bytes block is.size

@@ -6,7 +6,8 @@ use Rattle.std.proofs.lemmas.List.Elements.{All-take, All-drop}
 use Rattle.gf_tables.specs.Product.{bytes_of_element, bytes_of_width, width_of}
 use Rattle.gf_tables.specs.declared.kind.FieldKind.{FieldKind}
 use Rattle.gf_tables.specs.declared.kind.Width.TheVariants.{One, Two}
-use Rattle.field_rows.specs.Bytes.{elements_of}
+use Rattle.field_rows.specs.Bytes.{bytes_of_elements, elements_of}
+use Rattle.field_rows.proofs.BytesLaws.{bytes_of_elements-elements_of}
 use Rattle.linear_algebra.specs.Elements.{AreBytes}
 use Rattle.linear_algebra.proofs.ElementsLaws.{elements_of-IsRow, elements_of-zero_row}
 use Rattle.linear_algebra.proofs.EntryLaws.{row_end}
@@ -43,6 +44,13 @@ pub elements_at-IsRow : (field : FieldKind) (rows : List ℕ) (place : ℕ) → 
 elements_at-IsRow field rows place bytes within =
     elements_of-IsRow field (row_width field) (row_of rows place) (row_of-bytes rows place bytes)
     (length-row_of rows place within ∙ row_bytes-row_width field)
+
+-- and they give back its bytes
+pub row_of-back : (field : FieldKind) (rows : List ℕ) (place : ℕ) → AreBytes rows → place * row_bytes + row_bytes ≤ length rows
+    → bytes_of_elements field (elements_at field rows place) ≡ row_of rows place
+row_of-back field rows place bytes within =
+    bytes_of_elements-elements_of field (row_of rows place) (row_of-bytes rows place bytes)
+    (ap (λ n. n % bytes_of_element field) (length-row_of rows place within) ∙ whole_row field)
 
 -- the elements of a row of zeros
 pub elements_of-zeros : (field : FieldKind) (n : ℕ) → n ≡ row_bytes → elements_of field (replicate n 0) ≡ zero_row (row_width field)

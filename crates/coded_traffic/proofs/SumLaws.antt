@@ -8,7 +8,7 @@ use Rattle.gf_tables.specs.Product.{size_of}
 use Rattle.gf_tables.specs.declared.kind.FieldKind.{FieldKind}
 use Rattle.linear_algebra.specs.Elements.{elements_of, bytes_of_row}
 use Rattle.linear_algebra.specs.Rows.{combination, zero_row, add_rows, scale_row, AreRows, IsRow}
-use Rattle.linear_algebra.proofs.CombinationLaws.{length-combination}
+use Rattle.linear_algebra.proofs.CombinationLaws.{combination-one, length-combination}
 use Rattle.linear_algebra.proofs.RowLaws.{scale_row-zero_row, zero_row-add_rows}
 use Rattle.net_model.specs.Failed.{failed_links, is_failed_in}
 use Rattle.net_model.specs.Walks.{leaves_source}
@@ -22,7 +22,9 @@ use Rattle.node_program.specs.Value.{operands_at, row_at, width_of}
 use Rattle.node_program.specs.declared.Operand.{Operand}
 use Rattle.node_program.specs.declared.code.Code.{Code}
 use Rattle.coded_traffic.proofs.BlockLaws.{IsBlock-block_elements, row_at-block_elements, width_of-block_elements}
-use Rattle.coded_traffic.specs.CodeBlocks.{block_elements, IsBlockOf, row_of, row_width}
+use Rattle.coded_traffic.proofs.RowLaws.{elements_at-IsRow, row_lies_within, row_of-back}
+use Rattle.coded_traffic.specs.CodeBlocks.{block_elements, elements_at, IsBlockOf, row_of, row_width}
+use Rattle.coded_traffic.specs.RowLinks.{CarriesRow}
 use Rattle.coded_traffic.proofs.PieceLaws.{AreRows-piece, elements_in, elements_in-zero_row, elements_in-combination, elements_of-piece, elements_of-piece_of_row, piece_of_row-bytes}
 use Rattle.generation_frame.specs.Blocks.{piece_of_row}
 use Rattle.coded_traffic.specs.Traffic.{live_operands, operand_payload, payload_in, piece_width, sum_of}
@@ -97,12 +99,40 @@ module _ (code : Code) (pattern : ℕ) (block : List ℕ) (is : IsBlockOf code b
       ap (λ leaves. if leaves then row_at (block_elements code block) operand.from else value_in code pattern (block_elements code block) operand.from) parts.0
       ∙ value-dead code.code.draft (failed_links code.net.patterns pattern) (block_elements code block) operand.from parts.1 ∙ ap zero_row wide
 
+  -- a live link doesn't fail
+  live-whole : is_live_in code pattern link ≡ true → is_failed_in code.net.patterns pattern link ≡ false
+  live-whole live = elim (cases_Bool (is_failed_in code.net.patterns pattern link)) [
+    | inl fails ↦ absurd (true≢false (sym live ∙ is_live_in-failed code pattern link fails))
+    | inr whole ↦ whole
+  ]
+
   -- the value of a link that doesn't fail
   value-sum : is_failed_in code.net.patterns pattern link ≡ false
       → value_in code pattern (block_elements code block) link ≡ combination code.field (row_width code.field) (map (λ operand. operand.times) operands) (map row operands)
   value-sum whole =
       value-equation code.code.draft (failed_links code.net.patterns pattern) (block_elements code block) link
       ∙ rw whole refl ∙ ap (λ (n : ℕ). combination code.field n (map (λ operand. operand.times) operands) (map row operands)) wide
+
+  -- so a link that carries a row, and is live, has that row of the block as its payload
+  pub payload-row : (from : ℕ) → CarriesRow code link from → is_live_in code pattern link ≡ true
+      → payload_in code pattern block piece link ≡ piece_of_row (row_of block from) piece
+  payload-row from carries live =
+      let field = code.field in
+      let alone : Operand = record { from = from; times = 1 } in
+      let below : from < code.rate = (All-head Is alone [] (subst (All Is) carries.alone all)).source_row carries.leaves in
+      let within = row_lies_within block code.rate from is.size below in
+      let elements = elements_at field block from in
+      let are : IsRow field (row_width field) elements = elements_at-IsRow field block from is.bytes within in
+      let standing : row alone ≡ elements =
+      ap (λ leaves. if leaves then row_at (block_elements code block) from else value_in code pattern (block_elements code block) from) carries.leaves
+      ∙ row_at-block_elements code block from below in
+      let valued : value_in code pattern (block_elements code block) link ≡ elements =
+      value-sum (live-whole live)
+      ∙ ap (λ (operands : List Operand). combination field (row_width field) (map (λ operand. operand.times) operands) (map row operands)) carries.alone
+      ∙ ap (λ (r : List ℕ). combination field (row_width field) (1 ∷ []) (r ∷ [])) standing
+      ∙ combination-one field (row_width field) elements are.width are.elements in
+      ap (λ (v : List ℕ). piece_of_row (bytes_of_row field v) piece) valued
+      ∙ ap (λ (bytes : List ℕ). piece_of_row bytes piece) (row_of-back field block from is.bytes within)
 
   -- what stands for the operands, as rows of elements of a piece
   abbrev element_row : Operand → List ℕ
@@ -131,14 +161,10 @@ module _ (code : Code) (pattern : ℕ) (block : List ℕ) (is : IsBlockOf code b
   payload-sum live =
       let field = code.field in
       let times = map (λ (operand : Operand). operand.times) operands in
-      let whole : is_failed_in code.net.patterns pattern link ≡ false = elim (cases_Bool (is_failed_in code.net.patterns pattern link)) [
-        | inl fails ↦ absurd (true≢false (sym live ∙ is_live_in-failed code pattern link fails))
-        | inr whole ↦ whole
-      ] in
       let are : AreRows field (piece_width field) (map element_row operands) =
       subst (AreRows field (piece_width field)) (sym element_rows) (AreRows-piece field piece (map row operands) low rows) in
       piece_of_row-bytes field piece (value_in code pattern (block_elements code block) link)
-      ∙ ap (λ (v : List ℕ). bytes_of_row field (elements_in field piece v)) (value-sum whole)
+      ∙ ap (λ (v : List ℕ). bytes_of_row field (elements_in field piece v)) (value-sum (live-whole live))
       ∙ ap (bytes_of_row field) (elements_in-combination field piece times (map row operands) low rows)
       ∙ ap (λ (rs : List (List ℕ)). bytes_of_row field (combination field (piece_width field) times rs)) (sym element_rows)
       ∙ ap (bytes_of_row field) (sym (combination-passing field (piece_width field) (reads_live_in code pattern link) (λ operand. operand.times) element_row operands (All-weaker Is (λ operand. operand.times < size_of field) (λ operand is_operand. is_operand.coefficient) operands all) are zeros))

@@ -1,2 +1,3 @@
 pub mod CodeBlocks
 pub mod Traffic
+pub mod RowLinks

@@ -101,6 +101,7 @@ sends g runner window same_first same_count some accepted before now carries =
       moves = under.moves;
       calls = under.calls;
       carried = record {
+        are_blocks = running.is_window.blocks;
         closed = under.closed;
         well = under.well;
         front = carries.front;

@@ -11,6 +11,7 @@ use Rattle.std.proofs.lemmas.List.Sorted.{IsPermutation-append}
 use Rattle.std.proofs.lemmas.List.Sums.{sum_by-append}
 use Rattle.coded_traffic.proofs.KeyLaws.{keys-are}
 use Rattle.coded_traffic.proofs.SumLaws.{sum_of-agree}
+use Rattle.coded_traffic.specs.CodeBlocks.{IsBlockOf}
 use Rattle.coded_traffic.specs.Traffic.{IsKey, Key, Window, block_at, is_same_key, key_of, keys_of, live_links_of, live_operands, packet_of, pair_of, payload_in, traffic_of}
 use Rattle.failure_patterns.proofs.DemandLaws.{demand_of_number}
 use Rattle.generation_frame.specs.Blocks.{pieces}
@@ -313,6 +314,7 @@ module _ {faithful : Bool} {code : Code} {pattern : ℕ} {first second : Window}
   -- two windows that were carried, one after the other, were carried as one
   pub carried-join : IsCarried faithful code pattern (window-joined first second) (m1 ++ m2)
   carried-join = record {
+    are_blocks = All-append (IsBlockOf code) first.blocks second.blocks one.are_blocks other.are_blocks;
     closed = still-closed m1 m2 one.closed other.closed;
     well = list_any-append is_fault m1 m2 ∙ ap (λ b. b || list_any is_fault m2) one.well ∙ other.well;
     front = m1 ++ other.front;

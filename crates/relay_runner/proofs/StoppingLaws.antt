@@ -255,6 +255,7 @@ module _ {L : Type 0} (g : LinksGhosts L) (code : Code) (pattern : ℕ) (window 
         made = moves;
         lead = calls;
         holds = record {
+          are_blocks = starts.is_window.blocks;
           closed = still-closed (puts_of packets) (put_failed (flight_of last) ∷ []) (puts-closed packets) refl;
           front = puts_of packets;
           fault = put_failed (flight_of last);

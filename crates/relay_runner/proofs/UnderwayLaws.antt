@@ -230,6 +230,7 @@ module _ {L : Type 0} (g : LinksGhosts L) (code : Code) (pattern : ℕ) (window 
             made = under.moves ++ stops.moves;
             lead = more_moves under.moves stops.moves before mid now under.calls stops.calls;
             holds = record {
+              are_blocks = under.running.is_window.blocks;
               closed = still-closed under.moves stops.moves under.closed stops.closed;
               front = under.moves ++ stops.front;
               fault = stops.fault;

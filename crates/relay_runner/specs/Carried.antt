@@ -1,6 +1,7 @@
 -- Blocks that are carried over links, told by the calls on the links alone, whatever these gave and in whatever order.
-use Rattle.std.specs.Prelude.{◌≡◌, ◌<◌, ◌≤◌, ◌+◌, ◌↔◌, ℕ, Bool, true, false, IsPermutation, List, [], ◌∷◌, ◌++◌, count_by, length, map}
+use Rattle.std.specs.Prelude.{◌≡◌, ◌<◌, ◌≤◌, ◌+◌, ◌↔◌, ℕ, All, Bool, true, false, IsPermutation, List, [], ◌∷◌, ◌++◌, count_by, length, map}
 use Rattle.std.specs.List.{list_any}
+use Rattle.coded_traffic.specs.CodeBlocks.{IsBlockOf}
 use Rattle.coded_traffic.specs.Traffic.{IsKey, Key, Window, block_at, traffic_of}
 use Rattle.generation_frame.specs.declared.frame.Packet.{Packet}
 use Rattle.lif_outside.specs.Moves.{Move, flights_given, is_fault, is_open, pairs_put, took_none}
@@ -21,10 +22,11 @@ use Rattle.relay_runner.specs.Stepping.{ArePut}
 abbrev pub packets_given : List Move → List Packet
 packets_given moves = packets_in (flights_given moves)
 
--- Numbered blocks were carried, by links that are faithful or not. One packet was put for each key of the traffic, each came, and
+-- Numbered blocks of a code were carried, by links that are faithful or not. One packet was put for each key of the traffic, each came, and
 -- no other did; what was put on a link that leaves the source is of the traffic, and on another the sum of what came. By
 -- faithful links the pairs put are the traffic, and what came decodes to the blocks at each sink.
 pub record IsCarried (faithful : Bool) (code : Code) (pattern : ℕ) (window : Window) (moves : List Move) : Type 0 where
+  pub are_blocks : All (IsBlockOf code) window.blocks
   -- the links weren't opened, no call failed, the last take found nothing, and at most one did for each block
   pub closed : list_any is_open moves ≡ false
   pub well : list_any is_fault moves ≡ false
@@ -44,10 +46,11 @@ pub record IsCarried (faithful : Bool) (code : Code) (pattern : ℕ) (window : W
       → generation < window.first + length window.blocks
       → decoded_of code (demand_of code pattern place) (packets_given moves) generation ≡ block_at window generation
 
--- A call on the links failed before numbered blocks were carried, and it is the last one. The pairs put are of the traffic by
+-- A call on the links failed before numbered blocks of a code were carried, and it is the last one. The pairs put are of the traffic by
 -- their keys, none twice, and by faithful links they are of the traffic. Whatever the links gave, what was put on a link that
 -- leaves the source is of the traffic, and on another the sum of what came.
 pub record IsStopped (faithful : Bool) (code : Code) (pattern : ℕ) (window : Window) (moves : List Move) : Type 0 where
+  pub are_blocks : All (IsBlockOf code) window.blocks
   pub closed : list_any is_open moves ≡ false
   pub front : List Move
   pub fault : Move

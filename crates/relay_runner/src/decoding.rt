@@ -49,7 +49,8 @@ impl DecodedBlocks {
     /// The block of a size at a place.
     pub(crate) fn block(&self, place: usize, size: usize) -> &[u8]
         requires { place * size + size ≤ length self.now }
-        ensures { result.now ≡ block_in size self.now place }
+        ensures is { result.now ≡ block_in size self.now place }
+        ensures size { length result.now ≡ size }
     {
         &self.bytes[place * size..place * size + size]
     }

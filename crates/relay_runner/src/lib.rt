@@ -2,7 +2,7 @@
 //! and what that gives is put, until nothing flies. Then each sink has its block.
 //!
 //! Begin with `Runner::open`; `carry` sends a window of 1 to 4 blocks, in whatever order the links deliver, `decode_all` decodes
-//! them at all sinks, side by side, and `block` writes what a sink decoded. Read `specs/Carrying.antt`. The clause that matters
+//! them at all sinks, side by side, and `decoded_block` lends what a sink decoded. Read `specs/Carrying.antt`. The clause that matters
 //! is `carried` of `carry`: it is a run of the core, from its opening state to one where nothing flies, so all of the traffic was
 //! put, nothing twice.
 //!

@@ -212,8 +212,25 @@ impl<'c, F: Field> Runner<'c, F> {
         self.run(links)
     }
 
-    /// Writes the block that a sink decoded, of those carried last, by its place. The sink is given by its place among the
-    /// network's sinks. It takes no memory.
+    /// The block that a sink decoded, of those carried last, by its place. The sink is given by its place among the network's
+    /// sinks.
+    pub fn decoded_block(&self, sink: u32, place: u32) -> &[u8]
+        requires decoded { HasDecoded self.now }
+        requires sink { sink < length self.now.code.net.sinks }
+        requires place { place < self.now.count }
+        ensures size { length result.now ≡ self.now.code.rate * row_bytes }
+        ensures value { (moves : List Move) → HasCarriedBy self.now moves
+            → result.now ≡ decoded_of self.now.code (demand_of self.now.code self.now.pattern sink)
+            (packets_given moves) (self.now.first + place) }
+        ensures carried { (window : Window) (run : List Delivery) (state : RelayState)
+            → IsRunning self.now.code self.now.pattern window run self.now.relays self.now.sinks
+            [] state → IsFaithful run → result.now ≡ slice_index_or window.blocks place [] }
+    {
+        let size = self.code.code().rate as usize * ROW;
+        self.decoded[sink as usize].block(place as usize, size)
+    }
+
+    /// Writes that block. It takes no memory.
     pub fn block(&self, sink: u32, place: u32, into: &mut [u8])
         requires decoded { HasDecoded self.now }
         requires sink { sink < length self.now.code.net.sinks }
@@ -226,8 +243,7 @@ impl<'c, F: Field> Runner<'c, F> {
             → IsRunning self.now.code self.now.pattern window run self.now.relays self.now.sinks
             [] state → IsFaithful run → into.new ≡ slice_index_or window.blocks place [] }
     {
-        let size = self.code.code().rate as usize * ROW;
-        into.copy_from_slice(self.decoded[sink as usize].block(place as usize, size));
+        into.copy_from_slice(self.decoded_block(sink, place));
     }
 }
 
