@@ -1,38 +1,26 @@
 -- Rows that add up: zeros, sums and multiples do too, and so does each sum of multiples. A row that adds up over vectors adds up
 -- over one more, and so does the row of that one.
-use Rattle.std.specs.Prelude.{◌≡◌, ◌<◌, ◌≤◌, ◌+◌, ◌-◌, ◌/◌, ◌==◌, ℕ, zero, suc, List, [], ◌∷◌, ◌++◌, drop, if◌then◌else◌, length, map, take}
+use Rattle.std.specs.Prelude.{◌≡◌, ◌<◌, ◌≤◌, ◌+◌, ◌-◌, ◌==◌, ℕ, zero, suc, List, [], ◌∷◌, ◌++◌, drop, if◌then◌else◌, length, map, take}
 use Rattle.std.specs.List.{AllByRecursion, range_with_len}
 use Rattle.std.proofs.Common.{arith, refl, sym, ap, ◌∙◌}
 use Rattle.std.proofs.Math.Path.{ap₂}
-use Rattle.std.proofs.lemmas.List.{append_assoc, drop-map, drop-replicate, drop_at, get_or_at, length-append, length-drop, length-take-le, take-map, take-replicate, take_at}
+use Rattle.std.proofs.lemmas.List.{append_assoc, drop-map, drop-replicate, drop_at, get_or_at, length-append, length-drop, length-replicate, length-take-le, take-map, take-replicate, take_at}
 use Rattle.std.proofs.lemmas.List.Elements.{All-drop, All-take}
 use Rattle.std.proofs.lemmas.List.FromFn.{take-map-range_with_len}
-use Rattle.field_rows.specs.Widths.{width_in}
-use Rattle.gf_tables.specs.Product.{bytes_of_width, product, size_of, width_of}
+use Rattle.gf_tables.specs.Product.{product, size_of}
 use Rattle.gf_tables.specs.declared.kind.FieldKind.{FieldKind}
-use Rattle.gf_tables.specs.declared.kind.Width.TheVariants.{One, Two}
 use Rattle.linear_algebra.proofs.CombinationLaws.{combination-add_rows, combination-scale_row, combination-unit_row, combination-zero_row}
 use Rattle.linear_algebra.proofs.RowLaws.{AreRows-append, add_rows-IsRow, drop-add_rows, scale_row-IsRow, scale_row-zero, scale_row-zero_row, take-add_rows, unit_row-before, zero_row-IsRow, zero_row-zero_row}
 use Rattle.linear_algebra.specs.Rows.{AreElements, AreRows, IsRow, add_rows, combination, scale_row, unit_row, zero_row}
-use Rattle.link_rows.proofs.WideLaws.{length-widened, wide_room}
-use Rattle.link_rows.specs.Vectors.{wide_width, widened}
 use Rattle.row_spans.proofs.SumLaws.{holds_of_sum}
 use Rattle.row_spans.specs.Spans.{IsSum}
-use Rattle.code_finish.specs.Taken.{AddsUp, IsRowOf, behind, coefficients_of, taken_bytes}
-
--- a row has as many elements behind its vector's place as that has
-pub taken_width : (field : FieldKind) → width_in field taken_bytes - wide_width field ≡ wide_width field
-taken_width field = elim (width_of field) as (λ width. 128 / bytes_of_width width - 64 / bytes_of_width width ≡ 64 / bytes_of_width width) [ One ↦ refl | Two ↦ refl ]
-
--- a row has room for a vector of at most 32 elements
-pub vector_in_row : (field : FieldKind) (rate : ℕ) → rate ≤ 32 → rate ≤ width_in field taken_bytes
-vector_in_row field rate low = omega (arith, taken_width field, wide_room field, low)
+use Rattle.code_finish.specs.Taken.{AddsUp, IsRowOf, behind, coefficients_of}
 
 -- a row has as many coefficients as are asked for
-pub length-coefficients_of : (field : FieldKind) (count : ℕ) (row : List ℕ) → count ≤ wide_width field → length row ≡ width_in field taken_bytes
-    → length (coefficients_of field count row) ≡ count
-length-coefficients_of field count row few wide =
-    length-take-le count (behind field row) (omega (arith, length-drop (wide_width field) row, wide, taken_width field, few))
+pub length-coefficients_of : (count : ℕ) (row : List ℕ) → count ≤ 32 → length row ≡ 64
+    → length (coefficients_of count row) ≡ count
+length-coefficients_of count row few wide =
+    length-take-le count (behind row) (omega (arith, length-drop 32 row, wide, few))
 
 -- the vectors of links are rows
 pub AreRows-vectors_of : (field : FieldKind) (rate : ℕ) (vector : ℕ → List ℕ) → ((e : ℕ) → IsRow field rate (vector e)) → (links : List ℕ) → AreRows field rate (map vector links)
@@ -47,35 +35,35 @@ each_more field width P Q more (row ∷ rows) are each = (more row are.0 each.0,
 
 module _ (field : FieldKind) (rate : ℕ) (low : rate ≤ 32) (kept : List (List ℕ)) (kept_are : AreRows field rate kept) (few : length kept ≤ rate) where
   abbrev wide : ℕ
-  wide = width_in field taken_bytes
+  wide = 64
 
   abbrev place : ℕ
-  place = wide_width field
+  place = 32
 
   abbrev Adds : List ℕ → Type 0
   Adds row = IsRow field wide row × AddsUp field rate kept row
 
   -- the coefficients of a row are elements, one for each vector
-  coefficients-elements : (row : List ℕ) → IsRow field wide row → AreElements field (coefficients_of field (length kept) row)
+  coefficients-elements : (row : List ℕ) → IsRow field wide row → AreElements field (coefficients_of (length kept) row)
   coefficients-elements row is =
       let P : ℕ → Type 0 = λ element. element < size_of field in
-      All-take P (length kept) (behind field row) (All-drop P place row is.elements)
+      All-take P (length kept) (behind row) (All-drop P place row is.elements)
 
-  length-coefficients : (row : List ℕ) → IsRow field wide row → length (coefficients_of field (length kept) row) ≡ length kept
-  length-coefficients row is = length-coefficients_of field (length kept) row (omega (arith, few, wide_room field, low)) is.width
+  length-coefficients : (row : List ℕ) → IsRow field wide row → length (coefficients_of (length kept) row) ≡ length kept
+  length-coefficients row is = length-coefficients_of (length kept) row (omega (arith, few, low)) is.width
 
   -- zeros add up
   adds-zero_row : Adds (zero_row wide)
   adds-zero_row =
       let n = length kept in
-      let none : coefficients_of field n (zero_row wide) ≡ zero_row n =
-      ap (take n) (drop-replicate place wide 0) ∙ take-replicate n (wide - place) 0 (omega (arith, taken_width field, few, wide_room field, low))
+      let none : coefficients_of n (zero_row wide) ≡ zero_row n =
+      ap (take n) (drop-replicate place wide 0) ∙ take-replicate n (wide - place) 0 (omega (arith, few, low))
       in (
         zero_row-IsRow field wide,
         record {
-          sum = take-replicate rate wide 0 (vector_in_row field rate low)
+          sum = take-replicate rate wide 0 (omega (arith, low))
               ∙ sym (ap (λ (times : List ℕ). combination field rate times kept) none ∙ combination-zero_row field rate n kept kept_are);
-          zeros = ap (drop n) (drop-replicate place wide 0) ∙ drop-replicate n (wide - place) 0 ∙ ap (λ (m : ℕ). zero_row (m - n)) (taken_width field);
+          zeros = ap (drop n) (drop-replicate place wide 0) ∙ drop-replicate n (wide - place) 0;
         },
       )
 
@@ -85,18 +73,18 @@ module _ (field : FieldKind) (rate : ℕ) (low : rate ≤ 32) (kept : List (List
       let n = length kept in
       let same : length xs ≡ length ys = x.0.width ∙ sym y.0.width in
       let rest = drop-add_rows place xs ys same in
-      let long : length (behind field xs) ≡ length (behind field ys) = omega (arith, length-drop place xs, length-drop place ys, same) in
-      let times : coefficients_of field n (add_rows xs ys) ≡ add_rows (coefficients_of field n xs) (coefficients_of field n ys) =
-      ap (take n) rest ∙ take-add_rows n (behind field xs) (behind field ys)
+      let long : length (behind xs) ≡ length (behind ys) = omega (arith, length-drop place xs, length-drop place ys, same) in
+      let times : coefficients_of n (add_rows xs ys) ≡ add_rows (coefficients_of n xs) (coefficients_of n ys) =
+      ap (take n) rest ∙ take-add_rows n (behind xs) (behind ys)
       in (
         add_rows-IsRow field wide xs ys x.0 y.0,
         record {
           sum = take-add_rows rate xs ys
               ∙ ap₂ add_rows x.1.sum y.1.sum
               ∙ sym (ap (λ (times : List ℕ). combination field rate times kept) times
-              ∙ combination-add_rows field rate (coefficients_of field n xs) (coefficients_of field n ys) kept (coefficients-elements xs x.0) (coefficients-elements ys y.0)
+              ∙ combination-add_rows field rate (coefficients_of n xs) (coefficients_of n ys) kept (coefficients-elements xs x.0) (coefficients-elements ys y.0)
               (length-coefficients xs x.0 ∙ sym (length-coefficients ys y.0)) kept_are);
-          zeros = ap (drop n) rest ∙ drop-add_rows n (behind field xs) (behind field ys) long ∙ ap₂ add_rows x.1.zeros y.1.zeros ∙ zero_row-zero_row (place - n);
+          zeros = ap (drop n) rest ∙ drop-add_rows n (behind xs) (behind ys) long ∙ ap₂ add_rows x.1.zeros y.1.zeros ∙ zero_row-zero_row (place - n);
         },
       )
 
@@ -105,22 +93,22 @@ module _ (field : FieldKind) (rate : ℕ) (low : rate ≤ 32) (kept : List (List
   adds-scale_row a row below x =
       let n = length kept in
       let rest = drop-map (product field a) place row in
-      let times : coefficients_of field n (scale_row field a row) ≡ scale_row field a (coefficients_of field n row) =
-      ap (take n) rest ∙ take-map (product field a) n (behind field row)
+      let times : coefficients_of n (scale_row field a row) ≡ scale_row field a (coefficients_of n row) =
+      ap (take n) rest ∙ take-map (product field a) n (behind row)
       in (
         scale_row-IsRow field wide a row below x.0,
         record {
           sum = take-map (product field a) rate row
               ∙ ap (scale_row field a) x.1.sum
               ∙ sym (ap (λ (times : List ℕ). combination field rate times kept) times
-              ∙ combination-scale_row field rate a (coefficients_of field n row) kept below (coefficients-elements row x.0) kept_are);
-          zeros = ap (drop n) rest ∙ drop-map (product field a) n (behind field row) ∙ ap (scale_row field a) x.1.zeros ∙ scale_row-zero_row field a (place - n) below;
+              ∙ combination-scale_row field rate a (coefficients_of n row) kept below (coefficients-elements row x.0) kept_are);
+          zeros = ap (drop n) rest ∙ drop-map (product field a) n (behind row) ∙ ap (scale_row field a) x.1.zeros ∙ scale_row-zero_row field a (place - n) below;
         },
       )
 
   -- a sum of multiples of rows that add up does
-  pub AddsUp-IsSum : (rows : List (List ℕ)) → AreRows field (width_in field taken_bytes) rows → AllByRecursion (AddsUp field rate kept) rows
-      → (row : List ℕ) → IsSum field (width_in field taken_bytes) rows row → AddsUp field rate kept row
+  pub AddsUp-IsSum : (rows : List (List ℕ)) → AreRows field 64 rows → AllByRecursion (AddsUp field rate kept) rows
+      → (row : List ℕ) → IsSum field 64 rows row → AddsUp field rate kept row
   AddsUp-IsSum rows are each row is =
       (holds_of_sum field wide Adds adds-zero_row adds-add_rows adds-scale_row rows (each_more field wide (AddsUp field rate kept) Adds (λ one one_is adds. (one_is, adds)) rows are each) row is).1
 
@@ -137,17 +125,19 @@ drop-unit_row_from i a zero (suc k) before = rw (let e : 0 - suc k ≡ 0 = omega
 drop-unit_row_from i a (suc n) (suc k) before = rw (let e : suc n - suc k ≡ n - k = omega arith in e) (drop-unit_row_from i (a + 1) n k (omega arith))
 
 -- the vector of the row of a link
-pub take-row_of : (field : FieldKind) (rate count : ℕ) (vector row : List ℕ) → length vector ≡ rate → IsRowOf field vector count row → take rate row ≡ vector
-take-row_of field rate count vector row long is =
-    let zeros = zero_row (wide_width field - length vector) in
-    let units = unit_row (wide_width field) count in
+pub take-row_of : (rate count : ℕ) (vector row : List ℕ) → length vector ≡ rate → IsRowOf vector count row → take rate row ≡ vector
+take-row_of rate count vector row long is =
+    let zeros = zero_row (32 - length vector) in
+    let units = unit_row 32 count in
     ap (take rate) (is ∙ append_assoc vector zeros units) ∙ take_at vector (zeros ++ units) rate long
 
 -- what stands behind it
-behind-row_of : (field : FieldKind) (count : ℕ) (vector row : List ℕ) → length vector ≤ wide_width field → IsRowOf field vector count row → behind field row ≡ unit_row (wide_width field) count
-behind-row_of field count vector row within is =
-    ap (drop (wide_width field)) is
-    ∙ drop_at (widened field vector) (unit_row (wide_width field) count) (wide_width field) (length-widened field vector within)
+behind-row_of : (count : ℕ) (vector row : List ℕ) → length vector ≤ 32 → IsRowOf vector count row → behind row ≡ unit_row 32 count
+behind-row_of count vector row within is =
+    let zeros = zero_row (32 - length vector) in
+    ap (drop 32) is
+    ∙ drop_at (vector ++ zeros) (unit_row 32 count) 32
+    (length-append vector zeros ∙ omega (arith, length-replicate {A = ℕ} (32 - length vector) 0, within))
 
 -- one coefficient zero more
 combination-zero_more : (field : FieldKind) (width : ℕ) (coefficients : List ℕ) (rows : List (List ℕ)) (row : List ℕ) → length coefficients ≡ length rows → length row ≡ width
@@ -160,35 +150,35 @@ combination-zero_more field width (times ∷ coefficients) (other ∷ rows) row 
 
 module _ (field : FieldKind) (rate : ℕ) (low : rate ≤ 32) (kept : List (List ℕ)) (kept_are : AreRows field rate kept) (few : length kept < rate) (vector : List ℕ) (is : IsRow field rate vector) where
   -- a row that adds up over vectors adds up over one more
-  pub AddsUp-more : (row : List ℕ) → IsRow field (width_in field taken_bytes) row → AddsUp field rate kept row → AddsUp field rate (kept ++ vector ∷ []) row
+  pub AddsUp-more : (row : List ℕ) → IsRow field 64 row → AddsUp field rate kept row → AddsUp field rate (kept ++ vector ∷ []) row
   AddsUp-more row row_is adds =
       let n = length kept in
       let more = kept ++ vector ∷ [] in
       let count : length more ≡ suc n = omega (arith, length-append kept (vector ∷ [])) in
-      let one_less : wide_width field - n ≡ suc (wide_width field - suc n) = omega (arith, few, wide_room field, low) in
-      let zero = take_zero n (wide_width field - suc n) (behind field row) (adds.zeros ∙ ap zero_row one_less) in
+      let one_less : 32 - n ≡ suc (32 - suc n) = omega (arith, few, low) in
+      let zero = take_zero n (32 - suc n) (behind row) (adds.zeros ∙ ap zero_row one_less) in
       record {
         sum = adds.sum
-            ∙ sym (ap (λ (k : ℕ). combination field rate (take k (behind field row)) more) count
+            ∙ sym (ap (λ (k : ℕ). combination field rate (take k (behind row)) more) count
             ∙ ap (λ (times : List ℕ). combination field rate times more) zero.0
-            ∙ combination-zero_more field rate (coefficients_of field n row) kept vector (length-coefficients field rate low kept kept_are (omega (arith, few)) row row_is) is.width);
-        zeros = ap (λ (k : ℕ). drop k (behind field row)) count ∙ zero.1 ∙ ap (λ (k : ℕ). zero_row (wide_width field - k)) (sym count);
+            ∙ combination-zero_more field rate (coefficients_of n row) kept vector (length-coefficients field rate low kept kept_are (omega (arith, few)) row row_is) is.width);
+        zeros = ap (λ (k : ℕ). drop k (behind row)) count ∙ zero.1 ∙ ap (λ (k : ℕ). zero_row (32 - k)) (sym count);
       }
 
   -- and so does the row of that one
-  pub AddsUp-row_of : (row : List ℕ) → IsRowOf field vector (length kept) row → AddsUp field rate (kept ++ vector ∷ []) row
+  pub AddsUp-row_of : (row : List ℕ) → IsRowOf vector (length kept) row → AddsUp field rate (kept ++ vector ∷ []) row
   AddsUp-row_of row row_is =
       let n = length kept in
       let more = kept ++ vector ∷ [] in
       let count : length more ≡ suc n = omega (arith, length-append kept (vector ∷ [])) in
-      let rest = behind-row_of field n vector row (omega (arith, is.width, wide_room field, low)) row_is in
-      let times : coefficients_of field (length more) row ≡ unit_row (length more) n =
-      ap (take (length more)) rest ∙ take-map-range_with_len (λ j. if n == j then 1 else 0) 0 (wide_width field) (length more) (omega (arith, count, few, wide_room field, low))
+      let rest = behind-row_of n vector row (omega (arith, is.width, low)) row_is in
+      let times : coefficients_of (length more) row ≡ unit_row (length more) n =
+      ap (take (length more)) rest ∙ take-map-range_with_len (λ j. if n == j then 1 else 0) 0 32 (length more) (omega (arith, count, few, low))
       in
       record {
-        sum = take-row_of field rate n vector row is.width row_is
+        sum = take-row_of rate n vector row is.width row_is
             ∙ sym (ap (λ (times : List ℕ). combination field rate times more) times
             ∙ combination-unit_row field rate (length more) n more (omega (arith, count)) refl (AreRows-append field rate kept (vector ∷ []) kept_are (is, tt))
             ∙ get_or_at kept vector [] [] n refl);
-        zeros = ap (drop (length more)) rest ∙ drop-unit_row_from n 0 (wide_width field) (length more) (omega (arith, count));
+        zeros = ap (drop (length more)) rest ∙ drop-unit_row_from n 0 32 (length more) (omega (arith, count));
       }

@@ -8,7 +8,6 @@ use Rattle.std.proofs.lemmas.List.{append-nil, get_or-map, length-append, length
 use Rattle.std.proofs.lemmas.List.Elements.{Contains-append_right, Contains-push_cases}
 use Rattle.std.proofs.lemmas.List.Folds.{list_all-append}
 use Rattle.std.proofs.lemmas.List.FromFn.{fill_by_all}
-use Rattle.field_rows.specs.Widths.{width_in}
 use Rattle.gf_tables.specs.declared.kind.FieldKind.{FieldKind}
 use Rattle.linear_algebra.proofs.MatrixLaws.{length-times_rows}
 use Rattle.linear_algebra.specs.Matrices.{identity, times_rows}
@@ -18,8 +17,8 @@ use Rattle.row_spans.proofs.DecidedLaws.{is_sum-false, is_sum-true}
 use Rattle.row_spans.proofs.SumLaws.{HaveSameSums-cons, HaveSameSums-same, HaveSameSums-sum, HaveSameSums-then, HaveSameSums-vectors, AreRows-vectors, IsSum-vectors, IsSum-get_or, dot-IsSum, each_of_same}
 use Rattle.row_spans.specs.Decided.{is_sum}
 use Rattle.row_spans.specs.Spans.{HaveSameSums, IsHidden, IsSum, vectors}
-use Rattle.code_finish.proofs.AddsUpLaws.{AreRows-vectors_of, AddsUp-IsSum, AddsUp-more, AddsUp-row_of, each_more, take-row_of, vector_in_row}
-use Rattle.code_finish.specs.Taken.{AddsUp, AreTaken, IsRowOf, coefficients_of, raising, taken_bytes}
+use Rattle.code_finish.proofs.AddsUpLaws.{AreRows-vectors_of, AddsUp-IsSum, AddsUp-more, AddsUp-row_of, each_more, take-row_of}
+use Rattle.code_finish.specs.Taken.{AddsUp, AreTaken, IsRowOf, coefficients_of, raising}
 
 -- the vector of each link is one of the sums
 pub vector_sum : (field : FieldKind) (rate : ℕ) (vector : ℕ → List ℕ) → ((e : ℕ) → IsRow field rate (vector e)) → (links : List ℕ) (link : ℕ) → Contains links link
@@ -30,7 +29,7 @@ vector_sum field rate vector are links link has =
 
 module _ (field : FieldKind) (rate : ℕ) (low : rate ≤ 32) (vector : ℕ → List ℕ) (are : (e : ℕ) → IsRow field rate (vector e)) where
   abbrev wide : ℕ
-  wide = width_in field taken_bytes
+  wide = 64
 
   -- the vectors of links are rows
   vectors_are : (links : List ℕ) → AreRows field rate (map vector links)
@@ -41,8 +40,8 @@ module _ (field : FieldKind) (rate : ℕ) (low : rate ≤ 32) (vector : ℕ → 
   taken_none = record { are = tt; count = refl; kept_are = refl; sums = HaveSameSums-same field rate []; add_up = tt }
 
   -- the row of a link has its vector
-  pub row_vector : (link count : ℕ) (row : List ℕ) → IsRowOf field (vector link) count row → take rate row ≡ vector link
-  row_vector link count row is = take-row_of field rate count (vector link) row (are link).width is
+  pub row_vector : (link count : ℕ) (row : List ℕ) → IsRowOf (vector link) count row → take rate row ≡ vector link
+  row_vector link count row is = take-row_of rate count (vector link) row (are link).width is
 
   -- a link came whose vector is a sum of multiples of those that came
   pub taken_same : (earlier kept : List ℕ) (rows : List (List ℕ)) → AreTaken field rate vector earlier kept rows → (link : ℕ) (row : List ℕ)
@@ -62,11 +61,11 @@ module _ (field : FieldKind) (rate : ℕ) (low : rate ≤ 32) (vector : ℕ → 
 
   -- a link came whose vector is no such sum
   pub taken_more : (earlier kept : List ℕ) (old : List (List ℕ)) → AreTaken field rate vector earlier kept old → length kept < rate → (link : ℕ) (row : List ℕ) (new : List (List ℕ))
-      → IsRowOf field (vector link) (length kept) row → IsRow field (width_in field taken_bytes) row → ¬ IsSum field rate (vectors rate old) (take rate row)
-      → AreRows field (width_in field taken_bytes) new → HaveSameSums field (width_in field taken_bytes) new (row ∷ old) → length new ≡ suc (length old)
+      → IsRowOf (vector link) (length kept) row → IsRow field 64 row → ¬ IsSum field rate (vectors rate old) (take rate row)
+      → AreRows field 64 new → HaveSameSums field 64 new (row ∷ old) → length new ≡ suc (length old)
       → AreTaken field rate vector (link ∷ earlier) (kept ++ link ∷ []) new
   taken_more earlier kept old taken few link row new row_of is raises new_are same count =
-      let within = vector_in_row field rate low in
+      let within : rate ≤ 64 = omega (arith, low) in
       let vector_is = row_vector link (length kept) row row_of in
       let other : ¬ IsSum field rate (map vector earlier) (vector link) =
       λ sum. raises (subst (IsSum field rate (vectors rate old)) (sym vector_is) ((taken.sums (vector link)).1 sum))
@@ -79,7 +78,7 @@ module _ (field : FieldKind) (rate : ℕ) (low : rate ≤ 32) (vector : ℕ → 
       let few_vectors : length (map vector kept) < rate = omega (arith, few, length-map kept vector) in
       let more : List (List ℕ) = map vector kept ++ vector link ∷ [] in
       let here : AddsUp field rate more row =
-      AddsUp-row_of field rate low (map vector kept) (vectors_are kept) few_vectors (vector link) (are link) row (subst (λ n. IsRowOf field (vector link) n row) (sym (length-map kept vector)) row_of)
+      AddsUp-row_of field rate low (map vector kept) (vectors_are kept) few_vectors (vector link) (are link) row (subst (λ n. IsRowOf (vector link) n row) (sym (length-map kept vector)) row_of)
       in
       let before : AllByRecursion (AddsUp field rate more) old =
       each_more field wide (AddsUp field rate (map vector kept)) (AddsUp field rate more)
@@ -105,21 +104,21 @@ module _ (field : FieldKind) (rate : ℕ) (low : rate ≤ 32) (vector : ℕ → 
   pub taken_hidden : (earlier kept : List ℕ) (rows : List (List ℕ)) → AreTaken field rate vector earlier kept rows → (block : List ℕ) → IsHidden field rate (vectors rate rows) block
       → (link : ℕ) → Contains earlier link → dot field (vector link) block ≡ 0
   taken_hidden earlier kept rows taken block hidden link has =
-      dot-IsSum field rate (vectors rate rows) (AreRows-vectors field wide rate rows (vector_in_row field rate low) taken.are) block hidden.is hidden.products (vector link)
+      dot-IsSum field rate (vectors rate rows) (AreRows-vectors field wide rate rows (omega (arith, low)) taken.are) block hidden.is hidden.products (vector link)
       ((taken.sums (vector link)).1 (vector_sum field rate vector are earlier link has))
 
   -- a sum of multiples of the rows adds up
   taken_sum : (earlier kept : List ℕ) (rows : List (List ℕ)) → AreTaken field rate vector earlier kept rows → length kept ≡ rate → (row : List ℕ) → IsSum field wide rows row
-      → take rate row ≡ combination field rate (coefficients_of field rate row) (map vector kept)
+      → take rate row ≡ combination field rate (coefficients_of rate row) (map vector kept)
   taken_sum earlier kept rows taken full row sum =
       let long : length (map vector kept) ≡ rate = length-map kept vector ∙ full in
       (AddsUp-IsSum field rate low (map vector kept) (vectors_are kept) (omega (arith, long)) rows taken.are taken.add_up row sum).sum
-      ∙ ap (λ (count : ℕ). combination field rate (coefficients_of field count row) (map vector kept)) long
+      ∙ ap (λ (count : ℕ). combination field rate (coefficients_of count row) (map vector kept)) long
 
   -- the coefficients behind unit rows that are sums of the rows make the vectors of the kept links the identity
   pub taken_identity : (earlier kept : List ℕ) (rows : List (List ℕ)) → AreTaken field rate vector earlier kept rows → length kept ≡ rate
       → (matrix : List (List ℕ)) → length matrix ≡ rate
-      → ((k : ℕ) → k < rate → (row : List ℕ) × IsSum field (width_in field taken_bytes) rows row × (take rate row ≡ unit_row rate k) × (get_or matrix k [] ≡ coefficients_of field rate row))
+      → ((k : ℕ) → k < rate → (row : List ℕ) × IsSum field 64 rows row × (take rate row ≡ unit_row rate k) × (get_or matrix k [] ≡ coefficients_of rate row))
       → times_rows field rate matrix (map vector kept) ≡ identity rate
   taken_identity earlier kept rows taken full matrix square units =
       let product = times_rows field rate matrix (map vector kept) in
@@ -134,12 +133,12 @@ module _ (field : FieldKind) (rate : ℕ) (low : rate ≤ 32) (vector : ℕ → 
 
   -- unit rows that are sums of the rows are sums of the vectors of the links that came
   pub taken_units : (earlier kept : List ℕ) (rows : List (List ℕ)) → AreTaken field rate vector earlier kept rows
-      → ((k : ℕ) → k < rate → (row : List ℕ) × IsSum field (width_in field taken_bytes) rows row × (take rate row ≡ unit_row rate k))
+      → ((k : ℕ) → k < rate → (row : List ℕ) × IsSum field 64 rows row × (take rate row ≡ unit_row rate k))
       → (k : ℕ) → k < rate → IsSum field rate (map vector earlier) (unit_row rate k)
   taken_units earlier kept rows taken units k below =
       let found = units k below in
       (taken.sums (unit_row rate k)).0
-      (subst (IsSum field rate (vectors rate rows)) found.2 (IsSum-vectors field wide rate rows (vector_in_row field rate low) found.0 found.1))
+      (subst (IsSum field rate (vectors rate rows)) found.2 (IsSum-vectors field wide rate rows (omega (arith, low)) found.0 found.1))
 
 -- rising numbers with one above them behind them rise
 rising-push : (xs : List ℕ) (x : ℕ) → is_rising xs ≡ true → list_all (λ y. nat_lt y x) xs ≡ true → is_rising (xs ++ x ∷ []) ≡ true

@@ -5,10 +5,9 @@ use Rattle.code_file.specs.declared.draft.Draft.{Draft}
 use Rattle.code_finish.specs.declared.solving.Confusion.{Confusion}
 use Rattle.code_finish.specs.declared.solving.Solved.{Solved}
 use Rattle.code_finish.specs.declared.solving.Solved.TheVariants.{Found, Hidden}
-use Rattle.code_finish.specs.Taken.{coefficients_of, raising, taken_bytes}
+use Rattle.code_finish.specs.Taken.{coefficients_of, raising}
 use Rattle.failure_patterns.specs.First as words
 use Rattle.failure_patterns.specs.First.{AreClear, AreGoodBefore, FailsFirstIn}
-use Rattle.field_rows.specs.Widths.{width_in}
 use Rattle.gf_tables.specs.declared.kind.FieldKind.{FieldKind}
 use Rattle.linear_algebra.specs.Matrices.{identity, rows_of, times_rows}
 use Rattle.linear_algebra.specs.Rows.{AreElements, IsRow, unit_row, zero_row}
@@ -50,7 +49,7 @@ pub record IsConfused (draft : Draft) (demand : ℕ) (block : List ℕ) : Type 0
 abbrev pub AreUnitSums : FieldKind → ℕ → List (List ℕ) → List (List ℕ) → Type 0
 AreUnitSums field rate rows matrix =
     (k : ℕ) → k < length matrix
-    → (row : List ℕ) × IsSum field (width_in field taken_bytes) rows row × (take rate row ≡ unit_row rate k) × (get_or matrix k [] ≡ coefficients_of field rate row)
+    → (row : List ℕ) × IsSum field 64 rows row × (take rate row ≡ unit_row rate k) × (get_or matrix k [] ≡ coefficients_of rate row)
 
 -- the decoder of a demand: its links, and a matrix that makes the unit vectors of theirs
 pub record IsDecoderOf (draft : Draft) (demand : ℕ) (decoder : Decoder) : Type 0 where

@@ -1,7 +1,7 @@
 //! The decoders of a draft's demands, pattern by pattern, or the first demand that doesn't decode.
 ghost use Rattle.std.specs.Prelude.{◌≡◌, ◌<◌, ◌≤◌, ◌+◌, ◌*◌, ◌≢◌, ℕ, None, IfOk, IfErr, OnOk, length, reverse, slice_get, vec_len};
 ghost use Rattle.code_finish.specs.Solved.{AreSolved, AreSolvedAt, AreVectorsUnder, IsFirstBefore, IsFirstOf, IsFirstShown, IsSolved, ins_to, vectors_under};
-ghost use Rattle.code_finish.specs.Taken.{AreTaken};
+ghost use Rattle.code_finish.specs.Taken.{AreTaken, taken_bytes};
 ghost use Rattle.failure_patterns.specs.Demands.{number_of};
 ghost use Rattle.failure_patterns.specs.First.{limit_of};
 ghost use Rattle.net_model.specs.Demands.{demand_count, pattern_of_demand};
@@ -10,6 +10,7 @@ use crate::taking::Taken;
 use code_file::Draft;
 use failure_patterns::{demands, number_of, sinks_below};
 use field_rows::RowTables;
+use gf_tables::Width;
 use link_rows::{LinkRows, vector_rows};
 use net_model::{Demand, LinkList};
 use node_program::{Decoder, Entries};
@@ -44,12 +45,12 @@ fn vectors_of(
 }
 
 // Takes in the links into a node, by their vectors.
-fn take_links(
+fn take_links<const W: usize>(
     tables: &RowTables,
     draft: &Draft,
     vectors: &LinkRows<64>,
     node: u32,
-    taken: &mut Taken,
+    taken: &mut Taken<W>,
 ) -> Result<(), AllocError>
     requires field { taken.old.field ≡ draft.now.field }
     requires rate { taken.old.rate ≡ draft.now.rate }
@@ -70,13 +71,13 @@ fn take_links(
 }
 
 // What comes of a demand.
-fn solve(
+fn solve<const W: usize>(
     alloc: Global,
     tables: &RowTables,
     draft: &Draft,
     vectors: &LinkRows<64>,
     demand: Demand,
-    taken: &mut Taken,
+    taken: &mut Taken<W>,
 ) -> Result<Solved, AllocError>
     requires sink { demand.sink < length draft.now.net.sinks }
     requires pattern { demand.pattern < length draft.now.net.patterns }
@@ -99,14 +100,14 @@ fn solve(
 }
 
 // The decoders of the demands with a pattern, of the sinks from one on and before another, or the first of them that doesn't decode.
-fn solve_sinks(
+fn solve_sinks<const W: usize>(
     alloc: Global,
     tables: &RowTables,
     draft: &Draft,
     pattern: u32,
     begin: u32,
     end: u32,
-    taken: &mut Taken,
+    taken: &mut Taken<W>,
     decoders: &mut Vec<Decoder>,
 ) -> Result<Option<Confusion>, AllocError>
     requires pattern { pattern < length draft.now.net.patterns }
@@ -151,13 +152,13 @@ fn limit_of(demands: u32, first: &Option<Confusion>) -> u32
 }
 
 // The same of one pattern more, where `first` is the first of the patterns before it. Only demands below that are gone through.
-fn solve_pattern(
+fn solve_pattern<const W: usize>(
     alloc: Global,
     tables: &RowTables,
     draft: &Draft,
     pattern: u32,
     first: Option<Confusion>,
-    taken: &mut Taken,
+    taken: &mut Taken<W>,
     decoders: &mut Vec<Decoder>,
 ) -> Result<Option<Confusion>, AllocError>
     requires pattern { pattern < length draft.now.net.patterns }
@@ -198,11 +199,12 @@ fn no_decoders(alloc: Global, count: usize) -> Result<Vec<Decoder>, AllocError>
     Ok(decoders)
 }
 
-/// The decoders of all demands of a draft, or the first demand that doesn't decode.
-pub(crate) fn solve_all(
+// The decoders of all demands of a draft, or the first demand that doesn't decode, by rows of `W` bytes.
+fn solve_by_rows<const W: usize>(
     alloc: Global,
     draft: &Draft,
 ) -> Result<Result<Vec<Decoder>, Confusion>, AllocError>
+    requires { W ≡ taken_bytes draft.now.field }
     ensures count { IfOk result (λ solved. IfOk solved
         (λ decoders. vec_len decoders ≡ demand_count draft.now.net)) }
     ensures solved { IfOk result (λ solved. IfOk solved
@@ -210,7 +212,7 @@ pub(crate) fn solve_all(
     ensures first { IfOk result (λ solved. IfErr solved (IsFirstShown draft.now)) }
 {
     let tables = RowTables::new();
-    let mut taken = Taken::open(alloc, draft.field, draft.rate)?;
+    let mut taken = Taken::<W>::open(alloc, draft.field, draft.rate)?;
     let mut decoders = no_decoders(alloc, demands(&draft.net) as usize)?;
     let mut first = None;
     for pattern in 0..draft.net.patterns.len() as u32 {
@@ -227,5 +229,22 @@ pub(crate) fn solve_all(
     match first {
         Some(confusion) => Ok(Err(confusion)),
         None => Ok(Ok(decoders)),
+    }
+}
+
+/// The decoders of all demands of a draft, or the first demand that doesn't decode.
+pub(crate) fn solve_all(
+    alloc: Global,
+    draft: &Draft,
+) -> Result<Result<Vec<Decoder>, Confusion>, AllocError>
+    ensures count { IfOk result (λ solved. IfOk solved
+        (λ decoders. vec_len decoders ≡ demand_count draft.now.net)) }
+    ensures solved { IfOk result (λ solved. IfOk solved
+        (λ decoders. AreSolved draft.now (length draft.now.net.patterns) decoders.items)) }
+    ensures first { IfOk result (λ solved. IfErr solved (IsFirstShown draft.now)) }
+{
+    match draft.field.width() {
+        Width::One => solve_by_rows::<64>(alloc, draft),
+        Width::Two => solve_by_rows::<128>(alloc, draft),
     }
 }

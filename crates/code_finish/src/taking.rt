@@ -1,48 +1,50 @@
 //! Links into a sink that are taken in one by one.
-ghost use Rattle.std.specs.Prelude.{◌≡◌, ◌<◌, ◌≤◌, ◌*◌, ◌∷◌, ◌++◌, [], ℕ, List, IfOk, OnOk, length};
+ghost use Rattle.std.specs.Prelude.{◌≡◌, ◌<◌, ◌≤◌, ◌*◌, ◌∷◌, ◌++◌, [], ℕ, List, IfOk, OnOk, length, take};
 ghost use Rattle.linear_algebra.specs.Elements.{elements_of};
 ghost use Rattle.linear_algebra.specs.Matrices.{rows_of};
 ghost use Rattle.linear_algebra.specs.Rows.{AreElements, IsRow, unit_row};
-ghost use Rattle.link_rows.specs.Vectors.{wide_width, widened};
+ghost use Rattle.link_rows.specs.Vectors.{widened};
 ghost use Rattle.row_spans.specs.Spans.{IsHidden, vectors};
 ghost use Rattle.code_finish.specs.Solved.{AreUnitSums};
-ghost use Rattle.code_finish.specs.Taken.{AreTaken};
+ghost use Rattle.code_finish.specs.Taken.{AreTaken, taken_bytes};
 
-use field_rows::{RowTables, push_elements, unit_row};
+use field_rows::{RowTables, push_elements, put_element};
 use gf_tables::FieldKind;
 use row_spans::RowSpan;
 use std::alloc::{AllocError, Global};
 
 /// The links into a sink that were kept, and the rows that stand of their vectors: behind each the coefficients with which the
-/// vectors of the kept links add up to it.
+/// vectors of the kept links add up to it. A row has 64 elements of the field, in `W` bytes.
 #[derive(Drop)]
-pub(crate) struct Taken {
+pub(crate) struct Taken<const W: usize> {
     pub(crate) field: FieldKind,
     pub(crate) rate: u32,
-    pub(crate) span: RowSpan<128>,
+    pub(crate) span: RowSpan<W>,
     pub(crate) links: Vec<u32>,
     ghost span_field: { span.field ≡ field },
     ghost span_rate: { span.rate ≡ rate },
+    ghost bytes: { W ≡ taken_bytes field },
     ghost some_rate: { 1 ≤ rate },
     ghost low_rate: { rate ≤ 32 },
 }
 
-// The row of a link: its vector, and one at a place behind it.
-fn row_of(field: FieldKind, vector: &[u8; 64], place: u32) -> [u8; 128]
-    requires { place < wide_width field }
-    ensures { elements_of field result
-        ≡ elements_of field vector.now ++ unit_row (wide_width field) place }
+// The row of a link: the first elements of its vector, and one at a place behind them.
+fn row_of<const W: usize>(field: FieldKind, vector: &[u8; 64], place: u32) -> [u8; W]
+    requires bytes { W ≡ taken_bytes field }
+    requires place { place < 32 }
+    ensures { elements_of field result ≡ take 32 (elements_of field vector.now) ++ unit_row 32 place }
 {
-    let mut row = [0; 128];
-    let (front, behind) = row.split_at_mut(64);
-    front.copy_from_slice(vector);
-    behind.copy_from_slice(&unit_row::<64>(field, place));
+    let mut row = [0; W];
+    let (front, behind) = row.split_at_mut(W / 2);
+    front.copy_from_slice(&vector[..W / 2]);
+    put_element(field, behind, place, 1);
     row
 }
 
-impl Taken {
+impl<const W: usize> Taken<W> {
     /// No links. Here memory is taken for the rows.
-    pub(crate) fn open(alloc: Global, field: FieldKind, rate: u32) -> Result<Taken, AllocError>
+    pub(crate) fn open(alloc: Global, field: FieldKind, rate: u32) -> Result<Taken<W>, AllocError>
+        requires bytes { W ≡ taken_bytes field }
         requires some_rate { 1 ≤ rate }
         requires low_rate { rate ≤ 32 }
         ensures field { IfOk result (λ taken. taken.field ≡ field) }
@@ -104,7 +106,8 @@ impl Taken {
     {
         let mut entries = Vec::with_capacity(alloc, self.rate as usize * self.rate as usize)?;
         for k in 0..self.rate {
-            push_elements(&mut entries, self.field, &self.span.row(k)[64..], self.rate)?;
+            let row: &[u8] = self.span.row(k);
+            push_elements(&mut entries, self.field, &row[W / 2..], self.rate)?;
         }
         Ok(entries)
     }

@@ -146,6 +146,8 @@ fn clear_rows<const W: usize>(
 {
     for row in rows.iter_mut() {
         let by = element_at(field, row, column);
-        tables.add_scaled(field, row, by, lead);
+        if by != 0 {
+            tables.add_scaled(field, row, by, lead);
+        }
     }
 }

@@ -73,7 +73,7 @@ module _ (draft : Draft) (demand : Demand) (pattern : demand.pattern < length dr
       }
 
 pub returns-then-rank-draft-clause-solved : goal.returns-then-rank-draft-clause-solved
-returns-then-rank-draft-clause-solved c =
+returns-then-rank-draft-clause-solved g c =
     let draft = c.args.draft.now in
     let taken = c.take_links.new.taken in
     let rows = taken.span.rows in
@@ -85,7 +85,7 @@ returns-then-rank-draft-clause-solved c =
     confused_by draft c.args.demand c.requires.pattern c.at-node.result.now c.at-node.ensures taken.links.items rows (c.in_ok-take_links.ensures.taken c.args.demand.pattern c.requires.vectors) c.of.result hidden
 
 pub returns-clause-solved : goal.returns-clause-solved
-returns-clause-solved c =
+returns-clause-solved g c =
     let draft = c.args.draft.now in
     let taken = c.take_links.new.taken in
     let rows = taken.span.rows in

@@ -19,7 +19,7 @@ none_below patterns pattern below =
     let same : 0 + patterns - 1 - pattern ≡ 0 * patterns + rest = omega arith in
     sym (ap (λ n. n / patterns) same ∙ div-mul-add 0 patterns rest (omega (arith, below)))
 
-module _ (c : In_ok-confusion) where
+module _ (g : _) (c : In_ok-confusion g) where
   abbrev draft : Draft
   draft = c.args.draft.now
 
@@ -40,28 +40,28 @@ module _ (c : In_ok-confusion) where
       (none_below patterns c.args.pattern c.requires.pattern) end c.in_ok-confusion.ensures.first
 
 pub returns-in-Some-clause-first : goal.returns-in-Some-clause-first
-returns-in-Some-clause-first c =
-    let at = (goal.at.returns-in-Some-clause-first c).In_ok-confusion in
+returns-in-Some-clause-first g c =
+    let at = (goal.at.returns-in-Some-clause-first g c).In_ok-confusion in
     let draft = c.args.draft.now in
     let all = demand_count draft.net in
     let patterns = length draft.net.patterns in
     let Of : Option Confusion → Type 0 = IsFirstOf draft c.args.pattern (sinks_below patterns c.args.pattern 0) (sinks_below patterns c.args.pattern (limit_of number all c.args.first)) in
-    let first = subst Of c.in-Some.is (found at) in
+    let first = subst Of c.in-Some.is (found g at) in
     first_found draft.net (DecodesIn draft) number (Shows draft) c.args.pattern c.requires.pattern 0 all c.args.first first.0 c.in-Some.confusion
     (limit_within draft.net (DecodesIn draft) number (Shows draft) 0 all c.args.pattern c.args.first c.requires.before) c.requires.before first.1
 
 pub returns-in-None-clause-first : goal.returns-in-None-clause-first
-returns-in-None-clause-first c =
-    let at = (goal.at.returns-in-None-clause-first c).In_ok-confusion in
+returns-in-None-clause-first g c =
+    let at = (goal.at.returns-in-None-clause-first g c).In_ok-confusion in
     let draft = c.args.draft.now in
     let all = demand_count draft.net in
     let patterns = length draft.net.patterns in
     let Of : Option Confusion → Type 0 = IsFirstOf draft c.args.pattern (sinks_below patterns c.args.pattern 0) (sinks_below patterns c.args.pattern (limit_of number all c.args.first)) in
-    first_kept draft.net (DecodesIn draft) number (Shows draft) c.args.pattern c.requires.pattern 0 all c.args.first c.requires.before (subst Of c.in-None.is (found at))
+    first_kept draft.net (DecodesIn draft) number (Shows draft) c.args.pattern c.requires.pattern 0 all c.args.first c.requires.before (subst Of c.in-None.is (found g at))
 
 pub returns-in-None-clause-solved : goal.returns-in-None-clause-solved
-returns-in-None-clause-solved c = λ none.
-    let at = (goal.at.returns-in-None-clause-solved c).In_ok-confusion in
+returns-in-None-clause-solved g c = λ none.
+    let at = (goal.at.returns-in-None-clause-solved g c).In_ok-confusion in
     let draft = c.args.draft.now in
     let all = demand_count draft.net in
     let decoders = c.solve_sinks.new.decoders.items in
@@ -69,7 +69,7 @@ returns-in-None-clause-solved c = λ none.
     let patterns = length draft.net.patterns in
     let here : AreSolvedAt draft c.args.pattern (sinks_below patterns c.args.pattern 0) (sinks_below patterns c.args.pattern all) decoders =
     subst (λ n. AreSolvedAt draft c.args.pattern n (sinks_below patterns c.args.pattern all) decoders) (none_below patterns c.args.pattern c.requires.pattern)
-    (subst (λ n. AreSolvedAt draft c.args.pattern 0 n decoders) (end at ∙ ap (λ first. sinks_below patterns c.args.pattern (limit_of number all first)) none) (c.in_ok-confusion.ensures.solved c.in-None.is)) in
+    (subst (λ n. AreSolvedAt draft c.args.pattern 0 n decoders) (end g at ∙ ap (λ first. sinks_below patterns c.args.pattern (limit_of number all first)) none) (c.in_ok-confusion.ensures.solved c.in-None.is)) in
     first_kept draft.net (HasDecoder draft decoders) number (Shows draft) c.args.pattern c.requires.pattern 0 all none_first
     (λ demand on lower which.
     let old = c.requires.solved none demand on lower which in

@@ -6,7 +6,7 @@ use Rattle.net_model.specs.Demands.{pattern_of_demand}
 use Rattle.code_finish.proofs.solving.solve_sinks.Goals as goal
 
 pub loop-sink-init : goal.loop-sink-init
-loop-sink-init c = record {
+loop-sink-init g c = record {
   field = c.requires.field;
   rate = c.requires.rate;
   count = c.requires.count;
@@ -14,32 +14,32 @@ loop-sink-init c = record {
   solved = λ sink begun before. absurd (omega (arith, begun, before));
 }
 
-pub solve-requires-clause-field : goal.solve-requires-clause-field
-solve-requires-clause-field c = c.loop-sink.invariant.field
-
-pub solve-requires-clause-rate : goal.solve-requires-clause-rate
-solve-requires-clause-rate c = c.loop-sink.invariant.rate
+pub solve-requires : goal.solve-requires
+solve-requires g c = (
+  omega arith,
+  (omega (arith, c.loop-sink-test.true, c.requires.sinks), (c.requires.pattern, (c.in_ok-vectors.ensures, (c.loop-sink.invariant.field, c.loop-sink.invariant.rate)))),
+)
 
 pub returns-in_err-decoder-clause-field : goal.returns-in_err-decoder-clause-field
-returns-in_err-decoder-clause-field c = c.solve.ensures.field ∙ c.loop-sink.invariant.field ∙ sym c.requires.field
+returns-in_err-decoder-clause-field g c = c.solve.ensures.field ∙ c.loop-sink.invariant.field ∙ sym c.requires.field
 
 pub returns-in_err-decoder-clause-rate : goal.returns-in_err-decoder-clause-rate
-returns-in_err-decoder-clause-rate c = c.solve.ensures.rate ∙ c.loop-sink.invariant.rate ∙ sym c.requires.rate
+returns-in_err-decoder-clause-rate g c = c.solve.ensures.rate ∙ c.loop-sink.invariant.rate ∙ sym c.requires.rate
 
 pub returns-in_err-decoder-clause-others : goal.returns-in_err-decoder-clause-others
-returns-in_err-decoder-clause-others c = c.loop-sink.invariant.others
+returns-in_err-decoder-clause-others g c = c.loop-sink.invariant.others
 
 pub returns-in-Hidden-clause-field : goal.returns-in-Hidden-clause-field
-returns-in-Hidden-clause-field c = c.solve.ensures.field ∙ c.loop-sink.invariant.field ∙ sym c.requires.field
+returns-in-Hidden-clause-field g c = c.solve.ensures.field ∙ c.loop-sink.invariant.field ∙ sym c.requires.field
 
 pub returns-in-Hidden-clause-rate : goal.returns-in-Hidden-clause-rate
-returns-in-Hidden-clause-rate c = c.solve.ensures.rate ∙ c.loop-sink.invariant.rate ∙ sym c.requires.rate
+returns-in-Hidden-clause-rate g c = c.solve.ensures.rate ∙ c.loop-sink.invariant.rate ∙ sym c.requires.rate
 
 pub returns-in-Hidden-clause-others : goal.returns-in-Hidden-clause-others
-returns-in-Hidden-clause-others c = c.loop-sink.invariant.others
+returns-in-Hidden-clause-others g c = c.loop-sink.invariant.others
 
 pub returns-in-Hidden-clause-first : goal.returns-in-Hidden-clause-first
-returns-in-Hidden-clause-first c =
+returns-in-Hidden-clause-first g c =
     let draft = c.args.draft.now in
     let number = c.number_of-number.ensures.value in
     let hidden = subst (IsSolved draft (c.loop-sink.sink * length draft.net.patterns + c.args.pattern)) c.in-Hidden.is c.in_ok-decoder.ensures.solved in (
@@ -54,7 +54,7 @@ returns-in-Hidden-clause-first c =
     )
 
 pub loop-sink-preserved : goal.loop-sink-preserved
-loop-sink-preserved c =
+loop-sink-preserved g c =
     let draft = c.args.draft.now in
     let pattern = c.args.pattern in
     let sink = c.loop-sink.sink in
@@ -75,19 +75,19 @@ loop-sink-preserved c =
     }
 
 pub returns-clause-field : goal.returns-clause-field
-returns-clause-field c = c.loop-sink.invariant.field ∙ sym c.requires.field
+returns-clause-field g c = c.loop-sink.invariant.field ∙ sym c.requires.field
 
 pub returns-clause-rate : goal.returns-clause-rate
-returns-clause-rate c = c.loop-sink.invariant.rate ∙ sym c.requires.rate
+returns-clause-rate g c = c.loop-sink.invariant.rate ∙ sym c.requires.rate
 
 pub returns-clause-others : goal.returns-clause-others
-returns-clause-others c = c.loop-sink.invariant.others
+returns-clause-others g c = c.loop-sink.invariant.others
 
 pub returns-clause-first : goal.returns-clause-first
-returns-clause-first c =
+returns-clause-first g c =
     let draft = c.args.draft.now in
     let clear = solved_decode draft c.args.pattern c.args.begin c.requires.pattern c.loop-sink.decoders.items c.loop-sink.sink c.loop-sink.invariant.solved in
     λ sink begun before. clear sink begun (omega (arith, before, c.loop-sink-test.false))
 
 pub returns-clause-solved : goal.returns-clause-solved
-returns-clause-solved c = λ none sink begun before. c.loop-sink.invariant.solved sink begun (omega (arith, before, c.loop-sink-test.false))
+returns-clause-solved g c = λ none sink begun before. c.loop-sink.invariant.solved sink begun (omega (arith, before, c.loop-sink-test.false))

@@ -6,7 +6,7 @@ use Rattle.code_finish.proofs.solving.solve_sinks.Given as goal
 
 -- the demands of the sinks so far have their decoders, and those of other patterns have what they had
 abbrev pub invariant-loop-sink : goal.invariant-loop-sink
-invariant-loop-sink l = record {
+invariant-loop-sink g l = record {
   field : l.taken.field ≡ l.draft.field;
   rate : l.taken.rate ≡ l.draft.rate;
   count : vec_len l.decoders ≡ demand_count l.draft.net;

@@ -20,7 +20,7 @@ use Rattle.code_finish.proofs.solving.take_links.Goals as goal
 use Rattle.code_finish.proofs.solving.take_links.Goals.{then-head-node+in_ok-take_in, else-head-node}
 
 pub loop-link-init : goal.loop-link-init
-loop-link-init c =
+loop-link-init g c =
     let draft = c.args.draft.now in
     record {
       field = c.clear.ensures.field;
@@ -31,13 +31,13 @@ loop-link-init c =
     }
 
 pub returns-in_err-take_in-clause-field : goal.returns-in_err-take_in-clause-field
-returns-in_err-take_in-clause-field c = c.take_in.ensures.field ∙ c.loop-link.invariant.field
+returns-in_err-take_in-clause-field g c = c.take_in.ensures.field ∙ c.loop-link.invariant.field
 
 pub returns-in_err-take_in-clause-rate : goal.returns-in_err-take_in-clause-rate
-returns-in_err-take_in-clause-rate c = c.take_in.ensures.rate ∙ c.loop-link.invariant.rate
+returns-in_err-take_in-clause-rate g c = c.take_in.ensures.rate ∙ c.loop-link.invariant.rate
 
 pub loop-link-preserved : goal.loop-link-preserved
-loop-link-preserved c =
+loop-link-preserved g c =
     let draft = c.args.draft.now in
     let node = c.args.node in
     let link = c.loop-link.link in
@@ -64,8 +64,8 @@ loop-link-preserved c =
           (subst (λ rate. Step old.field rate) (before.rate ∙ c.requires.rate) w.in_ok-take_in.ensures.taken)
           in
           record {
-            field = ap (λ (taken : Taken). taken.field) w.taken-is ∙ told.field ∙ before.field;
-            rate = ap (λ (taken : Taken). taken.rate) w.taken-is ∙ told.rate ∙ before.rate;
+            field = ap (λ (taken : Taken g.row.W). taken.field) w.taken-is ∙ told.field ∙ before.field;
+            rate = ap (λ (taken : Taken g.row.W). taken.rate) w.taken-is ∙ told.rate ∙ before.rate;
             taken = λ pattern are.
                 rw (w.taken-is, links)
                 (step (vectors_under draft pattern) (reverse so_far) (IsRow-global_vector draft.draft (failed_links draft.net.patterns pattern))
@@ -77,20 +77,20 @@ loop-link-preserved c =
           more ∙ ap (λ b. so_far ++ cond b (link ∷ []) []) past ∙ append-nil so_far
           in
           record {
-            field = ap (λ (taken : Taken). taken.field) w.taken-is ∙ before.field;
-            rate = ap (λ (taken : Taken). taken.rate) w.taken-is ∙ before.rate;
+            field = ap (λ (taken : Taken g.row.W). taken.field) w.taken-is ∙ before.field;
+            rate = ap (λ (taken : Taken g.row.W). taken.rate) w.taken-is ∙ before.rate;
             taken = λ pattern are. rw (w.taken-is, links) (before.taken pattern are);
           }
     ]
 
 pub returns-clause-field : goal.returns-clause-field
-returns-clause-field c = c.loop-link.invariant.field
+returns-clause-field g c = c.loop-link.invariant.field
 
 pub returns-clause-rate : goal.returns-clause-rate
-returns-clause-rate c = c.loop-link.invariant.rate
+returns-clause-rate g c = c.loop-link.invariant.rate
 
 pub returns-clause-taken : goal.returns-clause-taken
-returns-clause-taken c = λ pattern are.
+returns-clause-taken g c = λ pattern are.
     let draft = c.args.draft.now in
     let all : c.loop-link.link ≡ length draft.net.links = omega (arith, c.loop-link-test.false, c.loop-link.auto.link-end, c.len-link-end.ensures) in
     let Are : ℕ → Type 0 = λ links. AreTaken draft.field draft.rate (vectors_under draft pattern) (reverse (filter (leads_into draft.net.links c.args.node) (range_with_len 0 links))) c.loop-link.taken.links.items c.loop-link.taken.span.rows in

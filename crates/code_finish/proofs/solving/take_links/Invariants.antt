@@ -8,7 +8,7 @@ use Rattle.code_finish.proofs.solving.take_links.Given as goal
 
 -- the links so far that lead into the node were taken in
 abbrev pub invariant-loop-link : goal.invariant-loop-link
-invariant-loop-link l =
+invariant-loop-link g l =
     record {
       field : l.taken.field ≡ l.fn.taken.field;
       rate : l.taken.rate ≡ l.fn.taken.rate;

@@ -3,13 +3,13 @@ use Rattle.code_finish.specs.Solved.{AreSolved, DecodesIn, HasDecoder, IsFirstBe
 use Rattle.code_finish.specs.declared.solving.Confusion.{Confusion}
 use Rattle.failure_patterns.proofs.FirstLaws.{first_last, first_none}
 use Rattle.net_model.specs.Demands.{demand_count}
-use Rattle.code_finish.proofs.solving.solve_all.Goals as goal
+use Rattle.code_finish.proofs.solving.solve_by_rows.Goals as goal
 
 abbrev number : Confusion → ℕ
 number one = one.demand
 
 pub loop-pattern-init : goal.loop-pattern-init
-loop-pattern-init c =
+loop-pattern-init g c =
     let draft = c.args.draft.now in
     record {
       field = c.in_ok-taken.ensures.field;
@@ -19,23 +19,20 @@ loop-pattern-init c =
       solved = λ none. first_none draft.net (HasDecoder draft c.in_ok-decoders.decoders.items) number (Shows draft) 0 (demand_count draft.net);
     }
 
-pub solve_pattern-requires-clause-before : goal.solve_pattern-requires-clause-before
-solve_pattern-requires-clause-before c = c.loop-pattern.invariant.first
-
-pub solve_pattern-requires-clause-field : goal.solve_pattern-requires-clause-field
-solve_pattern-requires-clause-field c = c.loop-pattern.invariant.field
-
-pub solve_pattern-requires-clause-rate : goal.solve_pattern-requires-clause-rate
-solve_pattern-requires-clause-rate c = c.loop-pattern.invariant.rate
-
-pub solve_pattern-requires-clause-count : goal.solve_pattern-requires-clause-count
-solve_pattern-requires-clause-count c = c.loop-pattern.invariant.count
-
-pub solve_pattern-requires-clause-solved : goal.solve_pattern-requires-clause-solved
-solve_pattern-requires-clause-solved c = c.loop-pattern.invariant.solved
+pub solve_pattern-requires : goal.solve_pattern-requires
+solve_pattern-requires g c = (
+  omega arith,
+  (
+    omega (arith, c.loop-pattern-test.true, c.len-pattern-end.ensures),
+    (
+      c.loop-pattern.invariant.first,
+      (c.loop-pattern.invariant.field, (c.loop-pattern.invariant.rate, (c.loop-pattern.invariant.count, c.loop-pattern.invariant.solved))),
+    ),
+  ),
+)
 
 pub loop-pattern-preserved : goal.loop-pattern-preserved
-loop-pattern-preserved c = record {
+loop-pattern-preserved g c = record {
   field = c.solve_pattern.ensures.field ∙ c.loop-pattern.invariant.field;
   rate = c.solve_pattern.ensures.rate ∙ c.loop-pattern.invariant.rate;
   count = c.solve_pattern.ensures.count;
@@ -44,7 +41,7 @@ loop-pattern-preserved c = record {
 }
 
 pub returns-in-Some-clause-first : goal.returns-in-Some-clause-first
-returns-in-Some-clause-first c =
+returns-in-Some-clause-first g c =
     let draft = c.args.draft.now in
     let all = demand_count draft.net in
     let Of : Option Confusion → Type 0 = IsFirstBefore draft c.loop-pattern.pattern in
@@ -52,10 +49,10 @@ returns-in-Some-clause-first c =
     first_last draft.net (DecodesIn draft) number (Shows draft) 0 all c.loop-pattern.pattern (Some c.in-Some.confusion) (omega arith) gone (subst Of c.in-Some.is c.loop-pattern.invariant.first)
 
 pub returns-clause-count : goal.returns-clause-count
-returns-clause-count c = c.loop-pattern.invariant.count
+returns-clause-count g c = c.loop-pattern.invariant.count
 
 pub returns-clause-solved : goal.returns-clause-solved
-returns-clause-solved c =
+returns-clause-solved g c =
     let draft = c.args.draft.now in
     let decoders = c.loop-pattern.decoders.items in
     let gone : c.loop-pattern.pattern ≡ length draft.net.patterns = omega (arith, c.loop-pattern-test.false, c.len-pattern-end.ensures, c.loop-pattern.auto.pattern-end) in
