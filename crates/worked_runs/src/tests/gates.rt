@@ -65,23 +65,28 @@ fn jobs_enter_the_gate(rt: HostRuntime) {
     }
 }
 
-// A network of 256 demands: sixteen sinks, each with a link from the source, and fifteen patterns, in each of which a
-// link fails that leads to another node.
-fn write_wide(text: &mut String) -> Result<(), AllocError> {
+// A network of so many sinks, each with a link from the source, and so many patterns beside `none`, in each of which a link
+// fails that leads to another node.
+fn write_wide(text: &mut String, sinks: u32, patterns: u32) -> Result<(), AllocError> {
     text.push_str("source s\n")?;
-    for sink in 1..=16u32 {
+    for sink in 1..=sinks {
         write!(text, "sink t{sink}\nlink l{sink} s t{sink}\n")?;
     }
-    for spare in 1..=15u32 {
+    for spare in 1..=patterns {
         write!(text, "link e{spare} s x\npattern p{spare} e{spare}\n")?;
     }
     Ok(())
 }
 
-fn wide(alloc: Global) -> Option<String> {
+fn wide(alloc: Global, sinks: u32, patterns: u32) -> Option<String> {
     let mut text = String::new(alloc);
-    write_wide(&mut text).ok()?;
+    write_wide(&mut text, sinks, patterns).ok()?;
     Some(text)
+}
+
+// One of 1,024 demands.
+fn many_demands(alloc: Global) -> Option<String> {
+    wide(alloc, 32, 31)
 }
 
 // Whether a command on the file at `in` has four jobs, of which each meets another one.
@@ -95,9 +100,9 @@ fn four_meet<R: Threads + Sync>(
     Some(is_done_on(rt, alloc, words, file, &gate)? && gate.is_met(1111))
 }
 
-// Whether they do for a command on the wide network.
+// Whether they do for a command on the network of 1,024 demands.
 fn four_meet_wide<R: Threads + Sync>(rt: &R, alloc: Global, words: &[&str]) -> Option<bool> {
-    let text = wide(alloc)?;
+    let text = many_demands(alloc)?;
     four_meet(rt, alloc, words, text.as_bytes())
 }
 
@@ -119,9 +124,9 @@ fn compiled_in<'a, R: Threads + Sync>(
     store.file("code")
 }
 
-// Whether four jobs meet where the code of the wide network is checked.
+// Whether four jobs meet where the code of the network of 1,024 demands is checked.
 fn four_check_wide<R: Threads + Sync>(rt: &R, alloc: Global) -> Option<bool> {
-    let text = wide(alloc)?;
+    let text = many_demands(alloc)?;
     let mut store = store_of(alloc, &[("in", text.as_bytes())])?;
     let code = compiled_in(rt, alloc, &mut store)?;
     four_meet(rt, alloc, CHECK, code)
@@ -146,14 +151,21 @@ fn all_meet<R: Threads + Sync>(rt: &R, alloc: Global, code: &[u8]) -> Option<boo
     Some(is_done_on(rt, alloc, SEND, code, &gate)? && gate.all_meet())
 }
 
-// Whether it does by the code of the combination network.
-fn all_meet_in_combination<R: Threads + Sync>(rt: &R, alloc: Global) -> Option<bool> {
-    let mut store = store_of(alloc, &[("in", COMBINATION_TEXT)])?;
+// Whether it does by the code of a network.
+fn all_meet_in<R: Threads + Sync>(rt: &R, alloc: Global, network: &[u8]) -> Option<bool> {
+    let mut store = store_of(alloc, &[("in", network)])?;
     let code = compiled_in(rt, alloc, &mut store)?;
     all_meet(rt, alloc, code)
 }
 
+// Whether it does by that of 64 sinks.
+fn all_meet_in_wide<R: Threads + Sync>(rt: &R, alloc: Global) -> Option<bool> {
+    let text = wide(alloc, 64, 0)?;
+    all_meet_in(rt, alloc, text.as_bytes())
+}
+
 #[test]
 fn the_check_and_the_sinks_are_done_side_by_side(rt: HostRuntime) {
-    assert!(rt; all_meet_in_combination(&rt, rt.alloc()) == Some(true));
+    assert!(rt; all_meet_in(&rt, rt.alloc(), COMBINATION_TEXT) == Some(true));
+    assert!(rt; all_meet_in_wide(&rt, rt.alloc()) == Some(true));
 }
