@@ -1,5 +1,5 @@
 // Reads a network text, and writes the code file and the report of docs/FORMATS.md, as `lif compile` does. The first
-// word says how flows are found: preflow, edmonds-karp or dinic.
+// word says how flows are found: preflow, edmonds-karp, dinic or from-none.
 //
 // The paths of all demands are flows, as cuts.hpp finds them. Each demand has for each of its paths the link that was visited last on
 // it, and an inverse vector, whose product with that link's vector is one, and zero with those of the other paths. The
@@ -361,7 +361,7 @@ static std::string compile(const char *method, const Network &network, const cha
     std::size_t demands = network.sinks.size() * network.patterns.size();
     int field = network.field != 0 ? network.field : demands <= 256 ? 8 : 16;
     if (demands > (field == 8 ? 256 : 65536)) fail("there are too many demands for the field");
-    Report report = report_of(method, network);
+    Report report = report_of(method, network, network.rate != 0 ? network.rate : MOST_RATE);
     int rate = network.rate != 0 ? network.rate : report.rate;
     if (rate < 1 || rate > MOST_RATE) fail("the rate isn't 1 to 32");
     if (rate > report.rate) fail("the rate that is wanted is above that of the network");

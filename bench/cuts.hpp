@@ -1,5 +1,6 @@
 // The cuts and the flows of a network's demands, and their report: what cuts.cpp and compile.cpp share. Each demand's
-// flow is found from nothing, by LEMON's Preflow or EdmondsKarp, or by Dinic's method over links of capacity 1.
+// flow is found from nothing, by LEMON's Preflow or EdmondsKarp, or by Dinic's method over links of capacity 1; or Dinic's
+// method begins with the flow that the sink has where no link fails.
 #pragma once
 
 #include "network.hpp"
@@ -94,18 +95,13 @@ public:
             arcs[2 * link].is_open = !pattern.fails[link];
             arcs[2 * link + 1].is_open = false;
         }
-        int value = 0;
-        while (find_levels(sink)) {
-            cursors.assign(network.nodes.size(), 0);
-            while (push(network.source, sink)) value++;
-        }
-        return value;
+        return complete(sink);
     }
 
     bool carries(int link) const { return arcs[2 * link + 1].is_open; }
     bool is_on_side(int node) const { return levels[node] >= 0; }
 
-private:
+protected:
     struct Arc {
         int to;
         bool is_open;
@@ -115,6 +111,18 @@ private:
     // The arc of link `l` is number `2 * l`, and its way back the next.
     std::vector<Arc> arcs;
     std::vector<std::vector<int>> arcs_at;
+
+    // Adds paths to the flow that the arcs have until there are no more, and gives how many.
+    int complete(int sink) {
+        int count = 0;
+        while (find_levels(sink)) {
+            cursors.assign(network.nodes.size(), 0);
+            while (push(network.source, sink)) count++;
+        }
+        return count;
+    }
+
+private:
     std::vector<int> levels, queue;
     std::vector<std::size_t> cursors;
 
@@ -155,13 +163,64 @@ private:
     }
 };
 
+// The same, but the flow of a pattern begins with that of `none` for the same sink, less the paths that the pattern breaks.
+// The demands of a sink come one after the other.
+class FlowsFromNone : public DinicFlows {
+public:
+    using DinicFlows::DinicFlows;
+
+    int find(int sink, const Pattern &pattern) {
+        if (sink != sink_of_none) {
+            sink_of_none = sink;
+            value_of_none = DinicFlows::find(sink, network.patterns[0]);
+            arcs_of_none = arcs;
+        }
+        arcs = arcs_of_none;
+        int broken = 0;
+        for (std::size_t link = pattern.fails._Find_first(); link < MOST_LINKS; link = pattern.fails._Find_next(link)) {
+            if (carries(link)) {
+                break_path(link, sink);
+                broken++;
+            }
+            arcs[2 * link].is_open = false;
+        }
+        return value_of_none - broken + complete(sink);
+    }
+
+private:
+    // For one sink the arcs and the value of the flow of `none`.
+    int sink_of_none = -1, value_of_none = 0;
+    std::vector<Arc> arcs_of_none;
+
+    // Takes away a path over a link that carries something.
+    void break_path(int link, int sink) {
+        take_away(link);
+        for (int node = network.links[link].head; node != sink;) node = follow(node, 0);
+        for (int node = network.links[link].tail; node != network.source;) node = follow(node, 1);
+    }
+
+    // Takes away a link that carries something out of a node, or into it where the way is 1, and gives its other end.
+    int follow(int node, int way) {
+        auto leads = [&](int number) { return number % 2 == way && carries(number / 2); };
+        int arc = *std::find_if(arcs_at[node].begin(), arcs_at[node].end(), leads);
+        take_away(arc / 2);
+        return arcs[arc].to;
+    }
+
+    void take_away(int link) {
+        arcs[2 * link].is_open = true;
+        arcs[2 * link + 1].is_open = false;
+    }
+};
+
 // The certificates of all demands.
 template <typename Flows>
 class Cutter {
 public:
-    explicit Cutter(const Network &of) : network(of), out(links_out(of)), flows(of), carries(of.links.size()) {}
+    Cutter(const Network &of, int paths)
+        : network(of), kept_paths(paths), out(links_out(of)), flows(of), carries(of.links.size()) {}
 
-    // The least value of all demands, and the links of all their paths, path by path, once there is a report.
+    // The least value of all demands, and the links of so many paths of each at most, path by path, once there is a report.
     int rate = 0;
     std::vector<Hop> hops;
 
@@ -170,11 +229,13 @@ public:
         for (int sink : network.sinks) {
             for (const Pattern &pattern : network.patterns) rate = std::min(rate, say_demand(sink, pattern));
         }
-        return "rate " + std::to_string(rate) + "\n" + said;
+        said.insert(0, "rate " + std::to_string(rate) + "\n");
+        return std::move(said);
     }
 
 private:
     const Network &network;
+    int kept_paths;
     std::vector<std::vector<int>> out;
     Flows flows;
     // Whether each link carries something for which there is no path yet.
@@ -227,7 +288,7 @@ private:
         said.append("path");
         for (int before = path;;) {
             said.append(" ").append(network.links[link].name);
-            hops.push_back({demand, path, link, before});
+            if (path < kept_paths) hops.push_back({demand, path, link, before});
             carries[link] = false;
             int head = network.links[link].head;
             if (head == sink) break;
@@ -245,17 +306,18 @@ struct Report {
 };
 
 template <typename Flows>
-Report report_by(const Network &network) {
-    Cutter<Flows> cutter(network);
+Report report_by(const Network &network, int kept_paths) {
+    Cutter<Flows> cutter(network, kept_paths);
     std::string text = cutter.report();
     return {cutter.rate, std::move(cutter.hops), std::move(text)};
 }
 
-// The report of a network, by flows that are found as a word says.
-inline Report report_of(const std::string &method, const Network &network) {
-    if (method == "preflow") return report_by<LemonFlows<Preflow>>(network);
-    if (method == "edmonds-karp") return report_by<LemonFlows<EdmondsKarp>>(network);
-    if (method == "dinic") return report_by<DinicFlows>(network);
-    fail("a method is preflow, edmonds-karp or dinic");
+// The report of a network, by flows that are found as a word says, with the links of so many paths of each demand at most.
+inline Report report_of(const std::string &method, const Network &network, int kept_paths) {
+    if (method == "preflow") return report_by<LemonFlows<Preflow>>(network, kept_paths);
+    if (method == "edmonds-karp") return report_by<LemonFlows<EdmondsKarp>>(network, kept_paths);
+    if (method == "dinic") return report_by<DinicFlows>(network, kept_paths);
+    if (method == "from-none") return report_by<FlowsFromNone>(network, kept_paths);
+    fail("a method is preflow, edmonds-karp, dinic or from-none");
     return {};
 }

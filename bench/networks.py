@@ -28,20 +28,32 @@ without patterns. The links that remain lead from the source to the nodes of the
 
 `parallel LINKS` is one bundle of so many links from the source to the sink.
 
+`hubs NODES DEGREE SINKS` and `near NODES DEGREE SINKS` are like networks of routers. The nodes come one after another, and
+into each but the source lead as many links as the degree is, from nodes before it that chance chooses, one for each link. So
+the cut of each is the degree. In `hubs` a node is chosen in proportion to how many links lead into it or out of it, so few
+nodes have many. In `near` the nodes lie in a square by chance, and come in the order of their distance from the source; one
+is chosen the less, the farther it is from the next node. The sinks are chosen by chance.
+
 Behind the words of a kind `fail-each` lets each link fail alone, and `rate R` wants that rate. Networks whose single links
 fail are:
 
 - `parallel 1023 fail-each`, with 1,024 demands
 - `mixed 4 32 4 16 8 0 fail-each`, with 544 links and 8,720 demands
 - `sized LINKS 16 4 16 4 fail-each`, as for 250, 500, 1000 and 2000 links; the demands are 16 times one more than the links
+- `sized 1000 16 4 SINKS 4 fail-each`, for up to 64 sinks
+- `hubs 251 4 16 fail-each` and `near 251 4 16 fail-each`, with 1,000 links and 16,016 demands
 """
 import itertools
+import math
 import random
 import re
 import string
 import sys
 
 MOST_BYTES, MOST_NODES, MOST_LINKS, MOST_PATTERNS = 4194304, 4096, 8192, 4095
+
+# The chance that a link joins two nodes of a square falls by this part of its side to one over e.
+REACH = 0.1
 
 # What stands in the comments behind links.
 SIDES = ("east", "west")
@@ -162,6 +174,39 @@ def sized(links, width, degree, sinks, rate):
     return text + "".join(f"link m{link} s n0.{link % width}\n" for link in more)
 
 
+def grown(chance, nodes, sinks, tails_of):
+    """Nodes that come one after another, each with links from the earlier ones that a function gives for it."""
+    lines = ["source n0"]
+    for node in range(1, nodes):
+        lines += [f"link l{node}.{step} n{tail} n{node}" for step, tail in enumerate(tails_of(node))]
+    lines += [f"sink n{node}" for node in chance.sample(range(1, nodes), sinks)]
+    return "".join(line + "\n" for line in lines)
+
+
+def hubs(nodes, degree, sinks):
+    chance = random.Random(4)
+    ends = [0] * degree
+
+    def tails_of(node):
+        tails = chance.choices(ends, k=degree)
+        ends.extend(tails + [node] * degree)
+        return tails
+
+    return grown(chance, nodes, sinks, tails_of)
+
+
+def near(nodes, degree, sinks):
+    chance = random.Random(5)
+    source, *others = [(chance.random(), chance.random()) for _ in range(nodes)]
+    places = [source] + sorted(others, key=lambda place: math.dist(source, place))
+
+    def tails_of(node):
+        weights = [math.exp(-math.dist(places[node], place) / REACH) for place in places[:node]]
+        return chance.choices(range(node), weights, k=degree)
+
+    return grown(chance, nodes, sinks, tails_of)
+
+
 def parallel(links):
     return f"source s\nsink t\nlink l s t x{links}\n"
 
@@ -175,11 +220,14 @@ KINDS = {
     "mixed": (mixed, 6),
     "sized": (sized, 5),
     "parallel": (parallel, 1),
+    "hubs": (hubs, 3),
+    "near": (near, 3),
 }
 USAGE = (
     "patterns | comments | combination MIDDLES SIZE | layers LAYERS WIDTH DEGREE PATTERNS | "
     "butterfly SINKS PATTERNS | mixed LAYERS WIDTH DEGREE SINKS RATE PATTERNS | "
-    "sized LINKS WIDTH DEGREE SINKS RATE | parallel LINKS [fail-each] [rate R]"
+    "sized LINKS WIDTH DEGREE SINKS RATE | parallel LINKS | hubs NODES DEGREE SINKS | near NODES DEGREE SINKS "
+    "[fail-each] [rate R]"
 )
 
 

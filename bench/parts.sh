@@ -40,9 +40,16 @@ inverse_step=16
 net_rounds=15
 size_rounds=5
 
-# How often networks whose links each fail alone are gone through, and how many links they have.
+# How often networks whose links each fail alone are gone through. How many links they have that are parallel, or in layers, and
+# how many nodes those that are like networks of routers.
 alone_rounds=3
-alone_links="250 500 1000"
+alone_parallel="1023 4095"
+alone_links=1000
+alone_nodes=251
+
+# How many links such networks have where cost is measured over these, and how many sinks where it is over their demands.
+each_links="250 500 1000 2000"
+each_sinks="1 4 16 64"
 
 # The number of the element that rows are multiplied by.
 multiplier=29
@@ -77,7 +84,8 @@ be_quick() {
     head_rounds=1 heads_each=50000
     finish_rounds=1 fan_rounds=1 finish_patterns=255
     frames_each=50000 source_bytes=4194304 layer_bytes=65536
-    alone_links=250 size_layers="2 4 8" size_patterns="0 3 15" size_bytes="1024 16384 262144"
+    alone_parallel=255 alone_links=250 alone_nodes=64 each_links="250 500" each_sinks="1 4"
+    size_layers="2 4 8" size_patterns="0 3 15" size_bytes="1024 16384 262144"
 }
 
 # Makes the source, where it isn't there.
@@ -597,7 +605,7 @@ measure_versions() {
     rm "$files/one" "$files/two"
     measure_length "1,023 parallel links, each of which fails" parallel 1023 fail-each rate 32
     measure_length "the mixed network, each link of which fails" mixed 4 32 4 16 8 0 fail-each
-    for links in $alone_links; do measure_length "$links links, each of which fails" sized "$links" 16 4 16 4 fail-each; done
+    for links in $each_links; do measure_length "$links links, each of which fails" sized "$links" 16 4 16 4 fail-each; done
 }
 
 # Runs a command that finishes the draft, and keeps under a name the least of its times. What it says and makes is at that name.
@@ -634,10 +642,15 @@ finish_code() {
         "\`check\` on one processor"
 }
 
-# Sets `memory` to the bytes that the program holds at most with these words.
-memory_of() {
-    /usr/bin/time -q -f %M -o "$folder/memory" "$program" "$@" >"$folder/log" || fail "$(cat "$folder/log")"
+# Sets `memory` to the bytes that a command holds at most.
+memory_of_run() {
+    /usr/bin/time -q -f %M -o "$folder/memory" "$@" >"$folder/log" || fail "$(cat "$folder/log")"
     memory=$(($(cat "$folder/memory") * 1024))
+}
+
+# The same of the program with these words.
+memory_of() {
+    memory_of_run "$program" "$@"
 }
 
 # Inverts by jerasure what the links of the code's decoders carry, and sets the least time for as many demands as there are. An
@@ -696,20 +709,24 @@ run_compile() {
     time_command "$@" "$files/net" "$files/code-$name" "$files/report-$name"
     net_time[$name]=$(least "${net_time[$name]:-}" "$elapsed")
     cat "$folder/log" "$files/report-$name" >"$files/said-$name"
+    rm "$files/report-$name"
 }
 
-# Compares what the program and C++ said, by a method. Their paths may be others, but there must be as many.
+# Keeps what was said by a method or by the program, but for the names of links in paths.
+cut_paths() {
+    awk '/^path / { print "path"; next } 1' "$files/said-$1" >"$files/compared-$1"
+}
+
+# Compares what C++ said by a method with what the program said. Their paths may be others, but there must be as many.
 compare_said() {
-    local name
-    for name in lif "$1"; do
-        sed 's/^path .*/path/' "$files/said-$name" >"$files/compared-$name"
-    done
+    cut_paths "$1"
     cmp "$files/compared-lif" "$files/compared-$1"
+    rm "$files/compared-$1"
 }
 
 # The methods by which C++ finds flows. An order has none.
 methods_of() {
-    if [ "$1" = order ]; then echo plain; else echo preflow edmonds-karp dinic; fi
+    if [ "$1" = order ]; then echo plain; else echo preflow edmonds-karp dinic from-none; fi
 }
 
 # Runs a command in C++ by a method.
@@ -723,7 +740,7 @@ run_cpp() {
 }
 
 # Runs a command of the program, and the same in C++ by each method, over the network text, so often in turn: all on one
-# processor, and the program once more on all of them. Sets by which method C++ was the fastest, and what the row says of it.
+# processor, and the program once more on all of them.
 take_turns() {
     local command=$1 rounds=$2 run=run_net method round
     shift 2
@@ -732,6 +749,7 @@ take_turns() {
     for ((round = 0; round < rounds; round++)); do
         pin "$one_processor"
         "$run" lif "$program" "$command"
+        cut_paths lif
         for method in "$@"; do
             run_cpp "$run" "$command" "$method"
             compare_said "$method"
@@ -740,15 +758,21 @@ take_turns() {
         "$run" side "$program" "$command"
         compare_said side
     done
-    fastest=''
+}
+
+# Sets by which of some methods C++ was the fastest, and what the row says of it.
+choose_fastest() {
+    local method
+    fastest=$1
     for method in "$@"; do
-        if [ -z "$fastest" ] || [ "${net_time[$method]}" -lt "${net_time[$fastest]}" ]; then fastest=$method; fi
+        if [ "${net_time[$method]}" -lt "${net_time[$fastest]}" ]; then fastest=$method; fi
     done
     case $fastest in
     plain) beside="C++" ;;
     preflow) beside="C++ (Preflow)" ;;
     edmonds-karp) beside="C++ (EdmondsKarp)" ;;
     dinic) beside="C++ (Dinic)" ;;
+    from-none) beside="C++ (from \`none\`)" ;;
     esac
 }
 
@@ -760,6 +784,7 @@ measure_net() {
     python3 "$top/bench/networks.py" "$@" >"$files/net"
     read -r -a methods <<<"$(methods_of "$command")"
     take_turns "$command" "$net_rounds" "${methods[@]}"
+    choose_fastest "${methods[@]}"
     note "\`$command\` of $title" "" ms 1000000 "${net_time[lif]}" "${net_time[$fastest]}" "$beside"
     if [ "$command" = order ]; then return; fi
     for method in "${methods[@]}"; do echo "    C++ ($method): $(over "${net_time[$method]}" 1000000) ms"; done
@@ -947,8 +972,9 @@ measure_costs() {
     python3 "$top/bench/networks.py" "$@" >"$files/net"
     if [ "$size" = links ]; then size=$(grep -c '^link ' "$files/net"); fi
     for command in cuts compile; do
-        take_turns "$command" "$size_rounds" dinic
-        note "\`$command\`" "$size" ms 1000000 "${net_time[lif]}" "${net_time[dinic]}" "$beside"
+        take_turns "$command" "$size_rounds" dinic from-none
+        choose_fastest dinic from-none
+        note "\`$command\`" "$size" ms 1000000 "${net_time[lif]}" "${net_time[$fastest]}" "C++ (Dinic)"
     done
     check_in_turn
     note "\`check\`" "$size" ms 1000000 "${check_time[lif]}" "${check_time[c]}" "C"
@@ -964,27 +990,67 @@ measure_demands() {
     for patterns in $size_patterns; do measure_costs $((16 * (patterns + 1))) mixed 8 32 8 16 4 "$patterns"; done
 }
 
-# Notes what `cuts` and `compile` take on one processor, and on all of them, of a network whose links each fail alone. The words
-# from the second one on are those of bench/networks.py.
+# Runs a command over a network whose links each fail alone, as above, and notes what it takes on one processor, under a line and a
+# size: beside the fastest C++ by some methods from nothing, and beside C++ that begins with the flow of `none`.
+run_alone() {
+    local command=$1 line=$2 size=$3
+    shift 3
+    build "cpp-$command"
+    take_turns "$command" "$alone_rounds" "$@" from-none
+    choose_fastest "$@"
+    note "$line" "$size" ms 1000000 "${net_time[lif]}" "${net_time[$fastest]}" "$beside"
+    choose_fastest from-none
+    note "$line, beside flows from \`none\`" "$size" ms 1000000 "${net_time[lif]}" "${net_time[from-none]}" "$beside"
+}
+
+# The same for `cuts` and `compile`, and notes what they take on all processors. The words from the second one on are those of
+# bench/networks.py.
 measure_alone() {
     local title=$1 command
     shift
-    build cpp-cuts cpp-compile
     python3 "$top/bench/networks.py" "$@" >"$files/net"
     for command in cuts compile; do
-        take_turns "$command" "$alone_rounds" dinic
-        note "\`$command\` of $title" "" ms 1000000 "${net_time[lif]}" "${net_time[dinic]}" "$beside"
+        run_alone "$command" "\`$command\` of $title" "" preflow dinic
         note "\`$command\` of $title, on all processors" "" ms 1000000 "${net_time[side]}"
     done
+    rm "$files"/said-* "$files"/compared-* "$files"/code-*
 }
 
 measure_failures() {
-    measure_alone "1,023 parallel links, each of which fails" parallel 1023 fail-each rate 32
-    measure_alone "the mixed network, each link of which fails" mixed 4 32 4 16 8 0 fail-each
     local links
-    for links in $alone_links; do
-        measure_alone "$links links, each of which fails" sized "$links" 16 4 16 4 fail-each
+    for links in $alone_parallel; do
+        measure_alone "$(commas "$links") parallel links, each of which fails" parallel "$links" fail-each rate 32
     done
+    measure_alone "the mixed network, each link of which fails" mixed 4 32 4 16 8 0 fail-each
+    measure_alone "$alone_links links, each of which fails" sized "$alone_links" 16 4 16 4 fail-each
+    measure_alone "the network of hubs, each link of which fails" hubs "$alone_nodes" 4 16 fail-each
+    measure_alone "the network of near nodes, each link of which fails" near "$alone_nodes" 4 16 fail-each
+}
+
+# The same by Dinic's method, under a size, and the memory for both commands on one processor, beside C++ that begins with the flow
+# of `none`. The words from the third one on are those of bench/networks.py.
+measure_grown() {
+    local over=$1 size=$2 command made held
+    shift 2
+    python3 "$top/bench/networks.py" "$@" >"$files/net"
+    for command in cuts compile; do
+        run_alone "$command" "\`$command\` over $over" "$size" dinic
+        made=()
+        if [ "$command" = compile ]; then made=("$files/code" "$files/report"); fi
+        pin "$one_processor"
+        memory_of "$command" "$files/net" "${made[@]}"
+        held=$memory
+        memory_of_run "$folder/cpp-$command" from-none "$files/net" "${made[@]}"
+        pin "$all_processors"
+        note "memory for \`$command\` over $over" "$size" MB 1000000 "$held" "$memory" "$beside"
+    done
+    rm "$files"/said-* "$files"/compared-* "$files"/code* "$files/report"
+}
+
+measure_each() {
+    local links sinks
+    for links in $each_links; do measure_grown links "$links" sized "$links" 16 4 16 4 fail-each; done
+    for sinks in $each_sinks; do measure_grown demands $((sinks * 1001)) sized 1000 16 4 "$sinks" 4 fail-each; done
 }
 
 # Sends sources of many lengths through a code, to so many sinks.
