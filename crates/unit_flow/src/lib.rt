@@ -16,5 +16,5 @@ mod residual;
 mod search;
 mod sharing;
 
-pub use flow::{Flow, max_flow, max_flow_along};
+pub use flow::{Flow, max_flow, max_flow_along, max_flow_from};
 pub use residual::{LinkState, Residual};

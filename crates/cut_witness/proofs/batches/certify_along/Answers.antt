@@ -1,8 +1,6 @@
-use Rattle.std.proofs.Common.{◌<◌, ◌^◌, length, arith}
-use Rattle.cut_witness.proofs.CertificateLaws.{few_cut}
+use Rattle.std.proofs.Common.{◌∙◌}
+use Rattle.unit_flow.proofs.BeginSteps.{IsFlowToSink-none}
 use Rattle.cut_witness.proofs.batches.certify_along.Goals as goal
 
-pub overflow_cast-value : goal.overflow_cast-value
-overflow_cast-value g c =
-    let few : length c.in_ok-cut.cut < 2 ^ 32 = few_cut c.args.net.now c.args.demand c.in_ok-paths.field-0.side c.in_ok-cut.cut c.in_ok-cut.ensures in
-    omega arith
+pub certify_from-requires-clause-begun : goal.certify_from-requires-clause-begun
+certify_from-requires-clause-begun g c = IsFlowToSink-none c.args.net.now c.args.demand c.of-none.result (c.of-none.ensures ∙ c.new.ensures.items)
