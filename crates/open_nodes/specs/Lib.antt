@@ -1,0 +1,5 @@
+pub mod Errors
+pub mod Opening
+pub mod NodeCalls
+pub mod SinkCalls
+pub mod Shapes
