@@ -1,11 +1,12 @@
 -- Which error is due to a call, by what it is given: the first look that fails, in the order that stands here.
-use Rattle.std.specs.Prelude.{◌≡◌, ◌+◌, ◌*◌, ◌%◌, ◌^◌, ◌==◌, ◌&&◌, ℕ, Bool, nat_le, nat_lt, not, List, length, Option, Some, None, Result, Ok, Err, if◌then◌else◌}
+use Rattle.std.specs.Prelude.{◌≡◌, ◌+◌, ◌-◌, ◌*◌, ◌%◌, ◌^◌, ◌==◌, ◌&&◌, ℕ, Bool, nat_le, nat_lt, not, List, length, Option, Some, None, Result, Ok, Err, if◌then◌else◌}
 use Rattle.generation_frame.specs.Blocks.{most_blocks, most_rows, row_bytes}
 use Rattle.generation_frame.specs.Frames.{frame_read}
 use Rattle.generation_frame.specs.declared.frame.FrameRefusal.{FrameRefusal}
 use Rattle.generation_frame.specs.declared.frame.Packet.{Packet}
+use Rattle.net_model.specs.Lists.{is_among}
 use Rattle.node_program.specs.declared.code.Code.{Code}
-use Rattle.relay_node.specs.Relay.{Relay, has_rows, is_begun, takes}
+use Rattle.relay_node.specs.Relay.{Relay, has_rows, is_begun}
 use Rattle.sink_decoder.specs.Receiving.{Receiver, is_whole, wants}
 use Rattle.sink_decoder.specs.Receiving as sinks
 use Rattle.open_nodes.specs.declared.call_error.CallError.{CallError}
@@ -21,9 +22,9 @@ abbrev pub IsError : Option CallError → CallError → Type 0
 IsError (Some due) why = why ≡ due
 IsError None why = why ≡ NoMemory
 
--- the bytes of a frame
-abbrev pub frame_bytes : ℕ
-frame_bytes = 140
+-- bytes are as many as those of a frame
+abbrev pub is_frame_long : List ℕ → Bool
+is_frame_long frame = length frame == 140
 
 -- 1 to 4 generations, whose numbers are below 2^32
 abbrev pub is_window : ℕ → ℕ → Bool
@@ -55,25 +56,32 @@ feed_error relay generation block =
     else if has_rows relay generation then Some Fed
     else None
 
--- what was read of a frame, by whether its link is taken in and its generation was begun
-abbrev pub packet_error : (ℕ → Bool) → (ℕ → Bool) → Result Packet FrameRefusal → Option CallError
-packet_error is_taken is_begun (Err why) = Some BadFrame
-packet_error is_taken is_begun (Ok packet) =
+-- the packet of the bytes of a frame
+abbrev pub packet_or_error : Result Packet FrameRefusal → Result Packet CallError
+packet_or_error (Ok packet) = Ok packet
+packet_or_error (Err why) = Err BadFrame
+
+abbrev pub frame_packet : List ℕ → Result Packet CallError
+frame_packet frame = if is_frame_long frame then packet_or_error (frame_read frame) else Err BadLength
+
+-- a packet that came, by which links are taken in and which generations were begun
+abbrev pub packet_error : (ℕ → Bool) → (ℕ → Bool) → Packet → Option CallError
+packet_error is_taken is_begun packet =
     if not (is_taken packet.link) then Some OtherLink
     else if not (is_begun packet.generation) then Some NotBegun
     else None
 
--- the bytes that come as a frame
-abbrev pub frame_error : (ℕ → Bool) → (ℕ → Bool) → List ℕ → Option CallError
-frame_error is_taken is_begun frame =
-    if length frame == frame_bytes then packet_error is_taken is_begun (frame_read frame) else Some BadLength
+-- the bytes of a frame that came
+abbrev pub frame_error : (Packet → Option CallError) → Result Packet CallError → Option CallError
+frame_error due (Ok packet) = due packet
+frame_error due (Err why) = Some why
 
 -- a frame that comes to a node, and one that comes to a sink
 abbrev pub node_frame_error : Relay → List ℕ → Option CallError
-node_frame_error relay = frame_error (takes relay.plan) (is_begun relay)
+node_frame_error relay frame = frame_error (packet_error (is_among relay.plan.ins) (is_begun relay)) (frame_packet frame)
 
 abbrev pub sink_frame_error : Receiver → List ℕ → Option CallError
-sink_frame_error sink = frame_error (wants sink.plan) (sinks.is_begun sink)
+sink_frame_error sink frame = frame_error (packet_error (wants sink.plan) (sinks.is_begun sink)) (frame_packet frame)
 
 -- a block that is asked of a sink, by how many bytes it is to be written into
 abbrev pub block_error : Receiver → ℕ → ℕ → Option CallError
@@ -83,8 +91,10 @@ block_error sink generation room =
     else if not (is_whole sink generation) then Some NotWhole
     else None
 
--- the bytes of a source that are cut into a block, and the block's
+-- a block of so many bytes is of 1 to 32 rows, and has room for so many of a source
+abbrev pub has_room : ℕ → ℕ → Bool
+has_room bytes room =
+    (room % row_bytes == 0) && nat_le row_bytes room && nat_le room (most_rows * row_bytes) && nat_le bytes (room - 4)
+
 abbrev pub cut_error : ℕ → ℕ → Option CallError
-cut_error bytes room =
-    if (room % row_bytes == 0) && nat_le row_bytes room && nat_le room (most_rows * row_bytes) && nat_le (bytes + 4) room
-    then None else Some BadLength
+cut_error bytes room = if has_room bytes room then None else Some BadLength

@@ -3,3 +3,4 @@ pub mod Opening
 pub mod NodeCalls
 pub mod SinkCalls
 pub mod Shapes
+pub mod Fields

@@ -1,5 +1,5 @@
 -- What each call of a node does, by the error that it answers, if it answers one: then nothing changed.
-use Rattle.std.specs.Prelude.{◌≡◌, ◌⊎◌, ℕ, List, length, Option, Some, None, Result, Ok, Err}
+use Rattle.std.specs.Prelude.{◌≡◌, ◌⊎◌, ℕ, true, false, List, Option, Some, None, Result, Ok, Err}
 use Rattle.coded_traffic.specs.Traffic.{Key, Window, key_of, packet_of}
 use Rattle.generation_frame.specs.Frames.{accepted, frame_of, packet_in}
 use Rattle.generation_frame.specs.declared.frame.Accepted.{Accepted}
@@ -8,7 +8,7 @@ use Rattle.generation_frame.specs.declared.frame.Packet.{Packet}
 use Rattle.node_plans.specs.Plans.{plan_of}
 use Rattle.node_program.specs.declared.code.Code.{Code}
 use Rattle.relay_node.specs.Relay.{Gains, Gives, HasNothing, IsDue, IsFed, Relay, TakesTraffic, has_input}
-use Rattle.open_nodes.specs.Errors.{IsError, error_in, feed_error, frame_bytes, node_error, node_frame_error, window_error}
+use Rattle.open_nodes.specs.Errors.{IsError, error_in, feed_error, is_frame_long, node_error, node_frame_error, window_error}
 use Rattle.open_nodes.specs.declared.call_error.CallError.{CallError}
 use Rattle.open_nodes.specs.declared.call_error.CallError.TheVariants.{BadLength, NoLink, NothingDue}
 
@@ -26,29 +26,26 @@ OpensNode code pattern node (Ok relay) = IsOpenedNode code pattern node relay
 OpensNode code pattern node (Err why) = IsError (node_error code pattern node) why
 
 -- a window is begun: what came and what was given is forgotten
-pub record IsBegunNode (first count : ℕ) (old new : Relay) : Type 0 where
-  pub plan : new.plan ≡ old.plan
-  pub first : new.first ≡ first
-  pub count : new.count ≡ count
-  pub nothing : HasNothing new
-
 pub record BeginsNode (first count : ℕ) (old new : Relay) (error : Option CallError) : Type 0 where
-  pub error : error ≡ window_error first count
-  pub begun : error ≡ None → IsBegunNode first count old new
+  pub due : error ≡ window_error first count
+  pub same_plan : error ≡ None → new.plan ≡ old.plan
+  pub from_first : error ≡ None → new.first ≡ first
+  pub has_count : error ≡ None → new.count ≡ count
+  pub nothing : error ≡ None → HasNothing new
   pub same : (why : CallError) → error ≡ Some why → new ≡ old
 
 -- a block is fed
 pub record FeedsNode (generation : ℕ) (block : List ℕ) (old new : Relay) (error : Option CallError) : Type 0 where
-  pub error : error ≡ feed_error old generation block
+  pub due : error ≡ feed_error old generation block
   pub fed : error ≡ None → IsFed generation block old new
   pub same : (why : CallError) → error ≡ Some why → new ≡ old
 
 -- a frame is taken in, unless its piece has come before
 pub record AcceptsFrame (frame : List ℕ) (old new : Relay) (result : Result Accepted CallError) : Type 0 where
-  pub error : error_in result ≡ node_frame_error old frame
+  pub due : error_in result ≡ node_frame_error old frame
   pub value : (answer : Accepted) → result ≡ Ok answer
       → answer ≡ accepted (has_input old (packet_in frame).generation (packet_in frame).link (packet_in frame).piece)
-  pub new : result ≡ Ok New → Gains (packet_in frame) old new
+  pub gains : result ≡ Ok New → Gains (packet_in frame) old new
   pub known : result ≡ Ok Known → new ≡ old
   pub same : (why : CallError) → result ≡ Err why → new ≡ old
 
@@ -67,10 +64,10 @@ HasNoneDue relay = (key : Key) → IsDue relay key → ⊥
 
 -- the next frame is written, where there is room for one and one is due
 pub record WritesNext (old_frame new_frame : List ℕ) (old new : Relay) (error : Option CallError) : Type 0 where
-  pub given : error ≡ None → (length old_frame ≡ frame_bytes) × GivesFrame new_frame old new
+  pub given : error ≡ None → (is_frame_long old_frame ≡ true) × GivesFrame new_frame old new
   pub errors : (why : CallError) → error ≡ Some why
-      → ((why ≡ BadLength) × (length old_frame ≡ frame_bytes → ⊥))
-      ⊎ (why ≡ NothingDue) × (length old_frame ≡ frame_bytes) × HasNoneDue old
+      → ((why ≡ BadLength) × (is_frame_long old_frame ≡ false))
+      ⊎ (why ≡ NothingDue) × (is_frame_long old_frame ≡ true) × HasNoneDue old
   pub same : (why : CallError) → error ≡ Some why → new ≡ old
   pub kept : (why : CallError) → error ≡ Some why → new_frame ≡ old_frame
 

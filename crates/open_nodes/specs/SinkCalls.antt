@@ -26,23 +26,20 @@ OpensSink code pattern sink (Ok receiver) = IsOpenedSink code pattern sink recei
 OpensSink code pattern sink (Err why) = IsError (sink_error code pattern sink) why
 
 -- a window is begun: what came is forgotten
-pub record IsBegunSink (first count : ℕ) (old new : Receiver) : Type 0 where
-  pub plan : new.plan ≡ old.plan
-  pub first : new.first ≡ first
-  pub count : new.count ≡ count
-  pub nothing : HasNothing new
-
 pub record BeginsSink (first count : ℕ) (old new : Receiver) (error : Option CallError) : Type 0 where
-  pub error : error ≡ window_error first count
-  pub begun : error ≡ None → IsBegunSink first count old new
+  pub due : error ≡ window_error first count
+  pub same_plan : error ≡ None → new.plan ≡ old.plan
+  pub from_first : error ≡ None → new.first ≡ first
+  pub has_count : error ≡ None → new.count ≡ count
+  pub nothing : error ≡ None → HasNothing new
   pub same : (why : CallError) → error ≡ Some why → new ≡ old
 
 -- a frame is taken in, unless its piece has come before
 pub record TakesFrame (frame : List ℕ) (old new : Receiver) (result : Result Accepted CallError) : Type 0 where
-  pub error : error_in result ≡ sink_frame_error old frame
+  pub due : error_in result ≡ sink_frame_error old frame
   pub value : (answer : Accepted) → result ≡ Ok answer
       → answer ≡ accepted (has_piece old (packet_in frame).generation (packet_in frame).link (packet_in frame).piece)
-  pub new : result ≡ Ok New
+  pub gains : result ≡ Ok New
       → Gains (packet_in frame).generation (packet_in frame).link (packet_in frame).piece (packet_in frame).payload old new
   pub known : result ≡ Ok Known → new ≡ old
   pub same : (why : CallError) → result ≡ Err why → new ≡ old
@@ -59,6 +56,6 @@ pub record IsBlockWritten (generation : ℕ) (sink : Receiver) (block : List ℕ
       → TakesTraffic code demand window sink → block ≡ block_at window generation
 
 pub record WritesBlock (generation : ℕ) (sink : Receiver) (old new : List ℕ) (error : Option CallError) : Type 0 where
-  pub error : error ≡ block_error sink generation (length old)
+  pub due : error ≡ block_error sink generation (length old)
   pub written : error ≡ None → IsBlockWritten generation sink new
   pub same : (why : CallError) → error ≡ Some why → new ≡ old

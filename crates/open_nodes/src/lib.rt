@@ -7,6 +7,7 @@
 //! is given and by the value of the node or the sink, but for want of memory.
 #![tactic(auto)]
 
+mod arguments;
 mod blocks;
 mod call_error;
 mod codes;
