@@ -1,12 +1,12 @@
--- What is looked for among the numbers below one, and what a node answers of a generation, a link and rows.
-use Rattle.std.specs.Prelude.{◌≡◌, ◌<◌, ◌==◌, ◌&&◌, ℕ, Bool, true, false, Contains, nat_le, nat_lt}
+-- What is looked for among the numbers below one, and among the pieces of a block's rows.
+use Rattle.std.specs.Prelude.{◌≡◌, ◌<◌, ℕ, Bool, true, false}
 use Rattle.std.specs.List.{list_any, range_with_len}
-use Rattle.std.proofs.Common.{arith, sym, ap, ◌∙◌, get_or, length}
+use Rattle.std.proofs.Common.{arith, ap, ◌∙◌, get_or}
 use Rattle.std.proofs.lemmas.Bool.{both_ways, false_from_ne_true}
 use Rattle.std.proofs.lemmas.List.Folds.{list_any_at, list_any_none}
 use Rattle.std.proofs.lemmas.List.FromFn.{get_or-range_with_len, length-range_with_len}
 use Rattle.generation_frame.specs.Blocks.{pieces}
-use Rattle.relay_node.specs.Relay.{IsBegun, Relay, has_input, has_rows, is_begun}
+use Rattle.relay_node.specs.Relay.{Relay, has_input, has_rows}
 
 -- a test that a number below passes, and one that none does
 pub any_below : (test : ℕ → Bool) (n k : ℕ) → k < n → test k ≡ true → list_any test (range_with_len 0 n) ≡ true
@@ -29,7 +29,3 @@ pub unfed : (relay : Relay) (generation : ℕ) → has_rows relay generation ≡
 unfed relay generation none row piece below low =
     fails_each (λ piece. has_input relay generation row piece) pieces piece
     (fails_each (λ row. list_any (λ piece. has_input relay generation row piece) (range_with_len 0 pieces)) relay.plan.rate row none below) low
-
--- a generation that is said to be begun is
-pub begun_by : (relay : Relay) (generation : ℕ) → is_begun relay generation ≡ true → IsBegun relay generation
-begun_by relay generation is = grind arith

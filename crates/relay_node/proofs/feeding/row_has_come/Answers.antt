@@ -1,4 +1,4 @@
-use Rattle.std.proofs.Common.{◌≡◌, ℕ, false, true, arith, below_more, sym, ◌∙◌}
+use Rattle.std.proofs.Common.{◌≡◌, ℕ, false, arith, below_more, sym, ◌∙◌}
 use Rattle.due_sums.specs.Waiting.{has_input}
 use Rattle.generation_frame.specs.Blocks.{pieces}
 use Rattle.relay_node.proofs.CameLaws.{any_below, none_below}
