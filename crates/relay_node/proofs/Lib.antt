@@ -4,3 +4,4 @@ pub mod GivingLaws
 pub mod FeedingLaws
 pub mod PayloadLaws
 pub mod SummandLaws
+pub mod CameLaws

@@ -1,6 +1,6 @@
 -- A node at work: what it does of a code, what came to it, and what it gives.
-use Rattle.std.specs.Prelude.{◌≡◌, ◌≢◌, ◌<◌, ◌≤◌, ◌⊎◌, ◌+◌, ◌-◌, ◌^◌, ℕ, Bool, true, false, Contains, List, length}
-use Rattle.std.specs.List.{list_all}
+use Rattle.std.specs.Prelude.{◌≡◌, ◌≢◌, ◌<◌, ◌≤◌, ◌⊎◌, ◌+◌, ◌-◌, ◌^◌, ◌&&◌, ℕ, Bool, true, false, nat_le, nat_lt, Contains, List, length}
+use Rattle.std.specs.List.{list_all, list_any, range_with_len}
 use Rattle.coded_traffic.specs.CodeBlocks.{IsBlockOf, row_of}
 use Rattle.coded_traffic.specs.Traffic.{Key, Window, block_at, key_of, payload_in, sum_of}
 use Rattle.due_sums.specs.Waiting.{AreSums, Waiting}
@@ -24,6 +24,10 @@ pub record IsBegun (relay : Relay) (generation : ℕ) : Type 0 where
   pub from_first : relay.first ≤ generation
   pub to_last : generation < relay.first + relay.count
 
+-- whether it was
+abbrev pub is_begun : Relay → ℕ → Bool
+is_begun relay generation = nat_le relay.first generation && nat_lt (generation - relay.first) relay.count
+
 -- An input is what an operand names: a row of the block at the source, and else a link into the node. Whether a piece of
 -- it has come, and its bytes.
 abbrev pub has_input : Relay → ℕ → ℕ → ℕ → Bool
@@ -33,6 +37,12 @@ has_input relay generation from piece =
 abbrev pub input_at : Relay → ℕ → ℕ → ℕ → List ℕ
 input_at relay generation from piece =
     waiting.input_at relay.sums (generation - relay.first) (input_place relay.plan from) piece
+
+-- whether a piece of a row of the block of a generation has come
+abbrev pub has_rows : Relay → ℕ → Bool
+has_rows relay generation =
+    list_any (λ row. list_any (λ piece. has_input relay generation row piece) (range_with_len 0 pieces))
+    (range_with_len 0 relay.plan.rate)
 
 -- what an operand of a link out of the node may name
 abbrev pub IsInput : Plan → ℕ → Type 0

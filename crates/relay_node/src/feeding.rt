@@ -1,5 +1,6 @@
 //! Rows of a block that are taken in, piece by piece.
 ghost use Rattle.std.specs.Prelude.{◌≡◌, ◌<◌, ◌+◌, ◌*◌, ◌≤◌, ℕ, false, length};
+ghost use Rattle.std.specs.List.{list_any, range_with_len};
 ghost use Rattle.coded_traffic.specs.CodeBlocks.{row_of};
 ghost use Rattle.due_sums.specs.Waiting.{has_input};
 ghost use Rattle.generation_frame.specs.Blocks.{most_rows, piece_of_row, pieces, row_bytes};
@@ -48,4 +49,34 @@ pub fn take_rows(sums: &mut DueSums, generation: usize, rows: u32, block: &[u8])
         let start = row as usize * ROW;
         take_row(sums, generation, row, &block[start..start + ROW]);
     }
+}
+
+// Whether a piece of a row has come.
+fn row_has_come(sums: &DueSums, generation: usize, row: u32) -> bool
+    requires generation { generation < length sums.now.held }
+    requires input { row < sums.now.inputs }
+    ensures { result ≡ list_any (λ piece. has_input sums.now generation row piece)
+        (range_with_len 0 pieces) }
+{
+    for piece in 0..PIECES {
+        if sums.has_input(generation, row, piece as u8) {
+            return true;
+        }
+    }
+    false
+}
+
+/// Whether a piece of a row of a block has come.
+pub fn have_come(sums: &DueSums, generation: usize, rows: u32) -> bool
+    requires generation { generation < length sums.now.held }
+    requires inputs { sums.now.inputs ≡ rows }
+    ensures { result ≡ list_any (λ row. list_any (λ piece. has_input sums.now generation row piece)
+        (range_with_len 0 pieces)) (range_with_len 0 rows) }
+{
+    for row in 0..rows {
+        if row_has_come(sums, generation, row) {
+            return true;
+        }
+    }
+    false
 }

@@ -12,7 +12,7 @@ ghost use Rattle.relay_node.specs.Relay.{IsNode};
 ghost use Rattle.relay_node.specs.Summands.{summands_of};
 ghost use Rattle.std.specs.Arc.{arc_value};
 
-use crate::feeding::take_rows;
+use crate::feeding::{have_come, take_rows};
 use crate::summands::Summands;
 use crate::summing::payload_of;
 use code_checker::Checked;
@@ -109,10 +109,11 @@ fn shared(
 
 impl<F: Field> Node<F> {
     ghost use Rattle.coded_traffic.specs.Traffic.{Key, Window, key_of, packet_of};
+    ghost use Rattle.net_model.specs.Lists.{is_among};
     ghost use Rattle.node_plans.specs.Plans.{plan_of};
     ghost use Rattle.node_plans.specs.Wired.{IsWiringOf};
     ghost use Rattle.node_program.specs.declared.code.Code.{Code};
-    ghost use Rattle.relay_node.specs.Relay.{Gains, Gives, HasNothing, IsBegun, IsDue, IsFed, TakesTraffic, has_input};
+    ghost use Rattle.relay_node.specs.Relay.{Gains, Gives, HasNothing, IsBegun, IsDue, IsFed, TakesTraffic, has_input, has_rows, is_begun};
 
     /// The node of a number, before any generation, to which nothing came and which gave nothing. `F` is the code's field.
     /// It takes all memory that the work needs.
@@ -166,6 +167,37 @@ impl<F: Field> Node<F> {
             summands,
             of_field: PhantomData,
         })
+    }
+
+    /// What the node does of the code.
+    pub fn plan(&self) -> &Plan
+        ensures { result.now ≡ self.now.plan }
+    {
+        &self.plan
+    }
+
+    /// Whether a generation was begun.
+    pub fn is_begun(&self, generation: u32) -> bool
+        ensures { result ≡ is_begun self.now generation }
+    {
+        self.first <= generation && generation - self.first < self.count
+    }
+
+    /// Whether a link is one of the live links into the node.
+    pub fn takes(&self, link: u32) -> bool
+        ensures { result ≡ is_among self.now.plan.ins link }
+    {
+        self.plan.ins.as_slice().contains(&link)
+    }
+
+    /// Whether a piece of a row of the block of a generation has come, at the source.
+    pub fn has_rows(&self, generation: u32) -> bool
+        requires source { self.now.plan.is_source ≡ true }
+        requires begun { IsBegun self.now generation }
+        ensures { result ≡ has_rows self.now generation }
+    {
+        let generation = (generation - self.first) as usize;
+        have_come(&self.sums, generation, self.plan.rate)
     }
 
     /// Forgets what came and what was given, and begins these generations.

@@ -1,5 +1,5 @@
 -- A sink at work: what it has of a code, what came to it, and what it decodes.
-use Rattle.std.specs.Prelude.{◌≡◌, ◌<◌, ◌≤◌, ◌+◌, ◌-◌, ◌*◌, ◌==◌, ◌||◌, ℕ, Bool, true, false, not, List, [], All, length, map, position, slice_get, slice_index_or}
+use Rattle.std.specs.Prelude.{◌≡◌, ◌<◌, ◌≤◌, ◌+◌, ◌-◌, ◌*◌, ◌==◌, ◌&&◌, ◌||◌, ℕ, Bool, true, false, nat_le, nat_lt, not, List, [], All, length, map, position, slice_get, slice_index_or}
 use Rattle.std.specs.List.{concat, list_all, range_with_len}
 use Rattle.std.specs.Option.{option_map_or, unwrap_or}
 use Rattle.gf_tables.specs.declared.kind.FieldKind.{FieldKind}
@@ -77,6 +77,10 @@ pub record IsReceiver (receiver : Receiver) : Type 0 where
 pub record IsBegun (receiver : Receiver) (generation : ℕ) : Type 0 where
   pub from_first : receiver.first ≤ generation
   pub to_last : generation < receiver.first + receiver.count
+
+-- whether it was
+abbrev pub is_begun : Receiver → ℕ → Bool
+is_begun receiver generation = nat_le receiver.first generation && nat_lt (generation - receiver.first) receiver.count
 
 -- what came of a generation
 abbrev pub came_of : Receiver → ℕ → Held

@@ -64,7 +64,7 @@ fn place_among(links: &[u32], link: u32) -> Option<usize>
 impl<F: Field> Decoder<F> {
     ghost use Rattle.coded_traffic.specs.Traffic.{Window, block_at};
     ghost use Rattle.node_program.specs.declared.code.Code.{Code};
-    ghost use Rattle.sink_decoder.specs.Receiving.{Gains, HasNothing, IsBegun, TakesTraffic, decoded, has_piece, is_whole, sink_plan_of, wants};
+    ghost use Rattle.sink_decoder.specs.Receiving.{Gains, HasNothing, IsBegun, TakesTraffic, decoded, has_piece, is_begun, is_whole, sink_plan_of, wants};
 
     /// The sink of a demand, before any generation. `F` is the code's field. It takes all memory that the work needs.
     pub fn open(alloc: Global, code: &Checked, demand: Demand) -> Result<Decoder<F>, AllocError>
@@ -116,6 +116,20 @@ impl<F: Field> Decoder<F> {
             came: none_held(alloc, code.rate)?,
             of_field: PhantomData,
         })
+    }
+
+    /// The rate of the code, which is the number of the rows of a block.
+    pub fn rate(&self) -> u32
+        ensures { result ≡ self.now.plan.rate }
+    {
+        self.rate
+    }
+
+    /// Whether a generation was begun.
+    pub fn is_begun(&self, generation: u32) -> bool
+        ensures { result ≡ is_begun self.now generation }
+    {
+        self.first <= generation && generation - self.first < self.count
     }
 
     /// Forgets what came, and begins these generations.
