@@ -23,7 +23,7 @@ use Rattle.relay_runner.specs.Running.{AreBlocks, Running, count_in, window_from
 use Rattle.source_delivery.proofs.CarriedLaws.{blocks_in-append, carried-then, decoded-next, decoded-still, length-blocks_in}
 use Rattle.source_delivery.proofs.TurnLaws.{turns-alike, turns-append}
 use Rattle.source_delivery.specs.Carried.{blocks_from, file_block}
-use Rattle.source_delivery.specs.Delivering.{BreaksBlocks, CanCarry, DeliversBlocks, DeliversSome, Interrupts, InterruptsBlocks, InterruptsBytes, IsStill, StandIn, calls_join}
+use Rattle.source_delivery.specs.Delivering.{BreaksBlocks, CanCarry, DeliversBlocks, DeliversSome, Interrupts, InterruptsBlocks, InterruptsBytes, StandIn, calls_join}
 use Rattle.source_delivery.specs.Delivery.{outputs_in, paths_of}
 use Rattle.source_delivery.specs.Turns.{Outputs, turns_before, turns_from}
 use Rattle.source_delivery.specs.declared.delivery.SourceDelivery.{SourceDelivery}
@@ -187,27 +187,12 @@ numbered-at rate generations some few =
 pub numbered : (code : Code) (generations : ℕ) → generations * capacity code.rate ≤ last_place → generations + 4 ≤ 2 ^ 32
 numbered code generations few = numbered-at code.rate generations code.code.draft.some_rate few
 
--- ---- a delivery that is still
+-- ---- the files of a delivery
 
 -- deliveries to the same paths, of as many sources, have the same files
 pub outputs-same : {F : Type 0} (one other : SourceDelivery F) → one.outputs ≡ other.outputs → one.parts ≡ other.parts → outputs_in one ≡ outputs_in other
 outputs-same one other outputs parts =
     ap (λ outputs. record { paths = map string_bytes outputs.items; parts = one.parts }) outputs ∙ ap (λ parts. record { paths = paths_of other; parts = parts }) parts
-
-pub still-outputs : {F : Type 0} {old new : SourceDelivery F} → IsStill old new → outputs_in new ≡ outputs_in old
-still-outputs {F} {old} {new} is = outputs-same new old is.outputs is.parts
-
-pub still-here : {F : Type 0} (delivery : SourceDelivery F) → IsStill delivery delivery
-still-here delivery = record { runner = refl; outputs = refl; parts = refl; window = refl; gathered = refl }
-
-pub still-then : {F : Type 0} {old at new : SourceDelivery F} → IsStill old at → IsStill at new → IsStill old new
-still-then was is = record {
-  runner = is.runner ∙ was.runner;
-  outputs = is.outputs ∙ was.outputs;
-  parts = is.parts ∙ was.parts;
-  window = is.window ∙ was.window;
-  gathered = is.gathered ∙ was.gathered;
-}
 
 -- ---- blocks that stand one after another
 

@@ -7,6 +7,7 @@ pub mod PartLaws
 pub mod Pieces
 pub mod ReaderLaws
 pub mod ReadingLaws
+pub mod RowLaws
 pub mod StreamingLaws
 pub mod Triples
 pub mod TurnLaws

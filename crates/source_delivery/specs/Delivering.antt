@@ -13,7 +13,6 @@ use Rattle.relay_runner.specs.Carried.{IsStopped, packets_given}
 use Rattle.relay_runner.specs.Running.{HasCarried, Running}
 use Rattle.source_delivery.specs.Carried.{AreCarried, Breaks, Delivers, IsOver, blocks_from, file_block}
 use Rattle.source_delivery.specs.Turns.{Outputs, turns_from}
-use Rattle.source_delivery.specs.declared.delivery.SourceDelivery.{SourceDelivery}
 use Rattle.source_delivery.specs.declared.delivery.DeliveryFault.{DeliveryFault}
 use Rattle.source_delivery.specs.declared.delivery.DeliveryFault.TheVariants as fault
 
@@ -38,14 +37,6 @@ pub record HasGoneOn (old new : Running) : Type 0 where
   pub code : new.code ≡ old.code
   pub pattern : new.pattern ≡ old.pattern
   pub more : old.next ≤ new.next
-
--- a delivery has the code at work, the files, the window and what it gathered as before
-pub record IsStill {F : Type 0} (old new : SourceDelivery F) : Type 0 where
-  pub runner : new.runner ≡ old.runner
-  pub outputs : new.outputs ≡ old.outputs
-  pub parts : new.parts ≡ old.parts
-  pub window : new.window ≡ old.window
-  pub gathered : new.gathered ≡ old.gathered
 
 -- so many blocks of a code stand one after another from the beginning of a room on
 pub record StandIn (code : Code) (count : ℕ) (blocks : List (List ℕ)) (room : List ℕ) : Type 0 where

@@ -1,5 +1,6 @@
 -- How two sources are streamed through one code: they are read in turn, and each block has rows of the one and then of the other.
 use Rattle.std.specs.Prelude.{◌≡◌, ◌⊎◌, ◌<◌, ◌+◌, ◌*◌, ◌/◌, ℕ, Bool, true, false, IsTrue, if◌then◌else◌, max, min, not, List, [], ◌∷◌, ◌++◌, length, map, slice_get, Some}
+use Rattle.coded_traffic.specs.RowLinks.{AreOfRow, CarriesRow}
 use Rattle.generation_frame.specs.Blocks.{block_count, capacity}
 use Rattle.lif_outside.specs.Calls.{Calls}
 use Rattle.lif_outside.specs.Events.{Event}
@@ -7,6 +8,7 @@ use Rattle.lif_outside.specs.Moves.{Move}
 use Rattle.lif_outside.specs.FileCalls.{ReadsWhole, StopsWithin, bytes_read}
 use Rattle.lif_outside.specs.Sequences.{Are, IsFrontOf}
 use Rattle.lif_outside.specs.Streams.{have_ended, reads_in}
+use Rattle.lif_outside.specs.declared.links.Flight.{Flight}
 use Rattle.node_program.specs.declared.code.Code.{Code}
 use Rattle.source_delivery.specs.Carried.{Breaks, file_block}
 use Rattle.source_delivery.specs.Delivering.{calls_join}
@@ -77,6 +79,11 @@ pub record StreamsTwin (faithful : Bool) (code : Code) (pattern : ℕ) (outputs 
     (D : List Event → List Event → Type 0) (R : (ℕ → List ℕ) → ℕ → ℕ → List Move → Type 0) (calls : Calls) : Type 0 where
   pub marks : List Bool
   pub streams : StreamsSource faithful code pattern outputs (twin_feed first.rate second.rate marks) (ReadsBoth first.rate second.rate P Q marks) D R calls
+
+-- Of pairs that were put, those of a link that carries one row alone are of one source: of a row of its blocks, and of no other's.
+pub record PutsApart (code : Code) (first_rate second_rate : ℕ) (one two : List ℕ) (blocks : ℕ) (pairs : List Flight) : Type 0 where
+  pub of_first : (link row : ℕ) → CarriesRow code link row → row < first_rate → AreOfRow (file_block one first_rate) blocks row link pairs
+  pub of_second : (link row : ℕ) → CarriesRow code link (first_rate + row) → AreOfRow (file_block two second_rate) blocks row link pairs
 
 -- the reads of a source so far, perhaps none
 abbrev pub ReadsSoFar : Source → ℕ → List Event → Type 0

@@ -8,7 +8,7 @@ ghost use Rattle.lif_outside.specs.Moves.{Move};
 ghost use Rattle.lif_outside.specs.FileCalls.{StopsWithin, appends_of, creates_of};
 ghost use Rattle.lif_outside.specs.Sequences.{Are};
 ghost use Rattle.source_delivery.specs.Carried.{blocks_from, file_block};
-ghost use Rattle.source_delivery.specs.Delivering.{CanCarry, DeliversBlocks, DeliversSome, HasGoneOn, HasMoved, Interrupts, InterruptsBlocks, InterruptsBytes, IsBehind, IsStill, StandIn};
+ghost use Rattle.source_delivery.specs.Delivering.{CanCarry, DeliversBlocks, DeliversSome, HasGoneOn, HasMoved, Interrupts, InterruptsBlocks, InterruptsBytes, IsBehind, StandIn};
 ghost use Rattle.source_delivery.specs.Delivery.{AreCounts, outputs_in, paths_of};
 ghost use Rattle.source_delivery.specs.Turns.{parts_from, turn_at, turns_from};
 ghost use Rattle.relay_runner.specs.Carried.{HasCarriedBy, packets_given};
@@ -68,32 +68,30 @@ impl<'c, F: Field> SourceDelivery<'c, F> {
     // Adds to a file the bytes that the rows of its source count in a block which its sink decodes, where there are any. The
     // block is given by its place in the window.
     fn append_decoded<S: Store>(
-        &mut self,
+        &self,
         store: &mut S,
         file: usize,
         place: usize,
     ) -> Result<(), Failed>
-        requires file { file < vec_len self.old.outputs }
-        requires place { place < self.old.runner.count }
-        requires few_blocks { self.old.runner.count ≤ most_blocks }
-        requires decoded { HasDecoded self.old.runner }
-        requires made { (path : List ℕ) → Contains (paths_of self.old) path
+        requires file { file < vec_len self.now.outputs }
+        requires place { place < self.now.runner.count }
+        requires few_blocks { self.now.runner.count ≤ most_blocks }
+        requires decoded { HasDecoded self.now.runner }
+        requires made { (path : List ℕ) → Contains (paths_of self.now) path
             → S.made store.old path }
-        ensures still { IsStill self.old self.new }
         ensures kept { KeepsStore S.Store store.old store.new }
-        ensures appended { OnOk result ((moves : List Move) → HasCarriedBy self.old.runner moves
+        ensures appended { OnOk result ((moves : List Move) → HasCarriedBy self.now.runner moves
             → MakesCalls S.Store store.old store.new (Are (appends_of (parts_from
-            (outputs_in self.old) self.old.runner.code self.old.runner.pattern
-            (packets_given moves) (self.old.runner.first + place) file 1 ∷ [])))) }
-        ensures failed { OnErr result ((moves : List Move) → HasCarriedBy self.old.runner moves
+            (outputs_in self.now) self.now.runner.code self.now.runner.pattern
+            (packets_given moves) (self.now.runner.first + place) file 1 ∷ [])))) }
+        ensures failed { OnErr result ((moves : List Move) → HasCarriedBy self.now.runner moves
             → MakesCalls S.Store store.old store.new (StopsWithin (appends_of (parts_from
-            (outputs_in self.old) self.old.runner.code self.old.runner.pattern
-            (packets_given moves) (self.old.runner.first + place) file 1 ∷ [])))) }
+            (outputs_in self.now) self.now.runner.code self.now.runner.pattern
+            (packets_given moves) (self.now.runner.first + place) file 1 ∷ [])))) }
     {
         let sink = self.parts.sink(file);
-        self.runner
-            .block(sink as u32, place as u32, &mut self.decoded);
-        let received = counted(self.parts.rows(file, &self.decoded));
+        let block = self.runner.decoded_block(sink as u32, place as u32);
+        let received = counted(self.parts.rows(file, block));
         if received.is_empty() {
             return Ok(());
         }
@@ -101,23 +99,22 @@ impl<'c, F: Field> SourceDelivery<'c, F> {
     }
 
     // Adds to each sink's file what it decodes of a block that was carried.
-    fn append_block<S: Store>(&mut self, store: &mut S, place: usize) -> Result<(), Failed>
-        requires place { place < self.old.runner.count }
-        requires few_blocks { self.old.runner.count ≤ most_blocks }
-        requires decoded { HasDecoded self.old.runner }
-        requires made { (path : List ℕ) → Contains (paths_of self.old) path
+    fn append_block<S: Store>(&self, store: &mut S, place: usize) -> Result<(), Failed>
+        requires place { place < self.now.runner.count }
+        requires few_blocks { self.now.runner.count ≤ most_blocks }
+        requires decoded { HasDecoded self.now.runner }
+        requires made { (path : List ℕ) → Contains (paths_of self.now) path
             → S.made store.old path }
-        ensures still { IsStill self.old self.new }
-        ensures still_made { (path : List ℕ) → Contains (paths_of self.old) path
+        ensures still_made { (path : List ℕ) → Contains (paths_of self.now) path
             → S.made store.new path }
-        ensures appended { OnOk result ((moves : List Move) → HasCarriedBy self.old.runner moves
+        ensures appended { OnOk result ((moves : List Move) → HasCarriedBy self.now.runner moves
             → MakesCalls S.Store store.old store.new (Are (appends_of (turn_at
-            (outputs_in self.old) self.old.runner.code self.old.runner.pattern
-            (packets_given moves) (self.old.runner.first + place) ∷ [])))) }
-        ensures failed { OnErr result ((moves : List Move) → HasCarriedBy self.old.runner moves
+            (outputs_in self.now) self.now.runner.code self.now.runner.pattern
+            (packets_given moves) (self.now.runner.first + place) ∷ [])))) }
+        ensures failed { OnErr result ((moves : List Move) → HasCarriedBy self.now.runner moves
             → MakesCalls S.Store store.old store.new (StopsWithin (appends_of (turn_at
-            (outputs_in self.old) self.old.runner.code self.old.runner.pattern
-            (packets_given moves) (self.old.runner.first + place) ∷ [])))) }
+            (outputs_in self.now) self.now.runner.code self.now.runner.pattern
+            (packets_given moves) (self.now.runner.first + place) ∷ [])))) }
     {
         for file in 0..self.outputs.len() {
             self.append_decoded(store, file, place)?;
@@ -126,21 +123,20 @@ impl<'c, F: Field> SourceDelivery<'c, F> {
     }
 
     // Adds to each sink's file what it decodes of the blocks that were carried, block by block.
-    fn append_window<S: Store>(&mut self, store: &mut S, count: usize) -> Result<(), Failed>
-        requires all { count ≡ self.old.runner.count }
+    fn append_window<S: Store>(&self, store: &mut S, count: usize) -> Result<(), Failed>
+        requires all { count ≡ self.now.runner.count }
         requires few_blocks { count ≤ most_blocks }
-        requires decoded { HasDecoded self.old.runner }
-        requires made { (path : List ℕ) → Contains (paths_of self.old) path
+        requires decoded { HasDecoded self.now.runner }
+        requires made { (path : List ℕ) → Contains (paths_of self.now) path
             → S.made store.old path }
-        ensures still { IsStill self.old self.new }
-        ensures appended { OnOk result ((moves : List Move) → HasCarriedBy self.old.runner moves
+        ensures appended { OnOk result ((moves : List Move) → HasCarriedBy self.now.runner moves
             → MakesCalls S.Store store.old store.new (Are (appends_of (turns_from
-            (outputs_in self.old) self.old.runner.code self.old.runner.pattern
-            (packets_given moves) self.old.runner.first count)))) }
-        ensures failed { OnErr result ((moves : List Move) → HasCarriedBy self.old.runner moves
+            (outputs_in self.now) self.now.runner.code self.now.runner.pattern
+            (packets_given moves) self.now.runner.first count)))) }
+        ensures failed { OnErr result ((moves : List Move) → HasCarriedBy self.now.runner moves
             → MakesCalls S.Store store.old store.new (StopsWithin (appends_of (turns_from
-            (outputs_in self.old) self.old.runner.code self.old.runner.pattern
-            (packets_given moves) self.old.runner.first count)))) }
+            (outputs_in self.now) self.now.runner.code self.now.runner.pattern
+            (packets_given moves) self.now.runner.first count)))) }
     {
         for place in 0..count {
             self.append_block(store, place)?;

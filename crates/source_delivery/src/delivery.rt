@@ -62,8 +62,6 @@ pub struct SourceDelivery<'c, F> {
     pub gathered: Vec<u8>,
     /// Room for the blocks of a window.
     pub blocks: Vec<u8>,
-    /// Room for a block as a sink decodes it.
-    pub decoded: Vec<u8>,
     ghost rate_of: { rate ≡ runner.code.rate },
     ghost split: { is_split parts runner.code.rate ≡ true },
     ghost files: { vec_len outputs ≡ files_of parts (length runner.code.net.sinks) },
@@ -72,7 +70,6 @@ pub struct SourceDelivery<'c, F> {
     ghost few_bytes: { vec_len gathered ≤ window * capacity runner.code.rate },
     ghost room: { window * capacity runner.code.rate ≤ vec_capacity gathered },
     ghost blocks_length: { vec_len blocks ≡ window * (runner.code.rate * row_bytes) },
-    ghost decoded_length: { vec_len decoded ≡ runner.code.rate * row_bytes },
 }
 
 // How many blocks are worth the threads that decode them, where there are any: so many sinks decode rows of so many products.
@@ -166,10 +163,8 @@ impl<'c, F: Field> SourceDelivery<'c, F> {
             (IsRefused K.moves seed (room_for code.now) links.old links.new) }
     {
         let rate = code.code().rate;
-        let block_bytes = rate as usize * ROW;
         let gathered = Vec::with_capacity(alloc, window * cap(rate) as usize)?;
-        let blocks = vec![in alloc; 0u8; window * block_bytes]?;
-        let decoded = vec![in alloc; 0u8; block_bytes]?;
+        let blocks = vec![in alloc; 0u8; window * (rate as usize * ROW)]?;
         let runner = Runner::open(alloc, code, pattern, seed, links)?;
         Ok(SourceDelivery {
             rate,
@@ -179,7 +174,6 @@ impl<'c, F: Field> SourceDelivery<'c, F> {
             window,
             gathered,
             blocks,
-            decoded,
         })
     }
 }

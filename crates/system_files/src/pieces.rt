@@ -9,6 +9,9 @@ use std::io::{ErrorKind, Read, Seek, SeekFrom, Write};
 /// How many bytes are read at a time.
 const PIECE: usize = 65536;
 
+/// Where no more are asked for, they come through a shorter piece, as a piece is cleared first.
+const SHORT: usize = 16384;
+
 /// How often a call that a signal interrupts is tried.
 const TRIES: u32 = 1000;
 
@@ -58,7 +61,11 @@ fn read_piece<F: Read>(file: &mut F, into: &mut [u8]) -> io::Result<usize>
         (λ n. Consumes (F.remaining file.old) (F.remaining file.new) (take n into.new)) }
     ensures end { IfOk result (λ n. n ≡ 0 → 0 < length into.old → IsAtEnd (F.remaining file.new)) }
 {
-    read_through(file, &mut [0; PIECE], into)
+    if into.len() <= SHORT {
+        read_through(file, &mut [0; SHORT], into)
+    } else {
+        read_through(file, &mut [0; PIECE], into)
+    }
 }
 
 /// Reads until the buffer is full or the reader is at its end, and answers how many bytes came.

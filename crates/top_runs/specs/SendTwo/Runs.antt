@@ -2,13 +2,14 @@
 use Rattle.std.specs.Prelude.{◌≡◌, ◌⊎◌, ℕ, Bool, List, Some, IsSome, IsNone}
 use Rattle.lif_outside.specs.Calls.{Calls, MakesNone}
 use Rattle.lif_outside.specs.Events.{Event}
-use Rattle.lif_outside.specs.Moves.{Move}
-use Rattle.lif_outside.specs.FileCalls.{ReadsPastLimit, ReadsToFault, ReadsWhole, StopsWithin}
+use Rattle.lif_outside.specs.Moves.{Move, pairs_put}
+use Rattle.lif_outside.specs.FileCalls.{ReadsPastLimit, ReadsToFault, ReadsWhole, StopsWithin, bytes_read}
 use Rattle.lif_outside.specs.Sequences.{Are, IsFrontOf}
+use Rattle.lif_outside.specs.Streams.{reads_in}
 use Rattle.node_program.specs.declared.code.Code.{Code}
 use Rattle.source_delivery.specs.Carried.{Breaks}
 use Rattle.source_delivery.specs.Streaming.{AtRest}
-use Rattle.source_delivery.specs.Twin.{ReadsBoth, ReadsSoFar, twin_feed}
+use Rattle.source_delivery.specs.Twin.{PutsApart, ReadsBoth, ReadsSoFar, marked, twin_feed, unmarked}
 use Rattle.top_base.specs.Lines.{bad_split_line, link_fault_line, out_of_memory_line, read_fault_line, same_path_line, too_long_line, unknown_pattern_line, write_fault_line}
 use Rattle.top_base.specs.Words.{SendTwo, source_limit}
 use Rattle.top_base.specs.declared.outcome.Outcome.{Outcome}
@@ -25,6 +26,10 @@ pub record CarriesBoth (faithful : Bool) (send : SendTwo) (code : Code) (P Q : L
   pub marks : List Bool
   pub carries : Carries faithful (sending_of send code) code (twin_feed (first_of send).rate (second_of send code).rate marks)
       (ReadsBoth (first_of send).rate (second_of send code).rate P Q marks) D R calls
+  -- what is put on a link that carries one row alone is of the source that has the row
+  pub apart : PutsApart code (first_of send).rate (second_of send code).rate (bytes_read (marked marks (reads_in carries.on_store.later)))
+      (bytes_read (unmarked marks (reads_in carries.on_store.later)))
+      ((twin_feed (first_of send).rate (second_of send code).rate marks).brought (reads_in carries.on_store.later)) (pairs_put calls.on_links)
 
 -- both were read to their ends, and all blocks were carried and delivered
 pub record SentBoth (faithful : Bool) (send : SendTwo) (code : Code) (one two : List ℕ) (calls : Calls) : Type 0 where

@@ -1,6 +1,6 @@
 use Rattle.std.specs.Prelude.{◌<◌, ◌≤◌, ◌*◌, ◌%◌, ◌==◌, Bool, drop, if◌then◌else◌, take, vec_len}
 use Rattle.std.proofs.Common.{◌≡◌, ◌+◌, ◌∷◌, [], List, ℕ, length, nat_lt, true, false, ap, ◌∙◌, sym, subst, arith, slice_index_or, string_bytes}
-use Rattle.std.proofs.lemmas.List.{length-drop, length-map, length-take-le, take_at}
+use Rattle.std.proofs.lemmas.List.{length-drop, length-map, length-take-le}
 use Rattle.std.proofs.lemmas.List.Elements.{Contains-get_or}
 use Rattle.failure_patterns.proofs.DemandLaws.{few_sinks}
 use Rattle.generation_frame.specs.Blocks.{counted_bytes, row_bytes}
@@ -40,11 +40,10 @@ received : (g : given.Over) (c : After-counted-received g) (moves : List Move) �
 received g c moves by =
     let self = c.args.self.now in
     let runner = self.runner in
-    let long : length c.block.new.into ≡ self.decoded.len = omega (arith, c.block.auto.into, c.deref_mut.ensures.len, self.decoded_length) in
     c.counted-received.ensures
     ∙ ap counted_bytes
     (c.rows.ensures ∙ ap (rows_of self.parts c.args.file)
-    (c.deref.ensures.value ∙ take_at c.block.new.into _ self.decoded.len long ∙ c.block.ensures.value moves by
+    (c.decoded_block-block.ensures.value moves by
     ∙ ap (λ sink. decoded_of runner.code (demand_of runner.code runner.pattern sink) (packets_given moves) (runner.first + c.args.place)) c.sink-sink.ensures))
 
 -- the path of the file

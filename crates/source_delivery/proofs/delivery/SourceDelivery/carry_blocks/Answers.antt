@@ -10,7 +10,7 @@ use Rattle.relay_runner.specs.Carried.{IsStopped}
 use Rattle.relay_runner.specs.Running.{Running, count_in, window_from}
 use Rattle.source_delivery.proofs.DeliveryLaws.{are-blocks, blocks-count, blocks-window}
 use Rattle.source_delivery.proofs.WindowLaws.{delivers}
-use Rattle.source_delivery.specs.Delivering.{BreaksBlocks, HasMoved, StandIn}
+use Rattle.source_delivery.specs.Delivering.{BreaksBlocks, StandIn}
 use Rattle.source_delivery.specs.Delivery.{outputs_in}
 use Rattle.source_delivery.proofs.delivery.SourceDelivery.carry_blocks.Given as given
 use Rattle.source_delivery.proofs.delivery.SourceDelivery.carry_blocks.Goals as goal
@@ -79,15 +79,14 @@ returns-in-Ok-append_window-clause-moved g c =
     let runner = c.args.self.now.runner in
     let after = c.in-Ok.ensures in
     let rest = c.decode_all.ensures.rest in
-    subst (HasMoved c.args.count runner) (sym c.append_window.ensures.still.runner)
-    (record {
+    record {
       code = ap (λ (runner : Running). runner.code) rest ∙ after.code;
       pattern = ap (λ (runner : Running). runner.pattern) rest ∙ after.pattern;
       first = ap (λ (runner : Running). runner.first) rest ∙ after.first;
       count = ap (λ (runner : Running). runner.count) rest ∙ after.count ∙ is;
       next = ap (λ (runner : Running). runner.next) rest ∙ after.next ∙ ap (λ n. runner.next + n) is;
       carried = c.decode_all.ensures.decoded.carried;
-    })
+    }
 
 pub returns-in-Ok-append_window-clause-delivered : goal.returns-in-Ok-append_window-clause-delivered
 returns-in-Ok-append_window-clause-delivered g c = λ blocks stand.
