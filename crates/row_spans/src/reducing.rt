@@ -149,9 +149,7 @@ fn clear_rows<const W: usize>(
     for row in rows.iter_mut() {
         let by = element_at(field, row, column);
         if by != 0 {
-            let mut sum = *row;
-            tables.add_scaled(field, &mut sum, by, lead);
-            *row = sum;
+            tables.add_scaled(field, row, by, lead);
         }
     }
 }
