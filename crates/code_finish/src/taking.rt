@@ -1,5 +1,6 @@
 //! Links into a sink that are taken in one by one.
 ghost use Rattle.std.specs.Prelude.{◌≡◌, ◌<◌, ◌≤◌, ◌*◌, ◌∷◌, ◌++◌, [], ℕ, List, IfOk, OnOk, length, take};
+ghost use Rattle.gf_tables.specs.Product.{bytes_of_element};
 ghost use Rattle.linear_algebra.specs.Elements.{elements_of};
 ghost use Rattle.linear_algebra.specs.Matrices.{rows_of};
 ghost use Rattle.linear_algebra.specs.Rows.{AreElements, IsRow, unit_row};
@@ -8,7 +9,7 @@ ghost use Rattle.row_spans.specs.Spans.{IsHidden, vectors};
 ghost use Rattle.code_finish.specs.Solved.{AreUnitSums};
 ghost use Rattle.code_finish.specs.Taken.{AreTaken, taken_bytes};
 
-use field_rows::{RowTables, push_elements, put_element};
+use field_rows::{RowTables, element_at, push_elements, put_element};
 use gf_tables::FieldKind;
 use row_spans::RowSpan;
 use std::alloc::{AllocError, Global};
@@ -39,6 +40,19 @@ fn row_of<const W: usize>(field: FieldKind, vector: &[u8; 64], place: u32) -> [u
     front.copy_from_slice(&vector[..W / 2]);
     put_element(field, behind, place, 1);
     row
+}
+
+// The elements that the bytes behind a row's vector are.
+fn elements_in(field: FieldKind, bytes: &[u8]) -> [u32; 32]
+    requires { length bytes.now ≡ bytes_of_element field * 32 }
+    ensures elements { AreElements field result }
+    ensures value { result ≡ elements_of field bytes.now }
+{
+    let mut elements = [0; 32];
+    for place in 0..32 {
+        elements[place] = element_at(field, bytes, place as u32);
+    }
+    elements
 }
 
 impl<const W: usize> Taken<W> {
@@ -107,7 +121,8 @@ impl<const W: usize> Taken<W> {
         let mut entries = Vec::with_capacity(alloc, self.rate as usize * self.rate as usize)?;
         for k in 0..self.rate {
             let row: &[u8] = self.span.row(k);
-            push_elements(&mut entries, self.field, &row[W / 2..], self.rate)?;
+            let coefficients = elements_in(self.field, &row[W / 2..]);
+            entries.extend_from_slice(&coefficients[..self.rate as usize])?;
         }
         Ok(entries)
     }

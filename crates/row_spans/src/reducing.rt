@@ -3,7 +3,7 @@ ghost use Rattle.std.specs.Prelude.{◌≡◌, ◌≢◌, ◌<◌, ◌≤◌, �
 ghost use Rattle.gf_tables.specs.Product.{bytes_of_element, size_of};
 ghost use Rattle.linear_algebra.specs.Elements.{elements_of};
 ghost use Rattle.linear_algebra.specs.Rows.{scale_row, zero_row, IsRow};
-ghost use Rattle.row_spans.specs.Reduced.{cleared, cleared_by, with_lead, AreReduced, IsNewLead};
+ghost use Rattle.row_spans.specs.Reduced.{cleared, cleared_by, kept, with_lead, AreReduced, IsNewLead};
 ghost use Rattle.row_spans.specs.Spans.{IsSum, vectors};
 ghost use Rattle.field_rows.specs.Widths.{rows_in, width_in};
 
@@ -18,10 +18,11 @@ pub(crate) struct Lead<const W: usize> {
     pub(crate) row: [u8; W],
 }
 
-/// What a row leads with, once it is cleared and divided, if its vector isn't a sum of the vectors.
+/// What a row leads with, once it is cleared and divided, if its vector isn't a sum of the vectors, of which there are `rank`.
 pub(crate) fn lead_of<const W: usize>(
     tables: &RowTables,
     field: FieldKind,
+    rank: u32,
     marks: &[bool],
     rows: &[[u8; W]],
     row: &[u8],
@@ -31,6 +32,7 @@ pub(crate) fn lead_of<const W: usize>(
     requires few { length marks.now ≤ 32 }
     requires reduced { AreReduced field (width_in field W) (length marks.now) marks.now
         (rows_in field rows.now) }
+    requires rank { rank ≡ length (kept marks.now (rows_in field rows.now)) }
     ensures row { IsRow field (width_in field W) (elements_of field row.now) }
     ensures none { IfNone result (IsSum field (length marks.now)
         (vectors (length marks.now) (rows_in field rows.now))
@@ -40,7 +42,7 @@ pub(crate) fn lead_of<const W: usize>(
         (elements_of field lead.row)) }
 {
     // Where every column has a row, each vector is a sum of multiples of those of the rows.
-    if marks.iter().all(|is| *is) {
+    if rank == marks.len() as u32 {
         return None;
     }
     let left = cleared(tables, field, marks, rows, row);

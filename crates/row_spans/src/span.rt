@@ -94,6 +94,7 @@ impl<const W: usize> RowSpan<W> {
         match lead_of(
             tables,
             self.field,
+            self.rank,
             self.marks.as_slice(),
             self.rows.as_slice(),
             row,

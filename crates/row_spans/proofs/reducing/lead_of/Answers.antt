@@ -1,31 +1,29 @@
-use Rattle.std.proofs.Common.{◌≡◌, ◌≢◌, ap, arith, length, rules, tests, Bool, List, ℕ, false, slice_index, subst, sym, take, ◌∙◌}
-use Rattle.std.proofs.lemmas.Iterator.{YieldsList-from_slice}
-use Rattle.std.proofs.lemmas.Iterator.Search.{all_from_yields_List}
+use Rattle.std.proofs.Common.{◌≡◌, ◌≢◌, ap, arith, length, List, ℕ, slice_index, subst, sym, take, ◌∙◌}
 use Rattle.gf_tables.specs.Product.{product}
-use Rattle.item_list.proofs.Tests.{passes_at}
 use Rattle.linear_algebra.specs.Elements.{elements_of}
 use Rattle.linear_algebra.specs.Rows.{scale_row}
+use Rattle.row_spans.proofs.KeptLaws.{marked_from_all}
 use Rattle.row_spans.proofs.LeadSteps.{IsNewLead-divided}
 use Rattle.row_spans.proofs.ReducedLaws.{sum_from_nothing, sum_where_marked}
-use Rattle.row_spans.specs.Reduced.{cleared, IsNewLead}
+use Rattle.row_spans.specs.Reduced.{cleared, kept, IsNewLead}
 use Rattle.field_rows.proofs.ElementLaws.{IsRow-elements_in}
 use Rattle.field_rows.specs.Widths.{rows_in, width_in}
 use Rattle.row_spans.proofs.reducing.lead_of.Goals as goal
 
-pub returns-then-all-clause-row : goal.returns-then-all-clause-row
-returns-then-all-clause-row g c =
+pub returns-then-rank-marks-clause-row : goal.returns-then-rank-marks-clause-row
+returns-then-rank-marks-clause-row g c =
     IsRow-elements_in c.args.field g.row.W c.args.row.now c.requires.even c.requires.length (λ i. omega (arith, c.type_inv.row i))
 
-pub returns-then-all-clause-none : goal.returns-then-all-clause-none
-returns-then-all-clause-none g c =
+pub returns-then-rank-marks-clause-none : goal.returns-then-rank-marks-clause-none
+returns-then-rank-marks-clause-none g c =
     let field = c.args.field in
     let marks = c.args.marks.now in
     let rows = rows_in field c.args.rows.now in
     let row = elements_of field c.args.row.now in
-    let is : Bool → Bool = λ mark. mark in
-    let all = all_from_yields_List is _ _ c.all.result c.all.ensures.ran (YieldsList-from_slice marks cc) (λ x b q k. search (rules, tests)) in
-    sum_where_marked field (width_in field g.row.W) (length marks) marks rows c.requires.reduced row (returns-then-all-clause-row g c)
-    (λ p below. passes_at is marks p false (sym all ∙ c.if-all.true) below)
+    let count : length rows ≡ length marks = c.requires.reduced.count in
+    let whole : length (kept marks rows) ≡ length rows = sym c.requires.rank ∙ omega (arith, c.if-rank-marks.true, c.requires.few) ∙ sym count in
+    sum_where_marked field (width_in field g.row.W) (length marks) marks rows c.requires.reduced row (returns-then-rank-marks-clause-row g c)
+    (λ p below. marked_from_all marks rows p count whole below)
 
 pub returns-in-None-clause-none : goal.returns-in-None-clause-none
 returns-in-None-clause-none g c =
