@@ -229,10 +229,10 @@ fn is_certified<G: Gate + Sync, R: Threads + Sync>(
     }
 }
 
-// The first example in which one worker makes others.
-fn wrong_example<R: Threads + Sync>(rt: &R, alloc: Global) -> Option<usize> {
+// The first example in which so many workers make others.
+fn wrong_example<R: Threads + Sync>(rt: &R, alloc: Global, workers: u32) -> Option<usize> {
     for (row, example) in EXAMPLES.iter().enumerate() {
-        if !is_certified(rt, alloc, example, 1, &NoGate) {
+        if !is_certified(rt, alloc, example, workers, &NoGate) {
             return Some(row);
         }
     }
@@ -241,7 +241,11 @@ fn wrong_example<R: Threads + Sync>(rt: &R, alloc: Global) -> Option<usize> {
 
 #[test]
 fn all_demands_are_certified(rt: HostRuntime) {
-    assert!(rt; wrong_example(&rt, rt.alloc()).is_none());
+    let are_right = wrong_example(&rt, rt.alloc(), 1).is_none()
+        && wrong_example(&rt, rt.alloc(), 2).is_none()
+        && wrong_example(&rt, rt.alloc(), 3).is_none()
+        && wrong_example(&rt, rt.alloc(), 4).is_none();
+    assert!(rt; are_right);
 }
 
 // Whether so many workers certify two links, and enter these jobs.
