@@ -94,7 +94,7 @@ def tools() -> list[Path]:
 def recommended() -> list[str]:
     """The Debian packages that the tools need, by the table of tools/README.md, and what runs them."""
     rows = [line.split("|") for line in (TOOLS / "README.md").read_text().splitlines() if line.startswith("| `lif")]
-    return ["python3", *sorted({name for row in rows for name in re.findall(r"`([a-z0-9-]+)`", row[3])})]
+    return ["python3", *sorted({name for row in rows for name in re.findall(r"`([a-z0-9][a-z0-9-]*)`", row[3])})]
 
 
 def newest() -> tuple[str, list[str]]:
