@@ -70,7 +70,7 @@ pub extern "C" fn lif_code_shape(alloc: Global, code: &mut Handle, shape: &mut S
         Opened::Code(it) => {
             *shape = shape_of(it);
             OK
-        },
+        }
         _ => OTHER_KIND,
     };
     code.put(opened);
@@ -100,7 +100,7 @@ pub extern "C" fn lif_code_ends(
                 OK
             }
             Err(why) => error_number(why),
-        },
+        }
         _ => OTHER_KIND,
     };
     code.put(opened);

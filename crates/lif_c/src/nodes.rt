@@ -40,7 +40,7 @@ pub extern "C" fn lif_node_open(
                 OK
             }
             Err(why) => error_number(why),
-        },
+        }
         _ => OTHER_KIND,
     };
     code.put(opened);

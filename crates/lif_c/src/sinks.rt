@@ -42,7 +42,7 @@ pub extern "C" fn lif_sink_open(
                 OK
             }
             Err(why) => error_number(why),
-        },
+        }
         _ => OTHER_KIND,
     };
     code.put(opened);
@@ -82,7 +82,7 @@ pub extern "C" fn lif_sink_wants(
         Opened::Sink(it) => {
             *wants = it.wants(link);
             OK
-        },
+        }
         _ => OTHER_KIND,
     };
     sink.put(opened);
