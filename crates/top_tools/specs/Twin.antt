@@ -3,6 +3,7 @@ use Rattle.std.specs.Prelude.{◌≡◌, ◌≤◌, ◌<◌, ◌+◌, ℕ, List,
 use Rattle.cut_witness.specs.declared.cert.Cert.{Cert}
 use Rattle.code_file.specs.Items.{bytes_of}
 use Rattle.code_file.specs.Limits.{code_limit}
+use Rattle.coded_traffic.specs.RowLinks.{CarriesRow}
 use Rattle.gf_tables.specs.declared.kind.FieldKind.{FieldKind}
 use Rattle.lif_compiler.specs.Compiled.{IsCompiled}
 use Rattle.lif_outside.specs.FileCalls.{Written}
@@ -10,7 +11,6 @@ use Rattle.net_model.specs.Demands.{demand_count}
 use Rattle.net_model.specs.declared.net.Net.{Net}
 use Rattle.net_reader.specs.Text.{net_limit}
 use Rattle.node_program.specs.Decoding.{IsAccepted}
-use Rattle.node_program.specs.Value.{operands_at}
 use Rattle.node_program.specs.declared.code.Code.{Code}
 use Rattle.report_text.specs.Report.{report_of}
 use Rattle.top_base.specs.Lines.{twin_refused_line, twinned_line}
@@ -25,7 +25,7 @@ use Rattle.top_base.specs.declared.status.TwinWhy.{TwinWhy}
 use Rattle.top_base.specs.declared.status.TwinWhy.TheVariants.{NameTaken, TooMany, UnknownSecond}
 use Rattle.top_tools.specs.Compile.Made.{IsGood, IsServedBy, RefusesMaking}
 use Rattle.two_sources.specs.Joined.{IsJoined, IsTooMany, is_taken, super_links}
-use Rattle.two_sources.specs.Separated.{IsSeparated, row_operands}
+use Rattle.two_sources.specs.Separated.{IsSeparated}
 
 -- the network that joins the source of NET and the node that SECOND names
 pub record Joins (given : Twin) (net joined : Net) : Type 0 where
@@ -33,13 +33,13 @@ pub record Joins (given : Twin) (net joined : Net) : Type 0 where
   pub named : node_named net given.second ≡ Some second
   pub is_joined : IsJoined second given.r1 given.r2 net joined
 
--- an accepted code of the rate of both, whose first links are those of the joined node, `super.1.1` and so on, in order, and carry a
--- row of the block each, in order
+-- an accepted code of the rate of both, whose first links are those of the joined node, `super.1.1` and so on, in order: each leaves
+-- the source and carries one row of the block alone, that of its own number
 pub record IsTwinCode (given : Twin) (code : Code) : Type 0 where
   pub accepted : IsAccepted code
   pub rate : code.rate ≡ given.r1 + given.r2
   pub named : (link : ℕ) → link < code.rate → slice_get (map (λ l. l.name) code.net.links) link ≡ slice_get (super_links given.r1 given.r2) link
-  pub carries : (link : ℕ) → link < code.rate → operands_at code.operands link ≡ row_operands link
+  pub carries : (link : ℕ) → link < code.rate → CarriesRow code link link
 
 -- a code that is compiled of the joined network, and separated, with certificates of that network's rate, and what is written and
 -- said of them

@@ -1,4 +1,5 @@
 use Rattle.std.proofs.Common.{◌≡◌, ◌≤◌, ◌∷◌, [], map, slice_get, ap, subst, sym, ◌∙◌, arith}
+use Rattle.std.proofs.lemmas.Bool.{lt-ltb}
 use Rattle.code_file.proofs.SizeLaws.{bytes_of-within}
 use Rattle.code_file.specs.Items.{bytes_of}
 use Rattle.code_file.specs.Limits.{fitting_members}
@@ -9,6 +10,7 @@ use Rattle.lif_compiler.specs.Compiled.{marked_kind}
 use Rattle.net_model.proofs.MemberLaws.{member_count-renumbered}
 use Rattle.net_model.specs.Demands.{demand_count}
 use Rattle.net_model.specs.Failed.{member_count}
+use Rattle.net_model.specs.Walks.{leaves_source}
 use Rattle.net_model.specs.declared.net.Net.{Net}
 use Rattle.node_program.specs.Code.{choice_of}
 use Rattle.node_program.specs.declared.code.Code.{Code}
@@ -74,7 +76,12 @@ returns g c = λ old joins.
             ap (λ (one : Net). slice_get (map (λ l. l.name) one.links) link) separated.net
             ∙ compiled-names joins.second given.r1 given.r2 old net joins.is_joined kind whole certs compiled link
             (omega (arith, below, separated.rate));
-        carries = separated-operands whole first code separated;
+        carries = λ link below. record {
+          leaves =
+              ap (λ (one : Net). leaves_source one link) separated.net ∙ first link
+              ∙ lt-ltb link whole.rate (omega (arith, below, separated.rate));
+          alone = separated-operands whole first code separated link below;
+        };
       };
       within = bytes_of-within code (subst (λ n. n ≤ fitting_members) (sym members) c.requires.members);
       files_are = λ i. (given.code, bytes i) ∷ (given.report, text i) ∷ [];
