@@ -146,9 +146,14 @@ def _loaded() -> tuple[Any, Any]:
     import cffi
 
     ffi = cffi.FFI()
-    ffi.cdef(_declarations(_named_or_found("LIF_H", HEADERS).read_text()))
+    ffi.cdef(_declarations(header().read_text()))
     names = ("liblif.so", "liblif.a")
     return ffi, ffi.dlopen(str(_shared(_named_or_found("LIBLIF", [folder / name for folder in FOLDERS for name in names]))))
+
+
+def header() -> Path:
+    """The header of the library."""
+    return _named_or_found("LIF_H", HEADERS)
 
 
 def _named_or_found(variable: str, places: Sequence[Path]) -> Path:
@@ -162,12 +167,12 @@ def _named_or_found(variable: str, places: Sequence[Path]) -> Path:
     raise FileNotFoundError(f"there is no {places[0].name}: set {variable} to its path")
 
 
-def _declarations(header: str) -> str:
+def _declarations(text: str) -> str:
     """What cffi reads of a header: all but comments, lines of the preprocessor, what is for C++, and bodies of functions."""
-    header = re.sub(r"/\*.*?\*/|//[^\n]*", " ", header, flags=re.DOTALL)
+    text = re.sub(r"/\*.*?\*/|//[^\n]*", " ", text, flags=re.DOTALL)
     for unread in (r"#ifdef __cplusplus\n.*?^#endif", r"static inline .*?^\}", r"#(?:[^\n]*\\\n)*[^\n]*"):
-        header = re.sub(f"^{unread}", "", header, flags=re.DOTALL | re.MULTILINE)
-    return header
+        text = re.sub(f"^{unread}", "", text, flags=re.DOTALL | re.MULTILINE)
+    return text
 
 
 def _shared(path: Path) -> Path:
