@@ -7,8 +7,10 @@ import gc
 import io
 import itertools
 import mmap
+import os
 import random
 import re
+import shutil
 import sys
 import weakref
 from dataclasses import dataclass, field
@@ -17,7 +19,8 @@ from typing import Any, Callable, Iterator, Sequence
 
 import pytest
 
-from support import EXAMPLES, FLY, ended, has_liblif
+from documents import check_commands
+from support import EXAMPLES, FLY, TOOLS, ended, has_liblif
 from traffic import blocks_of, streams_of
 from lif_tools import liblif
 from lif_tools.drafting import draft_with, draw_coefficients
@@ -546,12 +549,17 @@ def test_a_code_tells_of_itself() -> None:
         assert [read.pattern(pattern.name.encode()) for pattern in network.patterns] == list(range(read.patterns))
         assert [read.sink(network.nodes[node]) for node in network.sinks] == list(range(read.sinks))
         assert [read.node_name(node) for node in range(read.nodes)] == list(network.nodes)
-        wrong = {read.node: Status.NO_NODE, read.link: Status.NO_LINK, read.sink: Status.NO_SINK, read.pattern: Status.NO_PATTERN}
-        for look, status in wrong.items():
-            for name in ("x", b"\xff", ""):
-                with pytest.raises(LifError) as refused:
-                    look(name)
-                assert refused.value.status is status
+        looks: list[tuple[Callable[[str | bytes], int], Status]] = [
+            (read.node, Status.NO_NODE),
+            (read.link, Status.NO_LINK),
+            (read.sink, Status.NO_SINK),
+            (read.pattern, Status.NO_PATTERN),
+        ]
+        names: list[str | bytes] = ["x", b"\xff", ""]
+        for (look, status), name in itertools.product(looks, names):
+            with pytest.raises(LifError) as refused:
+                look(name)
+            assert refused.value.status is status
 
 
 def test_what_is_closed_is_refused_and_what_was_opened_of_it_is_not() -> None:
@@ -641,3 +649,9 @@ def test_the_example_brings_the_source_to_both_sinks(tmp_path: Path, length: int
         done = ended([sys.executable, EXAMPLE, seed, "source", "out"], cwd=tmp_path)
         assert (done.returncode, done.stdout, done.stderr) == (0, "", "")
         assert [(tmp_path / f"out.{sink}").read_bytes() for sink in ("t1", "t2")] == [source, source]
+
+
+def test_the_commands_of_its_page(tmp_path: Path) -> None:
+    shutil.copytree(EXAMPLES, tmp_path / "examples")
+    os.symlink(TOOLS, tmp_path / "tools")
+    check_commands("examples/python/README.md", tmp_path)
