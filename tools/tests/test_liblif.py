@@ -290,11 +290,11 @@ def test_a_wrong_argument_has_its_status_and_changes_nothing(wrong: Callable[[Ca
 def test_nothing_is_due_until_something_came() -> None:
     c = Calls()
     frame = c.new("uint8_t[]", b"x" * FRAME_BYTES)
-    for begin, handle in c.began():
-        if begin == c.lib.lif_node_begin:
-            assert begin(handle, 0, 1) == 0
-            assert c.lib.lif_node_next(handle, frame, FRAME_BYTES) == Status.NOTHING_DUE
-    assert bytes(c.ffi.buffer(frame))[:FRAME_BYTES] == b"x" * FRAME_BYTES
+    for handle in (c.node, c.source):
+        assert c.lib.lif_node_begin(handle, 0, 1) == 0
+        before = c.state()
+        assert c.lib.lif_node_next(handle, frame, FRAME_BYTES) == Status.NOTHING_DUE
+        assert c.state() == before
     c.close()
 
 
@@ -452,7 +452,7 @@ def windows_of(count: int, chance: random.Random) -> Iterator[range]:
 def test_what_nodes_give_is_the_coded_traffic(field_mark: int, seed: int) -> None:
     code, chance = random_code(field_mark, seed), random.Random(seed)
     network = code.network
-    source = chance.randbytes(chance.randrange(5 * capacity(code.rate)))
+    source = chance.randbytes(chance.randrange(7 * capacity(code.rate)))
     fed = blocks_of(code.rate, source)
     with liblif.Code.open(write_code(code)) as read:
         for pattern in range(len(network.patterns)):
@@ -495,7 +495,7 @@ def give(node: Node, model: Model, traffic: Traffic, window: range, most: int) -
 def test_what_sinks_decode_is_the_block(field_mark: int, seed: int) -> None:
     code, chance = random_code(field_mark, seed), random.Random(seed)
     network = code.network
-    source = chance.randbytes(chance.randrange(5 * capacity(code.rate)))
+    source = chance.randbytes(chance.randrange(7 * capacity(code.rate)))
     fed = blocks_of(code.rate, source)
     with liblif.Code.open(write_code(code)) as read:
         for pattern, number in itertools.product(range(len(network.patterns)), range(len(network.sinks))):
@@ -578,15 +578,14 @@ def test_what_is_closed_is_refused_and_what_was_opened_of_it_is_not() -> None:
     assert refused.value.status is Status.CLOSED
 
 
-def test_numbers_that_no_call_takes() -> None:
+def test_numbers_that_are_too_high() -> None:
     with liblif.Code.open(FLY) as code, Sink(code, 0) as sink:
         for number in (-1, 1 << 32):
             with pytest.raises(OverflowError):
                 sink.wants(number)
             with pytest.raises(OverflowError):
                 Node(code, number)
-        assert not sink.wants(99)
-        sink.begin(0)
+        assert not any(map(sink.wants, NUMBERS))
 
 
 def test_memory_goes_back_where_nothing_refers_to_it() -> None:
