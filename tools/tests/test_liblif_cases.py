@@ -1,4 +1,4 @@
-"""The cases of `relay` and `sink`, with liblif in the place of the nodes and the sinks of the program."""
+"""The cases of `relay`, `sink` and `check`, with liblif in the place of what the program does of codes."""
 from __future__ import annotations
 
 import sys
@@ -19,6 +19,7 @@ from lif_tools.formats import (
     finish,
     in_order,
     join_sources,
+    read_code,
     read_network,
     separate,
     write_code,
@@ -53,6 +54,8 @@ class Store:
     case: caseform.Case
     files: dict[bytes, bytes] = field(default_factory=dict)
     old: dict[bytes, bytes] = field(default_factory=dict)
+    # The paths of those that the case gives, and no run has made since.
+    given: set[bytes] = field(default_factory=set)
 
     def __post_init__(self) -> None:
         self.lets: dict[str, caseform.Bytes] = dict(self.case.lets)
@@ -69,6 +72,7 @@ class Store:
                 self.files.pop(path, None)
             else:
                 self.files[path] = caseform.bytes_of(text, self.look) or b""
+                self.given.add(path)
         self.old = dict(self.files)
 
     def said(self, step: caseform.Step) -> bytes:
@@ -95,7 +99,11 @@ def open_code(content: bytes) -> Code:
         return Code.open(content)
     except CodeRefused as refused:
         if refused.item is None:
-            raise Ended(CHECK_FAILED, f"check failed: {refused}") from None
+            network = read_code(content).network
+            sink, pattern = divmod(refused.demand, len(network.patterns))
+            demand = f"{network.nodes[network.sinks[sink]]} {network.patterns[pattern].name}"
+            entry = f"row {refused.row} column {refused.column} found {refused.found}"
+            raise Ended(CHECK_FAILED, f"check failed: demand {demand} {entry}") from None
         name = refused.item.name.title().replace("_", "")
         bare = name in ("BadMagic", "BadVersion", "BadField", "BadRate")
         raise Ended(CODE_REFUSED, f"code refused: {name}" + ("" if bare else f" {refused.at}")) from None
@@ -216,6 +224,12 @@ def sink(files: Files, words: Sequence[bytes]) -> tuple[str, Files]:
             return f"received {len(received)} bytes in {len(came)} generations\n", {out: received}
 
 
+def check(files: Files, words: Sequence[bytes]) -> tuple[str, Files]:
+    """The same of `check`."""
+    with open_code(files[words[0]]) as code:
+        return f"accepted rate {code.rate} field {code.field} demands {code.sinks * code.patterns}\n", {}
+
+
 # The cases
 
 
@@ -237,17 +251,27 @@ def compiled(files: Files, words: Sequence[bytes]) -> Files:
     return {words[5]: write_code(separate(some_code(joined, int(words[3]) + int(words[4]))))}
 
 
-def is_of_library(step: caseform.Step) -> bool:
-    """Whether a run is one of a node or a sink whose files and paths are good."""
-    return step.words[:1] in ([b"relay"], [b"sink"]) and step.status[1] in OF_LIBRARY and len(step.words) == 6
+COMMANDS = {b"relay": relay, b"sink": sink, b"check": check}
+
+
+# The beginnings of runs of nodes and of sinks.
+NODES = ("run relay ", "run sink ", "run $form ")
+
+
+def is_of_library(step: caseform.Step, store: Store) -> bool:
+    """Whether a run is one of these commands whose files and paths are good. A code that is checked has to be a given one."""
+    if not step.words or step.words[0] not in COMMANDS or step.status[1] not in OF_LIBRARY:
+        return False
+    return step.words[0] != b"check" or step.words[1] in store.given
 
 
 def cases() -> list[caseform.Case]:
-    """All cases with such runs."""
+    """All cases with runs of nodes and sinks, and those that check codes which no run makes."""
     found = []
     for path in sorted(CASES.glob("*.cases")):
         for case in caseform.read_cases(path)[0]:
-            if any(line.text.startswith(("run relay ", "run sink ", "run $form ")) for line in case.body):
+            runs = [line.text for line in case.body if line.text.startswith("run ")]
+            if any(run.startswith(NODES) for run in runs) or all(run.startswith("run check ") for run in runs):
                 found.append(case)
     return found
 
@@ -256,7 +280,7 @@ def run_step(step: caseform.Step, store: Store, told: dict[bytes, bytes | None])
     """Makes a run by the library, compares it with what the case says, and gives the files."""
     made: Files = {}
     try:
-        said, made = {b"relay": relay, b"sink": sink}[step.words[0]](store.files, step.words[1:])
+        said, made = COMMANDS[step.words[0]](store.files, step.words[1:])
         status = DONE
     except Ended as ended:
         said, status = f"{ended.said}\n", ended.status
@@ -267,22 +291,31 @@ def run_step(step: caseform.Step, store: Store, told: dict[bytes, bytes | None])
     return made
 
 
-def go(case: caseform.Case, values: caseform.Values) -> None:
-    """Goes through a case once."""
-    store = Store(case)
+def go(case: caseform.Case, values: caseform.Values) -> int:
+    """Goes through a case once, and says how many runs the library made."""
+    runs = 0
+    store, has_nodes = Store(case), any(line.text.startswith(NODES) for line in case.body)
     for step in caseform.steps_of(case, values):
         store.before(step)
         told = store.after(step)
         made: Files = {}
-        if is_of_library(step):
+        if is_of_library(step, store):
             made = run_step(step, store, told)
-        elif step.words[:1] in ([b"compile"], [b"twin"]) and step.status[1] == DONE:
+            runs += 1
+        elif has_nodes and step.words[:1] in ([b"compile"], [b"twin"]) and step.status[1] == DONE:
             made = compiled(store.files, step.words)
         for path, content in told.items():
             store.files[path] = made.get(path, b"") if content is None else content
+            store.given.discard(path)
+    return runs
 
 
 @pytest.mark.parametrize("case", cases(), ids=lambda case: f"{case.path.stem}: {case.line.text}")
-def test_cases_of_nodes_and_sinks_hold_of_the_library(case: caseform.Case) -> None:
+def test_cases_hold_of_the_library(case: caseform.Case) -> None:
+    runs = [go(case, values) for values in caseform.goings(case)]
+    assert any(runs) or all(step.status[1] not in OF_LIBRARY for step in all_steps(case))
+
+
+def all_steps(case: caseform.Case) -> Iterator[caseform.Step]:
     for values in caseform.goings(case):
-        go(case, values)
+        yield from caseform.steps_of(case, values)
