@@ -954,8 +954,8 @@ measure_frames() {
 
 # Sets the library, and the level that it is built for. One that LIBLIF names, or that is older than a source, has no revision.
 find_library() {
-    library=${LIBLIF:-$top/crates/lif_c/out/liblif.a}
-    [ -f "$library" ] || fail "there is no $library; rt ci builds it, or LIBLIF names another one"
+    library=${LIBLIF:-$top/out/lib/liblif.a}
+    [ -f "$library" ] || fail "there is no $library; tools/liblif $top/out makes it, or LIBLIF names another one"
     level=x86-64-v2
     if objdump -d "$library" | grep -q %ymm; then level=x86-64-v3; fi
     if [ -n "${LIBLIF-}" ] || [ -n "$(find "$top"/crates/*/src -newer "$library" -print -quit)" ]; then revision=''; fi

@@ -12,9 +12,9 @@ code file: nodes, links, sinks and patterns count from 0, and pattern 0 is `none
 `OverflowError`. Bytes are taken from whatever has a buffer, without a copy. Threads may share an object: each call waits for
 the one before. What a process has opened isn't for its forked children.
 
-The declarations are those of the header, which LIF_H names, or else include/lif.h of the repository or of the system. The
-library is what LIBLIF names, liblif.a or a shared object, or else that of the repository or of the system. Of an archive a
-shared object is linked once, by `cc`, and kept in the user's cache.
+The library is what LIBLIF names, liblif.a or a shared object, or else the one that `tools/liblif out` makes, or that of the
+system. Of an archive a shared object is linked once, by `cc`, and kept in the user's cache. The declarations are those of the
+header, which LIF_H names, or else of the one that stands beside the library, or of the repository.
 """
 from __future__ import annotations
 
@@ -33,8 +33,8 @@ from typing import Any, BinaryIO, Callable, Iterator, Sequence, TypeVar, Union
 from lif_tools.formats import COUNT_BYTES, FRAME_BYTES, ROW_BYTES, capacity
 
 TOP = Path(__file__).resolve().parent.parent.parent
-HEADERS = (TOP / "include/lif.h", Path("/usr/include/lif.h"))
-FOLDERS = (TOP / "crates/lif_c/out", Path("/usr/lib/x86_64-linux-gnu"), Path("/usr/lib"))
+# Where a library may stand with its header.
+FOLDERS = (TOP / "out", Path("/usr/local"), Path("/usr"))
 # How many bytes a name may have.
 MOST_NAME = 32
 
@@ -147,13 +147,17 @@ def _loaded() -> tuple[Any, Any]:
 
     ffi = cffi.FFI()
     ffi.cdef(_declarations(header().read_text()))
-    names = ("liblif.so", "liblif.a")
-    return ffi, ffi.dlopen(str(_shared(_named_or_found("LIBLIF", [folder / name for folder in FOLDERS for name in names]))))
+    return ffi, ffi.dlopen(str(_shared(archive())))
+
+
+def archive() -> Path:
+    """The library, an archive or a shared object."""
+    return _named_or_found("LIBLIF", [folder / f"lib/liblif.{kind}" for folder in FOLDERS for kind in ("so", "a")])
 
 
 def header() -> Path:
     """The header of the library."""
-    return _named_or_found("LIF_H", HEADERS)
+    return _named_or_found("LIF_H", [archive().resolve().parent.parent / "include/lif.h", TOP / "include/lif.h"])
 
 
 def _named_or_found(variable: str, places: Sequence[Path]) -> Path:
@@ -164,7 +168,7 @@ def _named_or_found(variable: str, places: Sequence[Path]) -> Path:
     for place in places:
         if place.is_file():
             return place
-    raise FileNotFoundError(f"there is no {places[0].name}: set {variable} to its path")
+    raise FileNotFoundError(f"there is no {places[-1].name}: set {variable} to its path")
 
 
 def _declarations(text: str) -> str:
