@@ -1,0 +1,65 @@
+"""The example in C: nodes as processes, and each sink with the bytes of the source."""
+from __future__ import annotations
+
+import os
+import random
+import shutil
+from pathlib import Path
+
+import pytest
+
+from support import EXAMPLES, TOP, ended
+
+CODES = (EXAMPLES / "butterfly/butterfly.lif", TOP / "crates/worked_cases/data/wide-butterfly.lif")
+SINKS = ("t1", "t2")
+# A block of rate 2 has room for 2044 bytes, and a window for four blocks.
+SIZES = (0, 1, 2043, 2044, 2045, 4 * 2044 - 1, 4 * 2044, 100000)
+
+
+@pytest.fixture(scope="module")
+def butterfly(tmp_path_factory: pytest.TempPathFactory) -> Path:
+    """The example, as a program; a test that asks for it is skipped where there is no library or no compiler."""
+    library = os.environ.get("LIBLIF")
+    if library is None:
+        pytest.skip("there is no library: set LIBLIF to the path of liblif.a")
+    if shutil.which("cc") is None:
+        pytest.skip("there is no cc")
+    made = tmp_path_factory.mktemp("c") / "butterfly"
+    checks = ("-std=c11", "-Wall", "-Wextra", "-pedantic", "-Werror", "-fsanitize=address,undefined")
+    done = ended(["cc", *checks, f"-I{TOP}/include", EXAMPLES / "c/butterfly.c", library, "-o", made])
+    assert (done.returncode, done.stderr) == (0, "")
+    return made
+
+
+@pytest.mark.parametrize("code", CODES, ids=("field-8", "field-16"))
+@pytest.mark.parametrize("size", SIZES)
+def test_each_sink_gets_the_source(butterfly: Path, code: Path, size: int, tmp_path: Path) -> None:
+    source, given = tmp_path / "src", random.Random(size).randbytes(size)
+    source.write_bytes(given)
+    for seed in (0, 1, 2**64 - 1):
+        done = ended([butterfly, code, source, tmp_path / "out", seed], timeout=60)
+        assert (done.returncode, done.stderr) == (0, "")
+        for sink in SINKS:
+            assert (tmp_path / f"out.{sink}").read_bytes() == given
+
+
+def test_a_file_that_is_no_code_is_refused(butterfly: Path, tmp_path: Path) -> None:
+    done = ended([butterfly, EXAMPLES / "butterfly/butterfly.net", os.devnull, tmp_path / "out", 1])
+    assert (done.returncode, done.stderr) == (1, "butterfly: the bytes aren't a code file\n")
+
+
+def test_a_source_that_is_not_there_is_named(butterfly: Path, tmp_path: Path) -> None:
+    done = ended([butterfly, CODES[0], tmp_path / "none", tmp_path / "out", 1], timeout=60)
+    assert done.returncode == 1
+    assert f"butterfly: {tmp_path}/none\n" in done.stderr
+
+
+def test_the_header_is_cpp(butterfly: Path, tmp_path: Path) -> None:
+    if shutil.which("c++") is None:
+        pytest.skip("there is no c++")
+    uses = tmp_path / "uses.cc"
+    uses.write_text('#include <lif.h>\nint main() { lif_code code{}; return lif_code_close(&code) == LIF_CLOSED ? 0 : 1; }\n')
+    made = tmp_path / "uses"
+    checks = ("-std=c++11", "-Wall", "-Wextra", "-pedantic", "-Werror")
+    assert ended(["c++", *checks, f"-I{TOP}/include", uses, os.environ["LIBLIF"], "-o", made]).stderr == ""
+    assert ended([made]).returncode == 0
