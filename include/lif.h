@@ -13,9 +13,9 @@
 // - Handles. All bytes zero are a closed handle: `lif_code code = {0};`. A program clears a handle before its first use, and
 //   from then on neither writes nor copies it; only the library does. A handle that is open is closed by the close call of its
 //   kind, which gives its memory back, before the handle is dropped. The handles of one call are different objects.
-// - Pointers. None is null, also where a length is 0. Each points to what its type says, and bytes to at least as many as the
-//   length beside it. What a call writes overlaps nothing else that the call is given. Nothing is kept behind a pointer once
-//   the call returns.
+// - Pointers. None is null, also where a length is 0. Each points to what its type says, a bool that is to be written to true or
+//   false, and bytes to at least as many as the length beside it. What a call writes overlaps nothing else that the call is
+//   given. No pointer is kept once the call returns.
 // - Threads. One thread at a time uses a handle, also where a call only reads it. It may be another thread each time, with an
 //   order between the calls, as a lock gives. Handles of one code share nothing: each may be used by a thread of its own.
 // - Signals and forks. No call is made in a signal handler, or in the forked child of a process that had several threads.

@@ -105,7 +105,7 @@ static void shuffle(frame *frames, size_t count, uint64_t *random) {
 }
 
 static void take(frame *frames, size_t count) {
-    bool is_new;
+    bool is_new = false;
     for (size_t place = 0; place < count; place++) {
         must(lif_node_accept(&node, frames[place], LIF_FRAME, &is_new));
         uint32_t status = received ? lif_sink_accept(&sink, frames[place], LIF_FRAME, &is_new) : LIF_OK;

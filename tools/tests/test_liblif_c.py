@@ -3,6 +3,7 @@ from __future__ import annotations
 
 import os
 import random
+import re
 import shutil
 from pathlib import Path
 
@@ -12,6 +13,7 @@ from support import EXAMPLES, TOP, ended
 
 CODES = (EXAMPLES / "butterfly/butterfly.lif", TOP / "crates/worked_cases/data/wide-butterfly.lif")
 SINKS = ("t1", "t2")
+CHECKS = ("-std=c11", "-Wall", "-Wextra", "-pedantic", "-Werror", "-fsanitize=address,undefined")
 # A block of rate 2 has room for 2044 bytes, and a window for four blocks.
 SIZES = (0, 1, 2043, 2044, 2045, 4 * 2044 - 1, 4 * 2044, 100000)
 
@@ -25,8 +27,7 @@ def butterfly(tmp_path_factory: pytest.TempPathFactory) -> Path:
     if shutil.which("cc") is None:
         pytest.skip("there is no cc")
     made = tmp_path_factory.mktemp("c") / "butterfly"
-    checks = ("-std=c11", "-Wall", "-Wextra", "-pedantic", "-Werror", "-fsanitize=address,undefined")
-    done = ended(["cc", *checks, f"-I{TOP}/include", EXAMPLES / "c/butterfly.c", library, "-o", made])
+    done = ended(["cc", *CHECKS, f"-I{TOP}/include", EXAMPLES / "c/butterfly.c", library, "-o", made])
     assert (done.returncode, done.stderr) == (0, "")
     return made
 
@@ -63,3 +64,13 @@ def test_the_header_is_cpp(butterfly: Path, tmp_path: Path) -> None:
     checks = ("-std=c++11", "-Wall", "-Wextra", "-pedantic", "-Werror")
     assert ended(["c++", *checks, f"-I{TOP}/include", uses, os.environ["LIBLIF"], "-o", made]).stderr == ""
     assert ended([made]).returncode == 0
+
+
+def test_the_program_of_the_page(butterfly: Path, tmp_path: Path) -> None:
+    """The first program of docs/C.md, by its words."""
+    (program,) = re.findall(r"^```c\n(.*?)^```$", (TOP / "docs/C.md").read_text(), re.MULTILINE | re.DOTALL)
+    uses, made = tmp_path / "first.c", tmp_path / "first"
+    uses.write_text(program)
+    assert ended(["cc", *CHECKS, f"-I{TOP}/include", uses, os.environ["LIBLIF"], "-o", made]).stderr == ""
+    done = ended([made], cwd=TOP)
+    assert (done.returncode, done.stdout, done.stderr) == (0, "hello\n", "")
