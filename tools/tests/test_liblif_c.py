@@ -74,3 +74,25 @@ def test_the_program_of_the_page(butterfly: Path, tmp_path: Path) -> None:
     assert ended(["cc", *CHECKS, f"-I{TOP}/include", uses, os.environ["LIBLIF"], "-o", made]).stderr == ""
     done = ended([made], cwd=TOP)
     assert (done.returncode, done.stdout, done.stderr) == (0, "hello\n", "")
+
+
+def test_the_library_has_the_calls_of_the_header(butterfly: Path, tmp_path: Path) -> None:
+    calls = re.findall(r"^uint32_t (lif_\w+)\(", (TOP / "include/lif.h").read_text(), re.MULTILINE)
+    lines = ended(["nm", os.environ["LIBLIF"]]).stdout.splitlines()
+    assert sorted(line.split()[-1] for line in lines if re.search(" [A-TV-Z] ", line)) == sorted(calls)
+
+
+def test_no_library_is_made_without_the_archive_of_the_crate(tmp_path: Path) -> None:
+    done = ended([TOP / "tools/liblif", tmp_path / "made", "--crate", tmp_path / "none", "--kit-archive", tmp_path / "none"])
+    said = f"{TOP}/tools/liblif: there is no {tmp_path}/none: `rt ci` makes it, or `rt lib` in crates/lif_c\n"
+    assert (done.returncode, done.stdout, done.stderr) == (1, "", said)
+    assert not (tmp_path / "made").exists()
+
+
+def test_names_of_errors_are_those_of_the_sources() -> None:
+    """What the header says in words, and by what names, is what the crates say."""
+    says, items = re.findall(r"\[\] = \{(.*?)\};", (TOP / "include/lif.h").read_text(), re.DOTALL)
+    words = re.findall(r"#\[error\(\"(.*?)\"\)\]", (TOP / "crates/open_nodes/src/call_error.rt").read_text())
+    assert re.findall(r'"(.*?)"', says)[1:15] == words
+    names = re.findall(r'CodeRefusal::\w+(?: \{ \.\. \})? => "(\w+)"', (TOP / "crates/code_items/src/refusal.rt").read_text())
+    assert re.findall(r'"(\w*)"', items) == ["", *(name for name in names if name != "OutOfMemory")]
