@@ -20,6 +20,8 @@ HERE = Path(__file__).resolve().parent
 TOP = HERE.parent
 TOOLS = TOP / "tools"
 ARCHITECTURE = "amd64"
+# Where Debian has libraries of the architecture.
+MULTIARCH = "lib/x86_64-linux-gnu"
 LEVELS = ("x86-64-v2", "x86-64-v3")
 
 # The programs that were proved and are older than none of their sources, each behind its level.
@@ -209,8 +211,10 @@ class Making:
     def fill_library(self, usr: Path, made: Path) -> None:
         """Puts all files of the library's package below a folder: those that tools/liblif made, and the pages on them."""
         doc = usr / "share/doc/liblif-dev"
-        for name in ("include/lif.h", "lib/liblif.a", "lib/pkgconfig/lif.pc"):
-            copy(made / name, usr / name)
+        copy(made / "include/lif.h", usr / "include/lif.h")
+        copy(made / "lib/liblif.a", usr / MULTIARCH / "liblif.a")
+        config = (made / "lib/pkgconfig/lif.pc").read_text()
+        put(usr / MULTIARCH / "pkgconfig/lif.pc", config.replace("prefix=${pcfiledir}/../..\n", "prefix=${pcfiledir}/../../..\n"))
         examples = ("examples/c", "examples/butterfly/butterfly.lif", "examples/one-link/one.lif")
         for name in said("git", "ls-files", "docs/C.md", "docs/FORMATS.md", *examples).splitlines():
             copy(TOP / name, doc / name)
