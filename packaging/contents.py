@@ -140,7 +140,7 @@ def standing_archive() -> Path:
         names = ["crates.txt", *said("git", "ls-files", *before).splitlines()]
         if all((TOP / name).stat().st_mtime <= path.stat().st_mtime for name in names if "/must-fail/" not in name):
             return path
-    raise Refused("no archive of the library stands that is proved and of the sources as they are: `rt ci` makes one")
+    raise Refused("no archive of the library stands that is proved and of the sources as they are: `rt lib` in crates/lif_c makes one")
 
 
 def sources_sum() -> str:

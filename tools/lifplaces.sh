@@ -19,7 +19,7 @@ kept_level=$kept_gate-$level
 # Whether a program is there, and older than none of its sources: those of the crates that crates.txt has up to the program.
 is_current() {
     [ -x "$1" ] && [ -z "$(
-        cd -- "$top" && find crates.txt $(awk -F : '/^[a-z]/ { print "crates/" $1 } /^lif_cli/ { exit }' crates.txt) \
+        cd -- "$top" && find crates.txt $(awk -F : '/^[a-z]/ && $1 !~ / staticlib$/ { print "crates/" $1 } /^lif_cli/ { exit }' crates.txt) \
             -type d \( -name out -o -name must-fail \) -prune -o -type f -newer "$1" -print
     )" ]
 }
