@@ -191,6 +191,7 @@ build() {
         codes) cc -O2 -o "$folder/codes" "$top/bench/codes.c" ;;
         c-rows) cc -O2 -o "$folder/c-rows" "$top/bench/rows.c" -lisal ;;
         c-frames) cc -O3 -march="$own_level" -o "$folder/c-frames" "$top/bench/frames.c" -lisal ;;
+        c-library) cc -O3 -march="$own_level" -I"$top/include" -o "$folder/c-library" "$top/bench/library.c" "$library" ;;
         c-blind) cc -O3 -march="$own_level" -o "$folder/c-blind" "$top/bench/blind.c" -lisal ;;
         c-nodes) cc -O3 -o "$folder/c-nodes" "$top/bench/nodes.c" -lisal ;;
         c-send) cc -O3 -o "$folder/c-send" "$top/bench/send_frames.c" -lisal ;;
@@ -926,15 +927,15 @@ run_frames() {
     frame_count[$name]="$count $sum"
 }
 
-# Feeds a node or a sink by the program and by C in turn, and compares what they counted. The program takes the first two
-# words after the title, C the next two, and then come how many rounds there are and the words of bench/codes.c.
+# Feeds a node or a sink by a program and by C in turn, and compares what they counted. The program takes the two words after its
+# name, C the next two, and then come how many rounds there are and the words of bench/codes.c.
 feed() {
-    local title=$1 kind=$2 number=$3 name=$4 size=$5 rounds=$6 round
-    shift 6
+    local title=$1 feeder=$2 kind=$3 number=$4 name=$5 size=$6 rounds=$7 round
+    shift 7
     "$folder/codes" "$@" >"$files/code"
     frame_time=()
     for ((round = 0; round < frame_rounds; round++)); do
-        run_frames lif "$folder/rattle-frames" "$kind" "$number" "$rounds"
+        run_frames lif "$folder/$feeder" "$kind" "$number" "$rounds"
         run_frames isal "$folder/c-frames" "$name" "$size" "$rounds"
         [ "${frame_count[lif]}" = "${frame_count[isal]}" ] || fail "$title and C with ISA-L give different frames"
     done
@@ -945,9 +946,28 @@ measure_frames() {
     local outs
     build codes c-frames
     for outs in 2 16 1024; do
-        feed "one node with $(commas "$outs") links out" 0 1 node "$outs" $((frames_each / (32 * outs))) node "$outs"
+        feed "one node with $(commas "$outs") links out" rattle-frames 0 1 node "$outs" $((frames_each / (32 * outs))) node "$outs"
     done
-    feed "one sink of rate 8" 1 0 sink 8 $((frames_each / 256)) fan 8 8 8 1 8 0
+    feed "one sink of rate 8" rattle-frames 1 0 sink 8 $((frames_each / 256)) fan 8 8 8 1 8 0
+    rm "$files/code"
+}
+
+# Sets the library, and the level that it is built for. One that LIBLIF names, or that is older than a source, has no revision.
+find_library() {
+    library=${LIBLIF:-$top/crates/lif_c/out/liblif.a}
+    [ -f "$library" ] || fail "there is no $library; rt ci builds it, or LIBLIF names another one"
+    level=x86-64-v2
+    if objdump -d "$library" | grep -q %ymm; then level=x86-64-v3; fi
+    if [ -n "${LIBLIF-}" ] || [ -n "$(find "$top"/crates/*/src -newer "$library" -print -quit)" ]; then revision=''; fi
+}
+
+measure_library() {
+    local outs
+    build codes c-frames c-library
+    for outs in 2 16 1024; do
+        feed "one node with $(commas "$outs") links out, by liblif" c-library node 1 node "$outs" $((frames_each / (32 * outs))) node "$outs"
+    done
+    feed "one sink of rate 8, by liblif" c-library sink 0 sink 8 $((frames_each / 256)) fan 8 8 8 1 8 0
     rm "$files/code"
 }
 

@@ -23,6 +23,7 @@ FLY = (EXAMPLES / "butterfly/butterfly.lif").read_bytes()
 
 sys.path.insert(0, str(TOOLS))
 
+from lif_tools import liblif  # noqa: E402
 from lif_tools.command import status_of  # noqa: E402
 from lif_tools.formats import Link, Network, Pattern, Refused  # noqa: E402
 
@@ -91,6 +92,15 @@ def find_proved() -> str | None:
     """The same, where it is proved, and so as fast and as small as it is meant to be."""
     is_proved = "LIF_PROGRAM" in os.environ or "proved" in version_lines()
     return find_program() if is_proved else None
+
+
+def has_liblif() -> bool:
+    """Whether liblif is there for Python."""
+    try:
+        liblif.library()
+    except (FileNotFoundError, ImportError):
+        return False
+    return True
 
 
 def network_of(

@@ -35,7 +35,7 @@ from lif_tools.formats import (
     whole_sinks,
     write_code,
 )
-from test_nodes import sum_of, times
+from traffic import sum_of, times
 
 DATA = TOP / "crates/worked_cases/data"
 FLY = read_code((EXAMPLES / "butterfly/butterfly.lif").read_bytes())

@@ -25,7 +25,7 @@ from lif_tools.formats import (
     separate,
     write_code,
 )
-from test_nodes import blocks_of, sum_of, times
+from traffic import blocks_of, sum_of, times
 from test_twin import code_by_hand, drawn
 
 DATA = TOP / "crates/worked_cases/data"
