@@ -15,8 +15,9 @@ from typing import Iterator
 
 import pytest
 
+from documents import check_commands
 from overlays import Overlay, until
-from support import EXAMPLES, has_liblif, run_tool
+from support import EXAMPLES, TOOLS, has_liblif, run_tool
 from lif_tools.formats import Code, finish, read_code, read_draft, write_code
 
 pytestmark = [
@@ -360,6 +361,17 @@ def test_status(fly: Overlay) -> None:
     (fly.folder / "counters/a").write_text("no counters\n")
     done = run_tool(*asked)
     assert (done.returncode, done.stderr) == (1, f"lif-node: {fly.folder}/counters/a: no counters of lif-node\n")
+
+
+def test_the_page_of_the_example(top: Path) -> None:
+    check_commands("examples/overlay/README.md", top)
+
+
+def test_every_name_of_counters_stands_on_the_page(fly: Overlay) -> None:
+    fly.start("c")
+    until(lambda: fly.counted("c") != {})
+    page = (TOOLS / "README.md").read_text()
+    assert {name for name in fly.counted("c") if f"`{name}`" not in page} == set()
 
 
 def test_ctrl_c_ends_quietly(fly: Overlay) -> None:
