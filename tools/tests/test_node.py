@@ -1,6 +1,7 @@
 """lif-node: overlays on the loopback that get all, whatever is killed and changed, or say what they lack."""
 from __future__ import annotations
 
+import contextlib
 import importlib.util
 import json
 import os
@@ -9,6 +10,7 @@ import re
 import shutil
 import signal
 import subprocess
+import threading
 import time
 from pathlib import Path
 from typing import Iterator
@@ -332,11 +334,20 @@ def memory(overlay: Overlay) -> dict[str, int]:
     return {name: int(re.findall(r"VmRSS:\s+(\d+)", text)[0]) for name, text in status.items()}
 
 
+def feed(source: subprocess.Popen[bytes]) -> None:
+    """Writes to a source until that ends."""
+    with contextlib.suppress(OSError):
+        while source.stdin is not None:
+            source.stdin.write(CHANCE.randbytes(100_000))
+            time.sleep(0.04)
+
+
 def test_memory_stays(fly: Overlay) -> None:
-    """A stream without an end: what each node holds doesn't grow."""
-    fly.start_all("--from", "/dev/zero", leave=("t1", "t2"))
+    """A stream without an end, of some megabytes a second: what each node holds doesn't grow."""
+    fly.start_all(leave=("s", "t1", "t2"))
     for sink in ("t1", "t2"):
         fly.start(sink, "--to", "-", stdout=subprocess.DEVNULL)
+    threading.Thread(target=feed, args=(fly.start("s", stdin=subprocess.PIPE),), daemon=True).start()
     until(lambda: int(fly.counted("t1").get("windows", 0)) > 500)
     time.sleep(WATCHED / 3)
     before, windows = memory(fly), fly.counted("t1")["windows"]
