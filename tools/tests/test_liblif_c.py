@@ -84,7 +84,7 @@ def test_the_library_has_the_calls_of_the_header(butterfly: Path, tmp_path: Path
 
 def test_no_library_is_made_without_the_archive_of_the_crate(tmp_path: Path) -> None:
     done = ended([TOP / "tools/liblif", tmp_path / "made", "--crate", tmp_path / "none", "--kit-archive", tmp_path / "none"])
-    said = f"{TOP}/tools/liblif: there is no {tmp_path}/none: `rt ci` makes it, or `rt lib` in crates/lif_c\n"
+    said = f"{TOP}/tools/liblif: there is no {tmp_path}/none: `rt lib` in crates/lif_c makes it\n"
     assert (done.returncode, done.stdout, done.stderr) == (1, "", said)
     assert not (tmp_path / "made").exists()
 
