@@ -5,15 +5,20 @@
           writes; the source has none in, since it reads the file that is sent
   sinks   each sink, for `lif sink`: the links that its decoder wants, which it reads
   host    with --places for each of these nodes and sinks where it is to run
+  overlay with --port or --addresses for `lif-node`: the address at which the head of each link listens, also of links
+          that are live under other patterns alone, the checksum of the code, and how many windows may wait on a link
 
 HOSTS is a text of lines `NODE HOST` and `* HOST`. A node without a line of its own gets a host of the latter, which
-are taken in turn where there are several. What follows a `#` is a comment.
+are taken in turn where there are several. What follows a `#` is a comment. ADDRESSES is a text of lines
+`LINK HOST:PORT`. With --port a link without such a line has the host of its head, by --places, or else 127.0.0.1, and the
+port N plus the link's number.
 
 The file is read and refused as by `lif check`, but whether its demands decode isn't looked at.
 """
 from __future__ import annotations
 
 import argparse
+import hashlib
 import itertools
 import re
 from dataclasses import dataclass
@@ -24,6 +29,9 @@ from lif_tools.formats import MOST_TEXT_BYTES, Code, live_links
 
 # For every node that has no line of its own.
 ANY = "*"
+# How many windows may wait on a link, where the words don't say.
+BOUND = 64
+MOST_PORT = 65535
 # A shell takes it as it is.
 HOST = re.compile(r"[A-Za-z0-9][A-Za-z0-9._-]*")
 
@@ -100,6 +108,61 @@ def place_fault(words: list[str], numbers: dict[str, int], own: dict[str, str]) 
     return f"node {words[0]} has a host already" if words[0] in own else None
 
 
+def overlay_of(code: Code) -> list[int]:
+    """The links that are live under some pattern."""
+    live = [live_links(code, pattern) for pattern in range(len(code.network.patterns))]
+    return [link for link in range(len(code.network.links)) if any(alive[link] for alive in live)]
+
+
+def read_addresses(path: str, plan: Plan) -> dict[int, str]:
+    """The addresses of links, by a text of them."""
+    numbers = {link.name: number for number, link in enumerate(plan.code.network.links)}
+    found: dict[int, str] = {}
+    for number, line in enumerate(read_bytes(path, MOST_TEXT_BYTES).decode(errors="backslashreplace").split("\n"), start=1):
+        words = line.split("#", 1)[0].split()
+        if not words:
+            continue
+        fault = address_fault(words, numbers, found)
+        if fault is not None:
+            raise ToolError(f"{path}: line {number}: {fault}")
+        found[numbers[words[0]]] = words[1]
+    return found
+
+
+def address_fault(words: list[str], numbers: dict[str, int], found: dict[int, str]) -> str | None:
+    """What is wrong with the words of a line on an address, if something is."""
+    if len(words) != 2:
+        return "not LINK HOST:PORT"
+    host, _, port = words[1].rpartition(":")
+    if not HOST.fullmatch(host) or not re.fullmatch("[0-9]{1,5}", port) or not 0 < int(port) <= MOST_PORT:
+        return f"no address: {words[1]}"
+    if words[0] not in numbers:
+        return f"unknown link: {words[0]}; there are {listed(list(numbers))}"
+    return f"link {words[0]} has an address already" if numbers[words[0]] in found else None
+
+
+def addresses_of(words: argparse.Namespace, plan: Plan, hosts: dict[int, str]) -> dict[int, str]:
+    """The address of each link that is live under some pattern, and each at most once."""
+    links = plan.code.network.links
+    own = read_addresses(words.addresses, plan) if words.addresses else {}
+    found: dict[int, str] = {}
+    for link in overlay_of(plan.code):
+        if link in own:
+            found[link] = own[link]
+        elif words.port is None:
+            raise ToolError(f"{words.addresses}: no address for {links[link].name}")
+        elif words.port + link > MOST_PORT:
+            raise ToolError(f"{words.code}: no port is left for {links[link].name}")
+        else:
+            found[link] = f"{hosts.get(links[link].head, '127.0.0.1')}:{words.port + link}"
+    by_address = {address: link for link, address in found.items()}
+    for link, address in found.items():
+        if by_address[address] != link:
+            names = f"{links[link].name} and {links[by_address[address]].name}"
+            raise ToolError(f"{words.addresses or words.code}: {names} have the same address: {address}")
+    return found
+
+
 def facts_of(plan: Plan, path: str, hosts: dict[int, str]) -> dict[str, object]:
     """The plan, for JSON."""
     network = plan.code.network
@@ -130,12 +193,30 @@ def facts_of(plan: Plan, path: str, hosts: dict[int, str]) -> dict[str, object]:
     }
 
 
+def overlay_facts(words: argparse.Namespace, plan: Plan, hosts: dict[int, str]) -> dict[str, object]:
+    """What `lif-node` needs besides, for JSON."""
+    addresses = addresses_of(words, plan, hosts)
+    names = plan.code.network.links
+    checksum = hashlib.sha256(read_bytes(words.code)).hexdigest()
+    return {"sum": checksum, "bound": words.bound, "addresses": {names[link].name: each for link, each in addresses.items()}}
+
+
+def count(text: str) -> int:
+    """A number from 1 on."""
+    if not re.fullmatch("[1-9][0-9]{0,6}", text):
+        raise argparse.ArgumentTypeError(f"no number from 1 on: {text}")
+    return int(text)
+
+
 def words_of(arguments: Sequence[str]) -> argparse.Namespace:
     parser = words_parser("lif-plan", __doc__)
     add = parser.add_argument
     add("code", metavar="CODE", help="a code file")
     add("--pattern", metavar="P", default="none", help="the pattern of failed links, else none")
     add("--places", metavar="HOSTS", help="a text that says where each node is to run")
+    add("--port", metavar="N", type=count, help="addresses for `lif-node`, of the ports from N on")
+    add("--addresses", metavar="ADDRESSES", help="a text that says at which address the head of each link listens")
+    add("--bound", metavar="N", type=count, default=BOUND, help=f"how many windows may wait on a link, else {BOUND}")
     return parser.parse_args(arguments)
 
 
@@ -143,4 +224,8 @@ def main(arguments: Sequence[str]) -> None:
     words = words_of(arguments)
     code = load_code(words.code)
     plan = plan_of(words.code, code, pattern_number(words.code, code.network, words.pattern))
-    print_json("lif-plan", facts_of(plan, words.code, read_places(words.places, plan) if words.places else {}))
+    hosts = read_places(words.places, plan) if words.places else {}
+    facts = facts_of(plan, words.code, hosts)
+    if words.port is not None or words.addresses:
+        facts["overlay"] = overlay_facts(words, plan, hosts)
+    print_json("lif-plan", facts)

@@ -1,0 +1,272 @@
+"""The links of a node of an overlay, over ZeroMQ: messages, what waits to be acknowledged, and what came.
+
+The head of a link listens, and its tail connects. Down the link go the state of the stream, which is repeated at each
+connection, and windows: all frames that the link carries of one. Up the link goes the number of the first window that isn't
+done at the head and behind it, and the number of one that came changed, to have it again. The tail keeps each window until
+it is done, and sends all that it keeps at each connection.
+"""
+from __future__ import annotations
+
+import json
+import socket
+import struct
+import zlib
+from collections import deque
+from dataclasses import dataclass
+from typing import Any, Callable
+
+from lif_tools.common import ToolError, module, notice
+from lif_tools.formats import FRAME_BYTES, PIECES
+
+# What a message begins with.
+STATE, WINDOW, DONE, AGAIN = b"S", b"W", b"D", b"A"
+# Marks of a window: a segment begins with it; the link can't bring it.
+BEGINS, LOST = 1, 2
+# Window, link, pattern, generations, marks, checksum of all but itself.
+HEAD = struct.Struct(">QIIBBI")
+NUMBER = struct.Struct(">Q")
+# How often a window that came changed is asked for again.
+TRIES = 3
+# Milliseconds until a peer that says nothing is taken as gone, and in which the last words may still go.
+GONE, LAST = 5000, 2000
+
+
+@dataclass(frozen=True)
+class Stamp:
+    """What the source says of a window: it is the same on all links."""
+
+    window: int
+    pattern: int
+    count: int
+    begins: bool
+
+
+@dataclass(frozen=True)
+class Message:
+    """A window on a link: its frames, or none where the link can't bring it."""
+
+    stamp: Stamp
+    frames: memoryview
+    lost: bool
+
+
+def packed(stamp: Stamp, link: int, frames: bytes | None) -> bytes:
+    """The message of a window on a link."""
+    marks = BEGINS * stamp.begins | LOST * (frames is None)
+    head = HEAD.pack(stamp.window, link, stamp.pattern, stamp.count, marks, 0)[:-4]
+    content = frames or b""
+    return b"".join((WINDOW, head, zlib.crc32(content, zlib.crc32(head)).to_bytes(4, "big"), content))
+
+
+def unpacked(message: bytes, link: int) -> Message | None:
+    """The window of a message on a link; nothing where it was changed on its way."""
+    if len(message) < 1 + HEAD.size:
+        return None
+    window, number, pattern, count, marks, checksum = HEAD.unpack_from(message, 1)
+    frames = memoryview(message)[1 + HEAD.size :]
+    if zlib.crc32(frames, zlib.crc32(message[1 : HEAD.size - 3])) != checksum or number != link or not 1 <= count <= 4:
+        return None
+    lost = bool(marks & LOST)
+    if len(frames) != (0 if lost else count * PIECES * FRAME_BYTES):
+        return None
+    return Message(Stamp(window, pattern, count, bool(marks & BEGINS)), frames, lost)
+
+
+class Wire:
+    """What both ends of a link have: its number, name and address, a socket, and counts."""
+
+    def __init__(self, number: int, name: str, address: str, bound: int, kind: str):
+        zmq: Any = module("zmq", "python3-zmq")
+        self.zmq, self.number, self.name, self.address, self.bound = zmq, number, name, address, bound
+        self.bytes, self.refused = 0, 0
+        self.socket: Any = zmq.Context.instance().socket(getattr(zmq, kind))
+        # A window that is asked for again goes beside those that wait, and states beside both.
+        for option, value in (("SNDHWM", 2 * bound + 8), ("RCVHWM", 2 * bound + 8), ("LINGER", LAST)):
+            self.socket.setsockopt(getattr(zmq, option), value)
+        for option, value in (("HEARTBEAT_IVL", GONE // 5), ("HEARTBEAT_TIMEOUT", GONE), ("RECONNECT_IVL_MAX", 1000)):
+            self.socket.setsockopt(getattr(zmq, option), value)
+
+    def received(self) -> list[bytes] | None:
+        """The parts of a message, if one has come."""
+        try:
+            parts: list[bytes] = self.socket.recv_multipart(self.zmq.NOBLOCK)
+        except self.zmq.Again:
+            return None
+        self.bytes += sum(map(len, parts))
+        return parts
+
+    def close(self) -> None:
+        self.socket.close()
+
+
+class Incoming(Wire):
+    """The head of a link. `came` has the windows that wait to be worked on, and `first` is the first one that the tail has yet
+    to have done."""
+
+    def __init__(self, number: int, name: str, address: str, bound: int, on_state: Callable[[Incoming, dict[str, Any]], None]):
+        super().__init__(number, name, address, bound, "ROUTER")
+        self.came: dict[int, Message] = {}
+        self.first, self.said = 0, 0
+        self.peer: bytes | None = None
+        self.asked: dict[int, int] = {}
+        # Whether a message came changed of which it isn't known what it was.
+        self.doubts = False
+        self.on_state = on_state
+        host, port = address.rsplit(":", 1)
+        try:
+            self.socket.bind(f"tcp://{socket.gethostbyname(host)}:{port}")
+        except (OSError, self.zmq.ZMQError) as error:
+            raise ToolError(f"link {name}: can't listen at {address}: {error.strerror or error}") from None
+
+    def receive(self, following: int) -> bool:
+        """Takes in what has come; windows before the following one are known. Whether something was new."""
+        is_new = False
+        for _ in range(self.bound):
+            parts = self.received()
+            if parts is None:
+                break
+            is_new |= len(parts) == 2 and self.take(parts[0], parts[1], following)
+        return is_new
+
+    def take(self, peer: bytes, content: bytes, following: int) -> bool:
+        if content[:1] == STATE:
+            return self.take_state(peer, content)
+        message = unpacked(content, self.number) if content[:1] == WINDOW else None
+        if message is None:
+            return self.refuse(content, following)
+        window = message.stamp.window
+        if peer != self.peer or window < following or window in self.came or len(self.came) >= 2 * self.bound:
+            return False
+        self.asked.pop(window, None)
+        self.came[window] = message
+        return True
+
+    def take_state(self, peer: bytes, content: bytes) -> bool:
+        try:
+            state = json.loads(content[1:])
+            self.first = max(self.first, int(state["first"]))
+            self.on_state(self, state)
+        except (ValueError, KeyError, TypeError):
+            return self.refuse(content, 0)
+        self.peer, self.said = peer, 0
+        return True
+
+    def refuse(self, content: bytes, following: int) -> bool:
+        """Counts a message that was changed. Its window is asked for again where it still says which one it is, and else as soon
+        as it is missed."""
+        self.refused += 1
+        window = NUMBER.unpack_from(content, 1)[0] if content[:1] == WINDOW and len(content) > HEAD.size else -1
+        if following <= window < following + 2 * self.bound:
+            notice(f"link {self.name}: window {window} was changed on its way")
+            self.ask(window)
+        else:
+            notice(f"link {self.name}: a message of {len(content)} bytes was changed on its way")
+            self.doubts = True
+        return False
+
+    def ask(self, window: int) -> None:
+        """Asks for a window again."""
+        self.asked = {each: times for each, times in self.asked.items() if each > window - 2 * self.bound}
+        self.asked[window] = self.asked.get(window, 0) + 1
+        self.up(AGAIN, window)
+
+    def given_up(self, window: int) -> bool:
+        """Whether a window came changed too often."""
+        return self.asked.get(window, 0) > TRIES
+
+    def up(self, kind: bytes, number: int) -> None:
+        if self.peer is not None:
+            try:
+                self.socket.send_multipart([self.peer, kind + NUMBER.pack(number)], self.zmq.NOBLOCK)
+            except self.zmq.ZMQError:
+                self.said = 0
+
+    def done(self, number: int) -> None:
+        """Says up the link which window is the first that isn't done, where it wasn't said yet."""
+        if number + 1 != self.said and self.peer is not None:
+            self.said = number + 1
+            self.up(DONE, number)
+
+
+class Outgoing(Wire):
+    """The tail of a link. `kept` has the messages of windows that aren't done, in order, and `unsent` which of them wait."""
+
+    def __init__(self, number: int, name: str, address: str, bound: int, state: Callable[[Outgoing], dict[str, Any]]):
+        super().__init__(number, name, address, bound, "DEALER")
+        self.kept: dict[int, bytes] = {}
+        self.unsent: deque[int] = deque()
+        self.state, self.is_told, self.is_connected = state, False, False
+        # How far the head said that it is; nothing before it was heard.
+        self.head_done: int | None = None
+        self.socket.setsockopt(self.zmq.IMMEDIATE, 1)
+        self.monitor: Any = self.socket.get_monitor_socket(self.zmq.EVENT_HANDSHAKE_SUCCEEDED | self.zmq.EVENT_DISCONNECTED)
+        self.socket.connect(f"tcp://{address}")
+
+    def has_room(self) -> bool:
+        return len(self.kept) < self.bound
+
+    def first(self, following: int) -> int:
+        """The first window that isn't done, where the following one is yet to come."""
+        return next(iter(self.kept), following)
+
+    def put(self, stamp: Stamp, frames: bytes | None) -> None:
+        """Keeps a window, and sends it as soon as it can."""
+        if stamp.window >= (self.head_done or 0):
+            self.kept[stamp.window] = packed(stamp, self.number, frames)
+            self.unsent.append(stamp.window)
+
+    def waits(self) -> bool:
+        """Whether something is to be sent."""
+        return self.is_connected and (bool(self.unsent) or not self.is_told)
+
+    def flush(self) -> None:
+        """Sends what the socket takes: the state first, where it changed."""
+        try:
+            if self.waits() and not self.is_told:
+                self.socket.send(STATE + json.dumps(self.state(self)).encode(), self.zmq.NOBLOCK)
+                self.is_told = True
+            while self.waits():
+                message = self.kept.get(self.unsent[0])
+                if message is not None:
+                    self.socket.send(message, self.zmq.NOBLOCK)
+                    self.bytes += len(message)
+                self.unsent.popleft()
+        except self.zmq.Again:
+            pass
+
+    def watch(self) -> None:
+        """Looks at connections that came and went."""
+        from zmq.utils.monitor import recv_monitor_message
+
+        while self.monitor.poll(0):
+            event = recv_monitor_message(self.monitor)["event"]
+            self.is_connected = event == self.zmq.EVENT_HANDSHAKE_SUCCEEDED
+            if self.is_connected:
+                self.is_told, self.unsent = False, deque(self.kept)
+
+    def receive(self) -> bool:
+        """Takes in what the head said. Whether something was new."""
+        is_new = False
+        while (parts := self.received()) is not None:
+            content = parts[-1]
+            if len(content) != 1 + NUMBER.size:
+                continue
+            number = NUMBER.unpack_from(content, 1)[0]
+            if content[:1] == DONE:
+                is_new |= self.is_done(number)
+            elif content[:1] == AGAIN and number in self.kept:
+                self.unsent.append(number)
+        return is_new
+
+    def is_done(self, number: int) -> bool:
+        if self.head_done is not None and number <= self.head_done:
+            return False
+        self.head_done = number
+        while self.kept and self.first(0) < number:
+            del self.kept[self.first(0)]
+        return True
+
+    def close(self) -> None:
+        self.socket.disable_monitor()
+        self.monitor.close(0)
+        super().close()
