@@ -401,6 +401,17 @@ class _Opened(_Handle):
         """Takes in a frame that came; whether its piece hadn't come before."""
         return bool(self._told(self._accept, self._flag, *_bytes(self._ffi, frame)))
 
+    def accept_each(self, frames: Buffer) -> list[LifError]:
+        """Takes in frames that stand one behind another, each as `accept` does; why some were refused."""
+        refused: list[LifError] = []
+        with self._lock:
+            (start, length), accept, handle, flag = _bytes(self._ffi, frames), self._accept, self._handle, self._flag
+            for at in range(0, length, FRAME_BYTES):
+                status = accept(handle, start + at, min(FRAME_BYTES, length - at), flag)
+                if status:
+                    refused.append(LifError(Status(status)))
+        return refused
+
 
 class Node(_Opened):
     """A node of a code under a pattern, each by its number or its name, before any generation."""
@@ -440,6 +451,17 @@ class Node(_Opened):
                 return None
             _see(status)
             return bytes(self._ffi.buffer(self._frame))
+
+    def due(self, most: int) -> bytes:
+        """So many frames that are due, or all where they are fewer, one behind another."""
+        with self._lock:
+            room = self._ffi.new("uint8_t[]", max(most, 1) * FRAME_BYTES)
+            status, following, handle, count = 0, self._lib.lif_node_next, self._handle, 0
+            while count < most and (status := following(handle, room + count * FRAME_BYTES, FRAME_BYTES)) == 0:
+                count += 1
+            if status != Status.NOTHING_DUE:
+                _see(status)
+            return bytes(self._ffi.buffer(room, count * FRAME_BYTES))
 
     def frames(self) -> Iterator[bytes]:
         """All frames that are due."""

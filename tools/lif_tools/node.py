@@ -133,6 +133,15 @@ class Running:
             worker.into[link] = Incoming(link, network.links[link].name, overlay.addresses[link], overlay.bound, worker.on_state)
         for link in overlay.numbers(number, "tail"):
             worker.out[link] = Outgoing(link, network.links[link].name, overlay.addresses[link], overlay.bound, worker.state)
+        self.zmq: Any = module("zmq", "python3-zmq")
+        self.poller: Any = self.zmq.Poller()
+        self.polled: dict[Outgoing, int] = {}
+        for incoming in worker.into.values():
+            self.poller.register(incoming.socket, self.zmq.POLLIN)
+        for outgoing in worker.out.values():
+            for socket in (outgoing.socket, outgoing.monitor):
+                self.poller.register(socket, self.zmq.POLLIN)
+            self.polled[outgoing] = self.zmq.POLLIN
         self.counters = Counters(words.counters, words.node)
         self.control = Control(words.control, [pattern.name for pattern in network.patterns])
 
@@ -163,13 +172,12 @@ class Running:
 
     def run(self) -> bool:
         """Carries the stream until it ends. Whether a sink here got all of it."""
-        zmq: Any = module("zmq", "python3-zmq")
-        worker, left, parted = self.worker, False, None
+        worker, left, parted, worked = self.worker, False, None, True
         while not left:
-            worked = self.receive()
+            self.receive(0 if worked else self.rest())
             told = self.control.pattern() if worker.giver is not None else None
             worker.pattern = worker.pattern if told is None else told
-            until = time.monotonic() + 0.05
+            worked, until = False, time.monotonic() + 0.05
             while worker.step():
                 worked = True
                 self.flush()
@@ -181,46 +189,51 @@ class Running:
             if worker.at_end() and worker.done() >= worker.following:
                 parted = parted or time.monotonic()
                 left = self.may_leave(time.monotonic() - parted)
-            if not worked and not left:
-                self.sleep(zmq)
         if worker.taker is not None:
             worker.taker.end()
         self.counters.say(worker, ended=True)
         for link in (*worker.into.values(), *worker.out.values()):
             link.close()
-        zmq.Context.instance().term()
+        self.zmq.Context.instance().term()
         return worker.taker is None or not worker.taker.failed
 
-    def receive(self) -> bool:
-        worked = False
+    def receive(self, rest: int) -> None:
+        """Takes in what has come, for which it waits so many milliseconds at most."""
+        for link, monitored in self.polled.items():
+            wanted = self.zmq.POLLIN | (self.zmq.POLLOUT if link.waits() else 0)
+            if monitored != wanted:
+                self.poller.modify(link.socket, wanted)
+                self.polled[link] = wanted
+        ready = {id(each) for each, _ in self.poller.poll(rest)}
         for incoming in self.worker.into.values():
-            worked |= incoming.receive(self.worker.following)
+            if id(incoming.socket) in ready:
+                incoming.receive(self.worker.following)
         for outgoing in self.worker.out.values():
-            outgoing.watch()
-            worked |= outgoing.receive()
-        return worked
+            if id(outgoing.monitor) in ready:
+                outgoing.watch()
+            if id(outgoing.socket) in ready:
+                outgoing.receive()
+
+    def rest(self) -> int:
+        """How many milliseconds it may wait: the source looks for more to send."""
+        worker = self.worker
+        return LOOK if worker.giver is not None and worker.waits_for is None and not worker.at_end() else SLEEP
 
     def flush(self) -> None:
         for link in self.worker.out.values():
             link.flush()
 
     def may_leave(self, waited: float) -> bool:
-        """Whether all heads know of the end; those of links that carry nothing are waited for a while."""
+        """Whether all heads know of the end, and all tails that they do. Tails, and heads of links that carry nothing, are
+        waited for a while."""
         worker = self.worker
         live = set(worker.open(worker.schedule.pattern(worker.following)).out)
-        lacking = [link.number for link in worker.out.values() if (link.head_done or 0) < worker.following or not link.is_told]
-        return not lacking or (not live & set(lacking) and waited > FAREWELL)
-
-    def sleep(self, zmq: Any) -> None:
-        """Waits until a socket has something."""
-        poller, worker = zmq.Poller(), self.worker
-        for incoming in worker.into.values():
-            poller.register(incoming.socket, zmq.POLLIN)
-        for outgoing in worker.out.values():
-            poller.register(outgoing.socket, zmq.POLLIN | (zmq.POLLOUT if outgoing.waits() else 0))
-            poller.register(outgoing.monitor, zmq.POLLIN)
-        looks = worker.giver is not None and worker.waits_for is None and not worker.at_end()
-        poller.poll(LOOK if looks else SLEEP)
+        for link in worker.out.values():
+            link.leaves = (link.head_done or 0) >= worker.following and link.is_told
+        self.flush()
+        deaf = {link.number for link in worker.out.values() if not link.has_left}
+        near = [link for link in worker.into.values() if not link.has_left]
+        return not deaf and not near or waited > FAREWELL and not deaf & live
 
 
 def words_of(arguments: Sequence[str]) -> argparse.Namespace:

@@ -1,7 +1,7 @@
 """The links of a node of an overlay, over ZeroMQ: messages, what waits to be acknowledged, and what came.
 
 The head of a link listens, and its tail connects. Down the link go the state of the stream, which is repeated at each
-connection, and windows: all frames that the link carries of one. Up the link goes the number of the first window that isn't
+connection, windows, which are all frames that the link carries of one, and at the end that the tail knows of it. Up the link goes the number of the first window that isn't
 done at the head and behind it, and the number of one that came changed, to have it again. The tail keeps each window until
 it is done, and sends all that it keeps at each connection.
 """
@@ -19,7 +19,7 @@ from lif_tools.common import ToolError, module, notice
 from lif_tools.formats import FRAME_BYTES, PIECES
 
 # What a message begins with.
-STATE, WINDOW, DONE, AGAIN = b"S", b"W", b"D", b"A"
+STATE, WINDOW, LEAVE, DONE, AGAIN = b"S", b"W", b"L", b"D", b"A"
 # Marks of a window: a segment begins with it; the link can't bring it.
 BEGINS, LOST = 1, 2
 # Window, link, pattern, generations, marks, checksum of all but itself.
@@ -106,7 +106,7 @@ class Incoming(Wire):
     def __init__(self, number: int, name: str, address: str, bound: int, on_state: Callable[[Incoming, dict[str, Any]], None]):
         super().__init__(number, name, address, bound, "ROUTER")
         self.came: dict[int, Message] = {}
-        self.first, self.said = 0, 0
+        self.first, self.said, self.has_left = 0, 0, False
         self.peer: bytes | None = None
         self.asked: dict[int, int] = {}
         # Whether a message came changed of which it isn't known what it was.
@@ -131,6 +131,9 @@ class Incoming(Wire):
     def take(self, peer: bytes, content: bytes, following: int) -> bool:
         if content[:1] == STATE:
             return self.take_state(peer, content)
+        if content == LEAVE:
+            self.has_left = True
+            return True
         message = unpacked(content, self.number) if content[:1] == WINDOW else None
         if message is None:
             return self.refuse(content, following)
@@ -198,6 +201,8 @@ class Outgoing(Wire):
         self.state, self.is_told, self.is_connected = state, False, False
         # How far the head said that it is; nothing before it was heard.
         self.head_done: int | None = None
+        # Whether the head is to be told that its last word came, and was.
+        self.leaves, self.has_left = False, False
         self.socket.setsockopt(self.zmq.IMMEDIATE, 1)
         self.monitor: Any = self.socket.get_monitor_socket(self.zmq.EVENT_HANDSHAKE_SUCCEEDED | self.zmq.EVENT_DISCONNECTED)
         self.socket.connect(f"tcp://{address}")
@@ -217,7 +222,7 @@ class Outgoing(Wire):
 
     def waits(self) -> bool:
         """Whether something is to be sent."""
-        return self.is_connected and (bool(self.unsent) or not self.is_told)
+        return self.is_connected and (bool(self.unsent) or not self.is_told or self.leaves > self.has_left)
 
     def flush(self) -> None:
         """Sends what the socket takes: the state first, where it changed."""
@@ -225,12 +230,15 @@ class Outgoing(Wire):
             if self.waits() and not self.is_told:
                 self.socket.send(STATE + json.dumps(self.state(self)).encode(), self.zmq.NOBLOCK)
                 self.is_told = True
-            while self.waits():
+            while self.is_connected and self.unsent:
                 message = self.kept.get(self.unsent[0])
                 if message is not None:
                     self.socket.send(message, self.zmq.NOBLOCK)
                     self.bytes += len(message)
                 self.unsent.popleft()
+            if self.is_connected and self.leaves > self.has_left:
+                self.socket.send(LEAVE, self.zmq.NOBLOCK)
+                self.has_left = True
         except self.zmq.Again:
             pass
 
@@ -238,11 +246,14 @@ class Outgoing(Wire):
         """Looks at connections that came and went."""
         from zmq.utils.monitor import recv_monitor_message
 
-        while self.monitor.poll(0):
-            event = recv_monitor_message(self.monitor)["event"]
+        while True:
+            try:
+                event = recv_monitor_message(self.monitor, self.zmq.NOBLOCK)["event"]
+            except self.zmq.Again:
+                return
             self.is_connected = event == self.zmq.EVENT_HANDSHAKE_SUCCEEDED
             if self.is_connected:
-                self.is_told, self.unsent = False, deque(self.kept)
+                self.is_told, self.has_left, self.unsent = False, False, deque(self.kept)
 
     def receive(self) -> bool:
         """Takes in what the head said. Whether something was new."""

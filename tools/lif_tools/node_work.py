@@ -8,7 +8,7 @@ from typing import Any, Protocol
 
 from lif_tools.common import ToolError, notice
 from lif_tools.formats import FRAME_BYTES, PIECES, Network
-from lif_tools.liblif import Code, LifError, Node, Sink, cut, frame_link
+from lif_tools.liblif import Code, Node, Sink, cut
 from lif_tools.node_links import Incoming, Message, Outgoing, Stamp
 
 # So many generations has a window, but for one that ends early.
@@ -255,24 +255,20 @@ class Worker:
     def accept(self, opened: Opened, number: int, frames: memoryview) -> None:
         """Gives the frames of a link to the node and to the sink."""
         link = self.into[number]
-        takers = [opened.node] if opened.node is not None else []
-        wants = opened.sink is not None and opened.sink.wants(number)
-        for at in range(0, len(frames), FRAME_BYTES):
-            frame = frames[at : at + FRAME_BYTES]
-            try:
-                for node in takers:
-                    node.accept(frame)
-                if wants and opened.sink is not None:
-                    opened.sink.accept(frame)
-            except LifError as refused:
-                link.refused += 1
-                notice(f"link {link.name}: a frame is refused: {refused}")
+        refused = opened.node.accept_each(frames) if opened.node is not None else []
+        if opened.sink is not None and opened.sink.wants(number):
+            refused = opened.sink.accept_each(frames)
+        link.refused += len(refused)
+        if refused:
+            notice(f"link {link.name}: {len(refused)} frames are refused: {refused[0]}")
 
     def give(self, opened: Opened, node: Node, stamp: Stamp) -> None:
         """Gives what is due to the links out."""
         due: dict[int, list[bytes]] = defaultdict(list)
-        for frame in node.frames():
-            due[frame_link(frame)].append(frame)
+        frames = node.due(len(opened.out) * stamp.count * PIECES)
+        for at in range(0, len(frames), FRAME_BYTES):
+            frame = frames[at : at + FRAME_BYTES]
+            due[int.from_bytes(frame[4:8], "big")].append(frame)
         for number in opened.out:
             whole = len(due[number]) == stamp.count * PIECES
             self.out[number].put(stamp, b"".join(due[number]) if whole else None)

@@ -35,6 +35,7 @@ MODULES = {
     "lif-estimate": "estimate",
     "lif-gain": "gain",
     "lif-import": "importing",
+    "lif-node": "node",
     "lif-plan": "plan",
 }
 
