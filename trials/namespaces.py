@@ -1,7 +1,7 @@
 """A network of lif made of network namespaces: one for each node, and for each link a pair of interfaces of limited rate.
 
-`trials/overlay` runs programs in it. A namespace has its process number in its name, so that those of a trial that was killed are
-known, and removed by the next one.
+`trials/overlay` runs programs in it. A namespace has the number of the trial's process in its name, so that those of a trial
+that was killed are known, and removed by the next one.
 """
 from __future__ import annotations
 
@@ -163,8 +163,11 @@ def signal_group(process: subprocess.Popen[bytes], number: int) -> None:
 
 
 def established(process: subprocess.Popen[bytes], port: int) -> int:
-    """How many connections stand at a port of the namespace of a process."""
-    lines = Path(f"/proc/{process.pid}/net/tcp").read_text().splitlines()[1:]
+    """How many connections stand at a port of the namespace of a process; none where it has ended."""
+    try:
+        lines = Path(f"/proc/{process.pid}/net/tcp").read_text().splitlines()[1:]
+    except OSError:
+        return 0
     fields = [line.split() for line in lines]
     return sum(each[1].endswith(f":{port:04X}") and each[3] == "01" for each in fields)
 
