@@ -6,6 +6,7 @@ that was killed are known, and removed by the next one.
 from __future__ import annotations
 
 import contextlib
+import ctypes
 import json
 import os
 import re
@@ -20,6 +21,8 @@ from lif_tools.formats import Network
 PREFIX = "lif-trial"
 # Bytes that a link may send at once, and seconds for which packets may wait at it.
 BURST, QUEUE = 8 * 1024, 0.1
+libc = ctypes.CDLL(None)
+PR_SET_PDEATHSIG = 1
 # Seconds that a process has to end in once it is told to.
 GRACE = 3.0
 
@@ -42,7 +45,7 @@ def remove_left() -> None:
     """Removes namespaces of trials that were killed."""
     for line in run("ip", "netns", "list").splitlines():
         found = re.match(rf"{PREFIX}-(\d+)-", line)
-        if found and not os.path.exists(f"/proc/{found[1]}"):
+        if found and (int(found[1]) == os.getpid() or not os.path.exists(f"/proc/{found[1]}")):
             run("ip", "netns", "del", line.split()[0])
 
 
@@ -130,10 +133,10 @@ class Namespaces:
 
     def start(self, name: str, words: Sequence[str], errors: Path, **more: Any) -> subprocess.Popen[bytes]:
         """Starts a program in a namespace; what it says goes to a file."""
-        more.setdefault("stdin", subprocess.DEVNULL)
+        more = {"stdin": subprocess.DEVNULL, "start_new_session": True, "preexec_fn": die_with_parent, **more}
         with open(errors, "ab") as file:
             all_words = ["ip", "netns", "exec", name, *words]
-            process = subprocess.Popen(all_words, stdout=file, stderr=file, start_new_session=True, **more)
+            process = subprocess.Popen(all_words, stdout=file, stderr=file, **more)
         self.running.append(process)
         return process
 
@@ -153,6 +156,11 @@ class Namespaces:
                 with contextlib.suppress(OSError):
                     process.stdin.close()
         self.running = [process for process in self.running if process not in processes]
+
+
+def die_with_parent() -> None:
+    """Has a process killed as soon as the one that started it is gone."""
+    libc.prctl(PR_SET_PDEATHSIG, signal.SIGKILL)
 
 
 def signal_group(process: subprocess.Popen[bytes], number: int) -> None:
