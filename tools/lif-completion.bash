@@ -92,6 +92,13 @@ _lif_links() {
     fi
 }
 
+# The nodes of the plan of the command line.
+_lif_planned() {
+    local plan
+    plan=$(_lif_given .json)
+    if [[ -f $plan ]]; then sed -nE 's/^ *"(tail|head)": "([^"]*)".*/\2/p' "$plan" | sort -u; fi
+}
+
 # The tools: their options and what these take, by their help text, and files.
 _lif_tool() {
     local tool=${COMP_WORDS[0]##*/} word=${COMP_WORDS[COMP_CWORD]} before=${COMP_WORDS[COMP_CWORD - 1]} told value
@@ -112,7 +119,9 @@ _lif_tool() {
     lif-import,-o) _lif_files "$word" .net ;;
     lif-draft,-o) _lif_files "$word" .draft ;;
     lif-draft,--coefficients) _lif_files "$word" "" ;;
-    lif-plan,--places) _lif_files "$word" "" ;;
+    lif-plan,--places | lif-plan,--addresses | lif-node,--from | lif-node,--to | lif-node,--control | lif-node,--counters)
+        _lif_files "$word" ""
+        ;;
     *)
         told=$("$(_lif_path "${COMP_WORDS[0]}")" --help 2>/dev/null)
         # What an option takes: its choices are offered, and nothing else of which nothing is known.
@@ -126,6 +135,9 @@ _lif_tool() {
             lif-import) _lif_files "$word" .graphml .xml .gml .dot .gv .json ;;
             lif-draft) _lif_files "$word" .lif .net ;;
             lif-estimate | lif-plan) _lif_files "$word" .lif ;;
+            lif-node)
+                if [[ $before == *.json ]]; then _lif_words "$word" "$(_lif_planned)"; else _lif_files "$word" .json; fi
+                ;;
             *) _lif_files "$word" .net ;;
             esac
         fi
@@ -134,4 +146,4 @@ _lif_tool() {
 }
 
 complete -F _lif lif
-complete -F _lif_tool lif-draft lif-draw lif-estimate lif-gain lif-import lif-plan
+complete -F _lif_tool lif-draft lif-draw lif-estimate lif-gain lif-import lif-node lif-plan

@@ -1,4 +1,4 @@
-#compdef lif lif-draft lif-draw lif-estimate lif-gain lif-import lif-plan
+#compdef lif lif-draft lif-draw lif-estimate lif-gain lif-import lif-node lif-plan
 # Completion of zsh for lif and its tools: words, files, and the patterns, sinks and links of networks and codes. It goes as _lif to a
 # folder of fpath; the patterns of codes need lif-estimate on the path.
 
@@ -62,6 +62,13 @@ _lif_links() {
     compadd -a names
 }
 
+# Offers the nodes of the plan of the command line.
+_lif_planned() {
+    local -aU names
+    names=(${(f)"$(sed -nE 's/^ *"(tail|head)": "([^"]*)".*/\2/p' ${~${(Q)1}} 2>/dev/null)"})
+    compadd -a names
+}
+
 # The tools: their options and what these take, by their help text, and files.
 _lif_tool() {
     local word=$words[CURRENT] before=$words[CURRENT-1] value
@@ -84,7 +91,7 @@ _lif_tool() {
     lif-import,-o) _files -g '*.net' ;;
     lif-draft,-o) _files -g '*.draft' ;;
     lif-draft,--coefficients) _files ;;
-    lif-plan,--places) _files ;;
+    lif-plan,--places | lif-plan,--addresses | lif-node,--from | lif-node,--to | lif-node,--control | lif-node,--counters) _files ;;
     *)
         told=(${(f)"$(${~words[1]} --help 2>/dev/null)"})
         # What an option takes: its choices are offered, and nothing else of which nothing is known.
@@ -101,6 +108,7 @@ _lif_tool() {
             lif-import) _files -g '*.(graphml|xml|gml|dot|gv|json)' ;;
             lif-draft) _files -g '*.(lif|net)' ;;
             lif-estimate | lif-plan) _files -g '*.lif' ;;
+            lif-node) if [[ $before == *.json ]]; then _lif_planned $before; else _files -g '*.json'; fi ;;
             *) _files -g '*.net' ;;
             esac
         fi

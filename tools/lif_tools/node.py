@@ -21,12 +21,15 @@ import re
 import time
 from dataclasses import dataclass
 from pathlib import Path
-from typing import Any, Sequence
+from typing import TYPE_CHECKING, Any, Sequence
 
 from lif_tools.common import ToolError, listed, load_code, module, notice, pattern_number, print_json, read_bytes, words_parser
 from lif_tools.formats import MOST_CODE_BYTES, Code as CodeFile
-from lif_tools.node_links import GONE, Incoming, Outgoing
+from lif_tools.node_links import Incoming, Outgoing
 from lif_tools.plan import overlay_of
+
+if TYPE_CHECKING:
+    from lif_tools.node_work import Worker
 
 # The longest that a node sleeps, in milliseconds, and that the source does where nothing tells it of more.
 SLEEP, LOOK = 200, 20
@@ -43,6 +46,10 @@ class Overlay:
     content: bytes
     addresses: dict[int, str]
     bound: int
+
+    def place(self, link: int) -> tuple[str, str, int]:
+        """A link's name and address, and how many windows may wait on it."""
+        return self.code.network.links[link].name, self.addresses[link], self.bound
 
     def numbers(self, node: int, end: str) -> list[int]:
         """The links that begin or end at a node."""
@@ -71,8 +78,8 @@ def load_overlay(path: str) -> tuple[dict[str, Any], Overlay]:
     code = load_code(plan["code"])
     numbers = {link.name: number for number, link in enumerate(code.network.links)}
     unknown = [name for name in plan["overlay"]["addresses"] if name not in numbers]
-    lacking = [code.network.links[link].name for link in overlay_of(code) if code.network.links[link].name not in
-               plan["overlay"]["addresses"]]  # fmt: skip
+    needed = [code.network.links[link].name for link in overlay_of(code)]
+    lacking = [name for name in needed if name not in plan["overlay"]["addresses"]]
     if unknown or lacking:
         raise ToolError(f"{path}: no address for {listed(lacking)}" if lacking else f"{path}: unknown link: {unknown[0]}")
     addresses = {numbers[name]: address for name, address in plan["overlay"]["addresses"].items()}
@@ -118,7 +125,7 @@ class Running:
     def __init__(self, plan: dict[str, Any], overlay: Overlay, words: argparse.Namespace):
         from lif_tools.liblif import Code, CodeRefused
         from lif_tools.node_counts import Counters
-        from lif_tools.node_work import Worker
+        from lif_tools import node_work
 
         network, number = overlay.code.network, node_number(overlay, words.node)
         try:
@@ -127,12 +134,12 @@ class Running:
             raise ToolError(f"there is no liblif: {error}") from None
         except CodeRefused as refused:
             raise ToolError(f"{plan['code']}: {refused}") from None
-        self.worker = worker = Worker(code, network, number, plan["overlay"]["sum"])
+        self.worker = worker = node_work.Worker(code, network, number, plan["overlay"]["sum"])
         self.ends(worker, plan, overlay, words)
         for link in overlay.numbers(number, "head"):
-            worker.into[link] = Incoming(link, network.links[link].name, overlay.addresses[link], overlay.bound, worker.on_state)
+            worker.into[link] = Incoming(link, *overlay.place(link), worker.on_state)
         for link in overlay.numbers(number, "tail"):
-            worker.out[link] = Outgoing(link, network.links[link].name, overlay.addresses[link], overlay.bound, worker.state)
+            worker.out[link] = Outgoing(link, *overlay.place(link), worker.state)
         self.zmq: Any = module("zmq", "python3-zmq")
         self.poller: Any = self.zmq.Poller()
         self.polled: dict[Outgoing, int] = {}
@@ -145,7 +152,7 @@ class Running:
         self.counters = Counters(words.counters, words.node)
         self.control = Control(words.control, [pattern.name for pattern in network.patterns])
 
-    def ends(self, worker: Any, plan: dict[str, Any], overlay: Overlay, words: argparse.Namespace) -> None:
+    def ends(self, worker: Worker, plan: dict[str, Any], overlay: Overlay, words: argparse.Namespace) -> None:
         """Opens what the source reads, or what a sink writes."""
         from lif_tools import node_ends
 
@@ -157,8 +164,7 @@ class Running:
                 raise ToolError(f"{option} is for {'a sink' if option == '--to' else 'the source'}, and {words.node} is none")
         if is_source:
             source = words.source or "-"
-            is_folder = os.path.isdir(source)
-            rate = worker.code.rate
+            rate, is_folder = worker.code.rate, os.path.isdir(source)
             worker.giver = node_ends.FolderSource(Path(source), rate) if is_folder else node_ends.FileSource(source, rate)
             worker.schedule.stream = worker.giver.stream
             worker.pattern = pattern_number(plan["code"], network, words.pattern or plan["pattern"])
@@ -167,8 +173,9 @@ class Running:
             folder = to.endswith("/") or os.path.isdir(to)
             if folder:
                 os.makedirs(to, exist_ok=True)
-            kind = node_ends.FolderSink if folder else node_ends.FileSink
-            worker.taker = node_ends.PipeSink() if to == "-" else kind(Path(to))
+                worker.taker = node_ends.FolderSink(Path(to))
+            else:
+                worker.taker = node_ends.PipeSink() if to == "-" else node_ends.FileSink(Path(to))
 
     def run(self) -> bool:
         """Carries the stream until it ends. Whether a sink here got all of it."""
@@ -241,11 +248,11 @@ def words_of(arguments: Sequence[str]) -> argparse.Namespace:
     add = parser.add_argument
     add("plan", metavar="PLAN", help="a plan with addresses, or `status`")
     add("node", metavar="NODE", help="the node to run, by its name; behind `status` the plan")
-    add("--from", dest="source", metavar="PATH", help="what the source reads: a file, a folder, or - for standard input, as else")
-    add("--to", metavar="PATH", help="what a sink writes: a file, a folder, or - for standard output, as else")
+    add("--from", dest="source", metavar="PATH", help="what the source reads: a file, a folder, or -, standard input, as else")
+    add("--to", metavar="PATH", help="what a sink writes: a file, a folder, or -, standard output, as else")
     add("--pattern", metavar="P", help="the pattern of failed links to begin with, at the source; else that of the plan")
     add("--control", metavar="FILE", help="a file whose last line `pattern P` tells the source another pattern")
-    add("--counters", metavar="FILE", help="where counters go, else to standard error; in a folder the file has the node's name")
+    add("--counters", metavar="FILE", help="where counters go, else standard error; in a folder the file has the node's name")
     return parser.parse_args(arguments)
 
 
@@ -271,6 +278,3 @@ def main(arguments: Sequence[str]) -> None:
     module("zmq", "python3-zmq")
     if not Running(plan, overlay, words).run():
         raise ToolError("not all could be had")
-
-
-__all__ = ["GONE", "main"]

@@ -89,8 +89,9 @@ def said(facts: dict[str, Any]) -> str:
         return f"{facts['node']} has said nothing"
     ago = max(0.0, time.time() - facts["time"])
     what = "ended" if facts["ended"] else f"waits for {facts['waits_for']}" if facts["waits_for"] else "runs"
-    line = f"{facts['node']} {what}, {facts['windows']} windows, {facts['done']} done, {sum(facts['bytes_in'].values())} bytes in"
-    line += f", {sum(facts['bytes_out'].values())} out, {facts['seconds_in_liblif']} s in liblif"
+    came, went = (sum(facts[key].values()) for key in ("bytes_in", "bytes_out"))
+    line = f"{facts['node']} {what}, {facts['windows']} windows, {facts['done']} done, {came} bytes in, {went} out"
+    line += f", {facts['seconds_in_liblif']} s in liblif"
     if facts["lost"]:
         line += f", {facts['lost']} windows can't be had"
     for link, count in facts["refused"].items():

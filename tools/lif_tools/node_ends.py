@@ -13,6 +13,7 @@ import secrets
 import select
 import stat
 import struct
+import time
 from collections import deque
 from pathlib import Path
 from typing import Any, BinaryIO
@@ -85,7 +86,7 @@ class FileSource:
     def __init__(self, path: str, rate: int):
         self.room = capacity(rate)
         try:
-            self.file: BinaryIO = open(0 if path == "-" else path, "rb", buffering=0)  # type: ignore[assignment]
+            self.file: BinaryIO = open(0 if path == "-" else path, "rb", buffering=0)
             facts = os.fstat(self.file.fileno())
         except OSError as error:
             raise ToolError(f"{path}: {error.strerror}") from None
@@ -188,8 +189,6 @@ class FolderSource:
 
     def open(self) -> bool:
         """Opens the next file that is to be sent, if there is one."""
-        import time
-
         if not self.ready and time.monotonic() - self.looked > 0.2:
             self.looked = time.monotonic()
             self.look()

@@ -1,15 +1,16 @@
 """The links of a node of an overlay, over ZeroMQ: messages, what waits to be acknowledged, and what came.
 
 The head of a link listens, and its tail connects. Down the link go the state of the stream, which is repeated at each
-connection, windows, which are all frames that the link carries of one, and at the end that the tail knows of it. Up the link goes the number of the first window that isn't
-done at the head and behind it, and the number of one that came changed, to have it again. The tail keeps each window until
-it is done, and sends all that it keeps at each connection.
+connection, windows, each with all frames that the link carries of it, and at last that the tail knows of the end. Up the
+link goes the number of the first window that isn't done at the head and behind it, and the number of one that came changed,
+to have it again. The tail keeps each window until it is done, and sends all that it keeps at each connection.
 """
 from __future__ import annotations
 
 import json
 import socket
 import struct
+import time
 import zlib
 from collections import deque
 from dataclasses import dataclass
@@ -155,8 +156,8 @@ class Incoming(Wire):
         return True
 
     def refuse(self, content: bytes, following: int) -> bool:
-        """Counts a message that was changed. Its window is asked for again where it still says which one it is, and else as soon
-        as it is missed."""
+        """Counts a message that was changed. Its window is asked for again where it still says which one it is, and else as
+        soon as it is missed."""
         self.refused += 1
         window = NUMBER.unpack_from(content, 1)[0] if content[:1] == WINDOW and len(content) > HEAD.size else -1
         if following <= window < following + 2 * self.bound:
@@ -203,6 +204,8 @@ class Outgoing(Wire):
         self.head_done: int | None = None
         # Whether the head is to be told that its last word came, and was.
         self.leaves, self.has_left = False, False
+        # When the head last was further than before.
+        self.heard = 0.0
         self.socket.setsockopt(self.zmq.IMMEDIATE, 1)
         self.monitor: Any = self.socket.get_monitor_socket(self.zmq.EVENT_HANDSHAKE_SUCCEEDED | self.zmq.EVENT_DISCONNECTED)
         self.socket.connect(f"tcp://{address}")
@@ -272,7 +275,7 @@ class Outgoing(Wire):
     def is_done(self, number: int) -> bool:
         if self.head_done is not None and number <= self.head_done:
             return False
-        self.head_done = number
+        self.head_done, self.heard = number, time.monotonic()
         while self.kept and self.first(0) < number:
             del self.kept[self.first(0)]
         return True

@@ -24,6 +24,8 @@ PATIENCE, DOUBT = 2.0, 0.5
 class Taker(Protocol):
     """Where a sink puts what it decodes."""
 
+    failed: bool
+
     def start(self, stream: str) -> int: ...
     def take(self, window: int, begins: bool, content: bytes) -> None: ...
     def lose(self, window: int) -> None: ...
@@ -99,6 +101,9 @@ class Worker:
         self.waits_for: str | None = None
         self.waits_since = 0.0
         self.opened: dict[int, Opened] = {}
+        # Links that fail by the last pattern that is told, since when, and those of them that are given up.
+        self.failing: frozenset[int] = frozenset()
+        self.failing_since = 0.0
         self.dead: set[int] = set()
 
     def state(self, link: Outgoing) -> dict[str, Any]:
@@ -122,8 +127,17 @@ class Worker:
             raise ToolError(f"link {link.name}: another stream began, while this one hasn't ended: start all nodes again")
         self.dead.discard(link.number)
         begins = {int(first): self.code.pattern(name) for first, name in state["begins"]}
-        if self.schedule.merge(begins, state["end"]):
-            self.tell()
+        self.learn(begins, state["end"])
+
+    def learn(self, begins: dict[int, int], end: int | None) -> None:
+        """Takes in from which windows on there are which patterns, or the end."""
+        if not self.schedule.merge(begins, end):
+            return
+        self.tell()
+        failing = frozenset(self.network.patterns[self.schedule.begins[max(self.schedule.begins)]].links)
+        if failing != self.failing:
+            self.failing, self.failing_since = failing, time.monotonic()
+            self.dead &= failing
 
     def tell(self) -> None:
         for link in self.out.values():
@@ -131,15 +145,22 @@ class Worker:
 
     def done(self) -> int:
         """The first window that isn't done here and behind this node."""
-        return min((link.first(self.following) for link in self.out.values()), default=self.following)
+        links = (link for link in self.out.values() if link.number not in self.dead)
+        return min((link.first(self.following) for link in links), default=self.following)
 
     def acknowledge(self) -> None:
         """Says up all links how far all is done."""
         if self.schedule.stream is None:
             return
+        for number in self.failing & self.out.keys() - self.dead:
+            if self.out[number].kept and time.monotonic() - max(self.failing_since, self.out[number].heard) > PATIENCE:
+                self.dead.add(number)
+                notice(f"link {self.out[number].name}: it fails, by the pattern that is told, and what it had isn't waited for")
         done = self.done()
         for link in self.into.values():
             link.done(done)
+        if len(self.schedule.begins) > 1:
+            self.schedule.forget(done)
         if self.giver is not None and self.begun:
             self.giver.done(done)
 
@@ -213,8 +234,7 @@ class Worker:
         if link.doubts and waited > DOUBT:
             link.ask(self.following)
             self.waits_since = time.monotonic()
-        last = self.network.patterns[self.schedule.begins[max(self.schedule.begins)]].links
-        if link.number in last and waited > PATIENCE:
+        if link.number in self.failing and waited > PATIENCE:
             self.dead.add(link.number)
             notice(f"link {link.name}: it fails, by the pattern that is told, and window {self.following} hasn't come over it")
         return link.number in self.dead
@@ -280,12 +300,10 @@ class Worker:
             if None in heads:
                 return self.wait_for(next(link.name for link in self.out.values() if link.head_done is None))
             self.following = giver.begin_at(min(head for head in heads if head is not None))
-            self.schedule.begins = {self.following: self.pattern or 0}
             self.begun = True
-            self.tell()
+            self.learn({self.following: self.pattern or 0}, None)
         if self.pattern is not None and self.pattern != self.schedule.pattern(self.following):
-            self.schedule.merge({self.following: self.pattern}, None)
-            self.tell()
+            self.learn({self.following: self.pattern}, None)
         opened = self.open(self.schedule.pattern(self.following))
         full = [self.out[link] for link in opened.out if not self.out[link].has_room()]
         if full:
@@ -293,8 +311,7 @@ class Worker:
         made = giver.window()
         if made is None:
             if giver.is_at_end():
-                self.schedule.end = self.following
-                self.tell()
+                self.learn({}, self.following)
             return self.wait_for(None)
         begun = time.perf_counter()
         begins, pieces = made
@@ -307,5 +324,4 @@ class Worker:
                 opened.node.feed(generation, cut(piece, self.code.rate))
             self.give(opened, opened.node, stamp)
         self.seconds += time.perf_counter() - begun
-        self.schedule.forget(self.done())
         return True

@@ -81,7 +81,7 @@ class Overlay:
     """The nodes of a plan, run as processes in a folder, which are ended with it."""
 
     def __init__(self, folder: Path, code: Path, *words: object):
-        self.folder, self.running, self.sinks = folder, {}, {}
+        self.folder = folder
         done = run_tool("lif-plan", code, "--port", free_base(64), *words)
         assert done.returncode == 0, done.stderr
         self.plan: dict[str, Any] = json.loads(done.stdout)
@@ -116,7 +116,8 @@ class Overlay:
         return proxy
 
     def start(self, name: str, *words: object, **options: Any) -> subprocess.Popen[bytes]:
-        given: list[object] = [TOOLS / "lif-node", self.paths.get(name, self.path), name, "--counters", self.folder / "counters"]
+        given: list[object] = [TOOLS / "lif-node", self.paths.get(name, self.path), name]
+        given += ["--counters", self.folder / "counters"]
         given += ["--to", f"{self.folder}/{self.sinks[name]}"] if name in self.sinks and "--to" not in words else []
         with open(self.folder / f"said.{name}", "ab") as said:
             started = subprocess.Popen([*map(str, given), *map(str, words)], stderr=said, **options)

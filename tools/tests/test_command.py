@@ -13,7 +13,7 @@ from typing import Any
 
 import pytest
 
-from support import EXAMPLES, TOOLS, TOP, ended, run_tool
+from support import EXAMPLES, MODULES, TOOLS, TOP, ended, run_tool
 
 NET, CODE = EXAMPLES / "butterfly/butterfly.net", EXAMPLES / "butterfly/butterfly.lif"
 POLSKA = EXAMPLES / "polska/polska.graphml"
@@ -38,6 +38,8 @@ MORE: dict[str, list[object]] = {
 NAMES = sorted(INPUTS)
 PACKAGES = {"lif-gain": "scipy", "lif-import": "networkx"}
 EACH = pytest.mark.parametrize("name", NAMES)
+# With the tool whose input is a plan, and which has tests of its own.
+ALL = pytest.mark.parametrize("name", sorted(MODULES))
 
 
 @pytest.fixture(autouse=True)
@@ -63,7 +65,7 @@ def with_stream(name: str, number: int, to: str | None, *words: object) -> subpr
     return ended(["sh", "-c", f'exec "$@" {where}', "sh", TOOLS / name, *words])
 
 
-@EACH
+@ALL
 def test_the_version_is_that_of_lif(name: str, tmp_path: Path) -> None:
     """It is said in any folder, and by a symbolic link."""
     (tmp_path / "link").symlink_to(TOOLS / name)
@@ -142,7 +144,7 @@ def keys_of(said: Any) -> set[str]:
     return set(said).union(*(keys_of(value) for key, value in said.items() if key != "decoders"))
 
 
-@EACH
+@ALL
 def test_the_manual_page_has_every_option(name: str, tmp_path: Path) -> None:
     for needed, package in (("mandoc", "mandoc"), ("man", "man-db")):
         if shutil.which(needed) is None:

@@ -1,6 +1,7 @@
 """lif-node: overlays on the loopback that get all, whatever is killed and changed, or say what they lack."""
 from __future__ import annotations
 
+import contextlib
 import importlib.util
 import json
 import os
@@ -9,19 +10,22 @@ import re
 import shutil
 import signal
 import subprocess
+import threading
 import time
 from pathlib import Path
 from typing import Iterator
 
 import pytest
 
+from documents import check_commands
 from overlays import Overlay, until
-from support import EXAMPLES, Program, has_liblif, run_tool
+from support import EXAMPLES, TOOLS, has_liblif, run_tool
+from lif_tools.formats import Code, finish, read_code, read_draft, write_code
 
 pytestmark = [
     pytest.mark.slow,
     pytest.mark.skipif(
-        not has_liblif() or importlib.util.find_spec("zmq") is None, reason="there is no liblif, no python3-cffi or no python3-zmq"
+        not has_liblif() or importlib.util.find_spec("zmq") is None, reason="there is no liblif, or no python3-zmq"
     ),
 ]
 FLY = EXAMPLES / "butterfly/butterfly.lif"
@@ -51,7 +55,7 @@ def test_nodes_start_in_any_order(fly: Overlay, size: int) -> None:
     fly.ends()
     assert fly.got("t1") == fly.got("t2") == src.read_bytes()
     # Nothing else is left where a sink writes.
-    assert {path.name for path in fly.folder.iterdir() if "out" in path.name or path.name.startswith(".")} == {"out.t1", "out.t2"}
+    assert {path.name for path in fly.folder.iterdir() if "out" in path.name} == {"out.t1", "out.t2"}
 
 
 @pytest.mark.parametrize("killed", ["s", "a", "c", "d", "t1", "c d t2", "s a b c d t1 t2"])
@@ -244,7 +248,8 @@ def test_what_is_refused_at_the_start(fly: Overlay, tmp_path: Path) -> None:
     no_plan = "no plan of lif-plan with addresses, by --port or --addresses"
     for broken in ("", "[]", "{}", plan.replace("overlay", "other"), plan.replace('"bound": 64', '"bound": "64"')):
         assert said(broken, "s") == no_plan
-    assert said(plan, "x") == "unknown node: x; there are s, t1, t2, a, b, c, d".replace("s, t1, t2, a, b, c, d", listed(plan))
+    nodes = ", ".join(read_code(FLY.read_bytes()).network.nodes)
+    assert said(plan, "x") == f"unknown node: x; there are {nodes}"
     without = json.loads(plan)
     del without["overlay"]["addresses"]["c-d"]
     assert said(json.dumps(without), "s") == "no address for c-d"
@@ -252,12 +257,6 @@ def test_what_is_refused_at_the_start(fly: Overlay, tmp_path: Path) -> None:
     assert said(plan, "a", "--to", "x") == "--to is for a sink, and a is none"
     assert said(plan, "s", "--from", tmp_path / "missing") == f"{tmp_path}/missing: No such file or directory"
     assert said(plan, "s", "--pattern", "x") == f"{FLY}: unknown pattern: x; its patterns: none"
-
-
-def listed(plan: str) -> str:
-    from lif_tools.formats import read_code
-
-    return ", ".join(read_code(Path(json.loads(plan)["code"]).read_bytes()).network.nodes)
 
 
 def test_another_code_or_another_stream_is_refused(fly: Overlay) -> None:
@@ -274,11 +273,16 @@ def test_another_code_or_another_stream_is_refused(fly: Overlay) -> None:
 
 
 @pytest.fixture
-def regional(tmp_path: Path, program: Program) -> Path:
-    code = tmp_path / "regional.lif"
-    done = program("compile", EXAMPLES / "regional/regional.net", code, tmp_path / "regional.txt")
-    assert done.returncode == 0
-    return code
+def regional(tmp_path: Path) -> Path:
+    """A code of the regional network, which has two patterns."""
+    for seed in range(20):
+        words = ["--rate", 2, "--random", seed, "-o", tmp_path / "regional.draft"]
+        assert run_tool("lif-draft", EXAMPLES / "regional/regional.net", *words).returncode == 0
+        code = finish(read_draft((tmp_path / "regional.draft").read_bytes()))
+        if isinstance(code, Code):
+            (tmp_path / "regional.lif").write_bytes(write_code(code))
+            return tmp_path / "regional.lif"
+    raise AssertionError("no draft decodes")
 
 
 def test_a_pattern_that_is_told(regional: Path, tmp_path: Path) -> None:
@@ -330,12 +334,21 @@ def memory(overlay: Overlay) -> dict[str, int]:
     return {name: int(re.findall(r"VmRSS:\s+(\d+)", text)[0]) for name, text in status.items()}
 
 
+def feed(source: subprocess.Popen[bytes]) -> None:
+    """Writes to a source until that ends."""
+    with contextlib.suppress(OSError):
+        while source.stdin is not None:
+            source.stdin.write(CHANCE.randbytes(100_000))
+            time.sleep(0.04)
+
+
 def test_memory_stays(fly: Overlay) -> None:
-    """A stream without an end: what each node holds doesn't grow."""
-    fly.start_all("--from", "/dev/zero", leave=("t1", "t2"))
+    """A stream without an end, of some megabytes a second: what each node holds doesn't grow."""
+    fly.start_all(leave=("s", "t1", "t2"))
     for sink in ("t1", "t2"):
         fly.start(sink, "--to", "-", stdout=subprocess.DEVNULL)
-    until(lambda: fly.counted("t1").get("windows", 0) > 500)
+    threading.Thread(target=feed, args=(fly.start("s", stdin=subprocess.PIPE),), daemon=True).start()
+    until(lambda: int(fly.counted("t1").get("windows", 0)) > 500)
     time.sleep(WATCHED / 3)
     before, windows = memory(fly), fly.counted("t1")["windows"]
     time.sleep(WATCHED * 2 / 3)
@@ -359,6 +372,17 @@ def test_status(fly: Overlay) -> None:
     (fly.folder / "counters/a").write_text("no counters\n")
     done = run_tool(*asked)
     assert (done.returncode, done.stderr) == (1, f"lif-node: {fly.folder}/counters/a: no counters of lif-node\n")
+
+
+def test_the_page_of_the_example(top: Path) -> None:
+    check_commands("examples/overlay/README.md", top)
+
+
+def test_every_name_of_counters_stands_on_the_page(fly: Overlay) -> None:
+    fly.start("c")
+    until(lambda: fly.counted("c") != {})
+    page = (TOOLS / "README.md").read_text()
+    assert {name for name in fly.counted("c") if f"`{name}`" not in page} == set()
 
 
 def test_ctrl_c_ends_quietly(fly: Overlay) -> None:

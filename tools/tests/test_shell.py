@@ -125,11 +125,12 @@ def completed_by_zsh(folder: Path, *words: str) -> list[str]:
     return sorted(filter(None, done.stdout.splitlines()))
 
 
-DRAFT, DRAW, IMPORT, ESTIMATE, PLAN, GAIN = (
-    str(TOOLS / f"lif-{name}") for name in ("draft", "draw", "import", "estimate", "plan", "gain")
+DRAFT, DRAW, IMPORT, ESTIMATE, PLAN, GAIN, NODE = (
+    str(TOOLS / f"lif-{name}") for name in ("draft", "draw", "import", "estimate", "plan", "gain", "node")
 )
 # A link and a bundle.
 BUNDLED = "source s\nsink t\nlink l s t\nlink k s t x3 # far\n"
+PLANNED = '{\n "links": [\n  {\n   "name": "l",\n   "tail": "s",\n   "head": "t"\n  }\n ]\n}\n'
 NET = "source s\nsink t\nsink u # far\nlink l s t\nlink k s u\npattern duct l\n"
 
 # The words, and what is offered for the last one: names, and the endings of files.
@@ -148,28 +149,36 @@ OFFERED = [
     ((IMPORT, "--capacity", ""), [], ""),
     ((DRAFT, "--field", ""), ["16", "8", "9"], ""),
     ((DRAFT, "--random", ""), [], ""),
+    ((NODE, ""), ["old", "plan.json"], "*.json"),
+    ((NODE, "status", ""), ["old", "plan.json"], "*.json"),
+    ((NODE, "plan.json", ""), ["s", "t"], ""),
+    ((PLAN, "--port", ""), [], ""),
     ((DRAFT, ""), ["my code.lif", "old", "one.net", "two.net"], "*.(lif|net)"),
 ]
 
 
 def test_words_of_the_tools_are_completed(folder: Path) -> None:
     (folder / "two.net").write_text(NET)
+    (folder / "plan.json").write_text(PLANNED)
     for words, offered, _ in OFFERED:
         assert (words, completed(folder, *words)) == (words, offered)
     options = set(re.findall(r"--[a-z-]+", run_tool("lif-draw", "--help").stdout.split("positional")[0])) | {"--help"}
     assert set(completed(folder, DRAW, "two.net", "--")) == options
     assert completed(folder, DRAW, "--l") == ["--live"]
     assert completed(folder, PLAN, "my\\ code.lif", "--places", "n") == ["notes.txt"]
+    assert completed(folder, NODE, "plan.json", "t", "--to", "n") == ["notes.txt"]
 
 
 def test_zsh_completes_the_words_of_the_tools(folder: Path) -> None:
     if shutil.which("zsh") is None:
         pytest.skip("there is no program zsh; on Debian: apt-get install zsh")
     (folder / "two.net").write_text(NET)
+    (folder / "plan.json").write_text(PLANNED)
     for words, offered, files in OFFERED:
         assert (words, completed_by_zsh(folder, *words)) == (words, [f"files {files}"] if files else offered)
     assert completed_by_zsh(folder, DRAW, "-") == sorted(completed(folder, DRAW, "--"))
     assert completed_by_zsh(folder, PLAN, "my\\ code.lif", "--places", "") == ["files "]
+    assert completed_by_zsh(folder, NODE, "plan.json", "t", "--to", "") == ["files "]
     assert completed_by_zsh(folder, "lif", "") == completed(folder, "lif", "")
     assert completed_by_zsh(folder, "lif", "migrate", "a.lif", "") == ["files *.lif"]
     assert completed_by_zsh(folder, "lif", "send", "my\\ code.lif", "") == ["duct", "dust", "none"]
