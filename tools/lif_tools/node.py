@@ -154,7 +154,8 @@ class Running:
 
     def ends(self, worker: Worker, plan: dict[str, Any], overlay: Overlay, words: argparse.Namespace) -> None:
         """Opens what the source reads, or what a sink writes."""
-        from lif_tools import node_ends
+        from lif_tools.node_sinks import FileSink, FolderSink, PipeSink
+        from lif_tools.node_sources import FileSource, FolderSource
 
         network = overlay.code.network
         is_source, is_sink = worker.number == network.source, worker.number in network.sinks
@@ -165,7 +166,7 @@ class Running:
         if is_source:
             source = words.source or "-"
             rate, is_folder = worker.code.rate, os.path.isdir(source)
-            worker.giver = node_ends.FolderSource(Path(source), rate) if is_folder else node_ends.FileSource(source, rate)
+            worker.giver = FolderSource(Path(source), rate) if is_folder else FileSource(source, rate)
             worker.schedule.stream = worker.giver.stream
             worker.pattern = pattern_number(plan["code"], network, words.pattern or plan["pattern"])
         if is_sink:
@@ -173,9 +174,9 @@ class Running:
             folder = to.endswith("/") or os.path.isdir(to)
             if folder:
                 os.makedirs(to, exist_ok=True)
-                worker.taker = node_ends.FolderSink(Path(to))
+                worker.taker = FolderSink(Path(to))
             else:
-                worker.taker = node_ends.PipeSink() if to == "-" else node_ends.FileSink(Path(to))
+                worker.taker = PipeSink() if to == "-" else FileSink(Path(to))
 
     def run(self) -> bool:
         """Carries the stream until it ends. Whether a sink here got all of it."""

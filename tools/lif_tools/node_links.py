@@ -23,8 +23,10 @@ from lif_tools.formats import FRAME_BYTES, PIECES
 STATE, WINDOW, LEAVE, DONE, AGAIN = b"S", b"W", b"L", b"D", b"A"
 # Marks of a window: a segment begins with it; the link can't bring it.
 BEGINS, LOST = 1, 2
-# Window, link, pattern, generations, marks, checksum of all but itself.
-HEAD = struct.Struct(">QIIBBI")
+# The letter of a message and the checksum of all but itself.
+SEAL = struct.Struct(">cI")
+# Window, link, pattern, generations, marks.
+HEAD = struct.Struct(">QIIBB")
 NUMBER = struct.Struct(">Q")
 # How often a window that came changed is asked for again.
 TRIES = 3
@@ -51,24 +53,32 @@ class Message:
     lost: bool
 
 
+def sealed(kind: bytes, *parts: bytes) -> bytes:
+    """A message of a kind."""
+    content = b"".join(parts)
+    return SEAL.pack(kind, zlib.crc32(content, zlib.crc32(kind))) + content
+
+
+def unsealed(message: bytes) -> tuple[bytes, memoryview]:
+    """The kind of a message and what it says; no kind where it was changed on its way."""
+    content = memoryview(message)[SEAL.size :]
+    kind, checksum = SEAL.unpack_from(message) if len(message) >= SEAL.size else (b"", 0)
+    return (kind if zlib.crc32(content, zlib.crc32(kind)) == checksum else b""), content
+
+
 def packed(stamp: Stamp, link: int, frames: bytes | None) -> bytes:
     """The message of a window on a link."""
     marks = BEGINS * stamp.begins | LOST * (frames is None)
-    head = HEAD.pack(stamp.window, link, stamp.pattern, stamp.count, marks, 0)[:-4]
-    content = frames or b""
-    return b"".join((WINDOW, head, zlib.crc32(content, zlib.crc32(head)).to_bytes(4, "big"), content))
+    return sealed(WINDOW, HEAD.pack(stamp.window, link, stamp.pattern, stamp.count, marks), frames or b"")
 
 
-def unpacked(message: bytes, link: int) -> Message | None:
-    """The window of a message on a link; nothing where it was changed on its way."""
-    if len(message) < 1 + HEAD.size:
+def unpacked(content: memoryview, link: int) -> Message | None:
+    """The window that a message says on a link; nothing where it isn't one."""
+    if len(content) < HEAD.size:
         return None
-    window, number, pattern, count, marks, checksum = HEAD.unpack_from(message, 1)
-    frames = memoryview(message)[1 + HEAD.size :]
-    if zlib.crc32(frames, zlib.crc32(message[1 : HEAD.size - 3])) != checksum or number != link or not 1 <= count <= 4:
-        return None
-    lost = bool(marks & LOST)
-    if len(frames) != (0 if lost else count * PIECES * FRAME_BYTES):
+    window, number, pattern, count, marks = HEAD.unpack_from(content)
+    frames, lost = content[HEAD.size :], bool(marks & LOST)
+    if number != link or not 1 <= count <= 4 or len(frames) != (0 if lost else count * PIECES * FRAME_BYTES):
         return None
     return Message(Stamp(window, pattern, count, bool(marks & BEGINS)), frames, lost)
 
@@ -130,14 +140,15 @@ class Incoming(Wire):
         return is_new
 
     def take(self, peer: bytes, content: bytes, following: int) -> bool:
-        if content[:1] == STATE:
-            return self.take_state(peer, content)
-        if content == LEAVE:
+        kind, said = unsealed(content)
+        if kind == STATE:
+            return self.take_state(peer, bytes(said))
+        if kind == LEAVE:
             self.has_left = True
             return True
-        message = unpacked(content, self.number) if content[:1] == WINDOW else None
+        message = unpacked(said, self.number) if kind == WINDOW else None
         if message is None:
-            return self.refuse(content, following)
+            return self.refuse(peer, content, following)
         window = message.stamp.window
         if peer != self.peer or window < following or window in self.came or len(self.came) >= 2 * self.bound:
             return False
@@ -145,27 +156,28 @@ class Incoming(Wire):
         self.came[window] = message
         return True
 
-    def take_state(self, peer: bytes, content: bytes) -> bool:
-        try:
-            state = json.loads(content[1:])
-            self.first = max(self.first, int(state["first"]))
-            self.on_state(self, state)
-        except (ValueError, KeyError, TypeError):
-            return self.refuse(content, 0)
+    def take_state(self, peer: bytes, said: bytes) -> bool:
+        state = json.loads(said)
+        self.first = max(self.first, int(state["first"]))
+        self.on_state(self, state)
         self.peer, self.said = peer, 0
         return True
 
-    def refuse(self, content: bytes, following: int) -> bool:
+    def refuse(self, peer: bytes, content: bytes, following: int) -> bool:
         """Counts a message that was changed. Its window is asked for again where it still says which one it is, and else as
         soon as it is missed."""
         self.refused += 1
-        window = NUMBER.unpack_from(content, 1)[0] if content[:1] == WINDOW and len(content) > HEAD.size else -1
+        self.peer = self.peer or peer
+        is_window = content[:1] == WINDOW and len(content) >= SEAL.size + HEAD.size
+        window = NUMBER.unpack_from(content, SEAL.size)[0] if is_window else -1
         if following <= window < following + 2 * self.bound:
             notice(f"link {self.name}: window {window} was changed on its way")
             self.ask(window)
         else:
             notice(f"link {self.name}: a message of {len(content)} bytes was changed on its way")
             self.doubts = True
+            # The state comes again with what is asked for.
+            self.up(AGAIN, following)
         return False
 
     def ask(self, window: int) -> None:
@@ -181,7 +193,7 @@ class Incoming(Wire):
     def up(self, kind: bytes, number: int) -> None:
         if self.peer is not None:
             try:
-                self.socket.send_multipart([self.peer, kind + NUMBER.pack(number)], self.zmq.NOBLOCK)
+                self.socket.send_multipart([self.peer, sealed(kind, NUMBER.pack(number))], self.zmq.NOBLOCK)
             except self.zmq.ZMQError:
                 self.said = 0
 
@@ -231,7 +243,7 @@ class Outgoing(Wire):
         """Sends what the socket takes: the state first, where it changed."""
         try:
             if self.waits() and not self.is_told:
-                self.socket.send(STATE + json.dumps(self.state(self)).encode(), self.zmq.NOBLOCK)
+                self.socket.send(sealed(STATE, json.dumps(self.state(self)).encode()), self.zmq.NOBLOCK)
                 self.is_told = True
             while self.is_connected and self.unsent:
                 message = self.kept.get(self.unsent[0])
@@ -240,7 +252,7 @@ class Outgoing(Wire):
                     self.bytes += len(message)
                 self.unsent.popleft()
             if self.is_connected and self.leaves > self.has_left:
-                self.socket.send(LEAVE, self.zmq.NOBLOCK)
+                self.socket.send(sealed(LEAVE), self.zmq.NOBLOCK)
                 self.has_left = True
         except self.zmq.Again:
             pass
@@ -262,13 +274,14 @@ class Outgoing(Wire):
         """Takes in what the head said. Whether something was new."""
         is_new = False
         while (parts := self.received()) is not None:
-            content = parts[-1]
-            if len(content) != 1 + NUMBER.size:
-                continue
-            number = NUMBER.unpack_from(content, 1)[0]
-            if content[:1] == DONE:
+            kind, said = unsealed(parts[-1])
+            number = NUMBER.unpack(said)[0] if len(said) == NUMBER.size else 0
+            if kind == DONE:
                 is_new |= self.is_done(number)
-            elif content[:1] == AGAIN and number in self.kept:
+                continue
+            # The head says again how far it is where it hears of the state.
+            self.is_told = False
+            if kind == AGAIN and number in self.kept:
                 self.unsent.append(number)
         return is_new
 

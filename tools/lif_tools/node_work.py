@@ -242,16 +242,22 @@ class Worker:
     def work(self, opened: Opened, came: list[Message | None]) -> None:
         """Does a window by what came of it."""
         begun = time.perf_counter()
-        stamp = next((message.stamp for message in came if message is not None), None)
-        window, stamp = self.following, stamp or Stamp(self.following, self.schedule.pattern(self.following), WINDOW, False)
+        window, pattern = self.following, self.schedule.pattern(self.following)
+        # Of a window of which nothing came it isn't known how long it is.
+        brought = [message.stamp for message in came if message is not None and not message.lost]
+        stamps = [stamp for stamp in brought if stamp.pattern == pattern]
+        stamp = stamps[0] if stamps else Stamp(window, pattern, WINDOW, False)
         self.following += 1
         first = window * WINDOW % ALL_GENERATIONS
         for each in (opened.node, opened.sink):
             if each is not None:
                 each.begin(first, stamp.count)
         for number, message in zip(opened.needed, came):
-            if message is not None:
+            if message is not None and message.stamp == stamp:
                 self.accept(opened, number, message.frames)
+            elif message is not None and not message.lost:
+                self.into[number].refused += 1
+                notice(f"link {self.into[number].name}: window {window} is stamped otherwise than on another link")
         if opened.node is not None:
             self.give(opened, opened.node, stamp)
         if opened.sink is not None and self.taker is not None:

@@ -2,6 +2,7 @@
 from __future__ import annotations
 
 import dataclasses
+import hashlib
 import json
 from pathlib import Path
 from typing import Any
@@ -96,6 +97,51 @@ def test_what_fails_and_what_carries_nothing_does_not_stand_there(failing: Path)
         "nodes": [{"name": "s", "in": [], "out": ["w"]}, {"name": "c", "in": ["w"], "out": ["z"]}],
         "sinks": sinks,
     }
+
+
+def test_addresses(tmp_path: Path) -> None:
+    places, addresses = tmp_path / "places", tmp_path / "addresses"
+    places.write_text("t1 one\n* two\n")
+    addresses.write_text("# of links\nc-d 10.0.0.1:7 # its own\n\nd-t1 [x]\n")
+    plan = planned(BUTTERFLY, "--port", 7000, "--places", places, "--bound", 9)["overlay"]
+    assert plan["bound"] == 9 and plan["sum"] == hashlib.sha256(BUTTERFLY.read_bytes()).hexdigest()
+    assert list(plan["addresses"].items())[2:5] == [("a-t1", "one:7002"), ("b-t2", "two:7003"), ("a-c", "two:7004")]
+    assert refused(BUTTERFLY, "--addresses", addresses) == f"{addresses}: line 4: no address: [x]\n"
+    addresses.write_text("c-d 10.0.0.1:7\n")
+    plan = planned(BUTTERFLY, "--port", 7000, "--addresses", addresses)["overlay"]
+    assert plan["bound"] == 64 and [*plan["addresses"].values()][5:8] == ["127.0.0.1:7005", "10.0.0.1:7", "127.0.0.1:7007"]
+    assert refused(BUTTERFLY, "--addresses", addresses) == f"{addresses}: no address for s-a\n"
+    assert refused(BUTTERFLY, "--port", 65530) == f"{BUTTERFLY}: no port is left for c-d\n"
+
+
+@pytest.mark.parametrize(
+    ("line", "fault"),
+    [
+        ("c-d", "not LINK HOST:PORT"),
+        ("c-d h:1 x", "not LINK HOST:PORT"),
+        ("c-d h", "no address: h"),
+        ("c-d h:0", "no address: h:0"),
+        ("c-d h:65536", "no address: h:65536"),
+        ("c-e h:1", "unknown link: c-e; there are s-a, s-b, a-t1, b-t2, a-c, b-c, c-d, d-t1, d-t2"),
+        ("s-a h:1", "link s-a has an address already"),
+    ],
+)
+def test_faults_of_addresses(tmp_path: Path, line: str, fault: str) -> None:
+    addresses = tmp_path / "addresses"
+    addresses.write_text(f"s-a h:1\n{line}\n")
+    assert refused(BUTTERFLY, "--addresses", addresses) == f"{addresses}: line 2: {fault}\n"
+
+
+def test_an_address_of_two_links(tmp_path: Path) -> None:
+    addresses = tmp_path / "addresses"
+    addresses.write_text("s-a h:1\ns-b h:1\n")
+    said = refused(BUTTERFLY, "--port", 7000, "--addresses", addresses)
+    assert said == f"{addresses}: s-a and s-b have the same address: h:1\n"
+
+
+def test_links_that_live_under_other_patterns_have_addresses(failing: Path) -> None:
+    for pattern in ("none", "f"):
+        assert [*planned(failing, "--port", 1, "--pattern", pattern)["overlay"]["addresses"]] == ["u", "w", "v", "z"]
 
 
 def reached(code: Code, pattern: int) -> set[str]:
