@@ -12,6 +12,7 @@ import os
 import re
 import signal
 import subprocess
+import sys
 import time
 from pathlib import Path
 from typing import IO, Any, Iterable, Sequence
@@ -19,6 +20,7 @@ from typing import IO, Any, Iterable, Sequence
 from lif_tools.formats import Network
 
 PREFIX = "lif-trial"
+DELAYS = Path(__file__).resolve().parent / "delays.py"
 # Bytes that a link may send at once, and seconds for which packets may wait at it.
 BURST, QUEUE = 8 * 1024, 0.1
 libc = ctypes.CDLL(None)
@@ -55,20 +57,26 @@ def address(link: int, end: int) -> str:
 
 
 class Namespaces:
-    """The nodes and links of a network, until the end of the `with`."""
+    """The nodes and links of a network, until the end of the `with`. Links have a delay in milliseconds, by netem where the
+    kernel has it, and else by a program between both ends."""
 
     def __init__(self, network: Network, mbit: float, delay: float):
         self.network, self.mbit, self.delay = network, mbit, delay
+        self.netem = bool(delay) and has_netem()
         self.running: list[subprocess.Popen[bytes]] = []
         self.made: list[str] = []
 
     def __enter__(self) -> Namespaces:
         remove_left()
         try:
+            if self.delay and not self.netem:
+                self.add(self.wire)
             for node in range(len(self.network.nodes)):
                 self.add(self.name(node))
             for number, link in enumerate(self.network.links):
                 self.join(number, link.tail, link.head)
+            if self.delay and not self.netem:
+                self.delay_all()
         except BaseException:
             self.__exit__()
             raise
@@ -80,6 +88,11 @@ class Namespaces:
             with contextlib.suppress(Unable):
                 run("ip", "netns", "del", name)
         self.made.clear()
+
+    @property
+    def wire(self) -> str:
+        """The namespace in which links are delayed."""
+        return self.name("wire")
 
     def name(self, node: int | str) -> str:
         return f"{PREFIX}-{os.getpid()}-{node}"
@@ -98,22 +111,39 @@ class Namespaces:
         """Makes the two interfaces of a link: `o` with its number at the tail, and `i` with it at the head."""
         ends = ((self.name(tail), f"o{number}", 1), (self.name(head), f"i{number}", 2))
         (from_, out, _), (to, into, _) = ends
-        run("ip", "link", "add", "name", out, "netns", from_, "type", "veth", "peer", "name", into, "netns", to)
+        if self.delay and not self.netem:
+            self.pair(from_, out, self.wire, f"a{number}")
+            self.pair(self.wire, f"b{number}", to, into)
+            for name in (f"a{number}", f"b{number}"):
+                run("ip", "-n", self.wire, "link", "set", name, "up")
+        else:
+            self.pair(from_, out, to, into)
         for name, interface, end in ends:
             run("ip", "-n", name, "addr", "add", f"{address(number, end)}/30", "dev", interface)
             # So counters have the heads of all packets, and the rate is that of packets as they go over a wire.
             run("ip", "-n", name, "link", "set", interface, "gso_max_segs", "1", "up")
             self.limit(name, interface)
 
+    def pair(self, name: str, interface: str, other: str, far: str) -> None:
+        run("ip", "link", "add", "name", interface, "netns", name, "type", "veth", "peer", "name", far, "netns", other)
+
     def limit(self, name: str, interface: str) -> None:
         parent = ["root", "handle", "1:"]
-        if self.delay:
+        if self.netem:
             packets = str(int(self.mbit * 1e6 / 8 * (self.delay / 1000 + QUEUE) / 1000) + 100)
             words = ["netem", "delay", f"{self.delay}ms", "limit", packets]
             run("tc", "-n", name, "qdisc", "add", "dev", interface, *parent, *words)
             parent = ["parent", "1:1", "handle", "10:"]
         words = ["tbf", "rate", f"{int(self.mbit * 1e6)}bit", "burst", str(BURST), "latency", f"{int(QUEUE * 1000)}ms"]
         run("tc", "-n", name, "qdisc", "add", "dev", interface, *parent, *words)
+
+    def delay_all(self) -> None:
+        """Starts the program that delays what goes over links."""
+        names = [end for number in range(len(self.network.links)) for end in (f"a{number}", f"b{number}")]
+        words = [sys.executable, str(DELAYS), str(self.delay), *names]
+        process = self.start(self.wire, words, Path(os.devnull), stdout=subprocess.PIPE)
+        if process.stdout is None or process.stdout.readline() != b"ready\n":
+            raise Unable("links can't be delayed: there is no netem, and delays.py doesn't run")
 
     def cut(self, links: Iterable[int]) -> None:
         """Takes links down, at their tails."""
@@ -136,7 +166,7 @@ class Namespaces:
         more = {"stdin": subprocess.DEVNULL, "start_new_session": True, "preexec_fn": die_with_parent, **more}
         with open(errors, "ab") as file:
             all_words = ["ip", "netns", "exec", name, *words]
-            process = subprocess.Popen(all_words, stdout=file, stderr=file, **more)
+            process = subprocess.Popen(all_words, **{"stdout": file, "stderr": file, **more})
         self.running.append(process)
         return process
 
@@ -152,10 +182,24 @@ class Namespaces:
         for process in processes:
             signal_group(process, signal.SIGKILL)
             process.wait()
-            if process.stdin is not None:
-                with contextlib.suppress(OSError):
-                    process.stdin.close()
+            for pipe in (process.stdin, process.stdout):
+                if pipe is not None:
+                    with contextlib.suppress(OSError):
+                        pipe.close()
         self.running = [process for process in self.running if process not in processes]
+
+
+def has_netem() -> bool:
+    """Whether the kernel delays packets."""
+    name = f"{PREFIX}-{os.getpid()}-netem"
+    run("ip", "netns", "add", name)
+    try:
+        run("tc", "-n", name, "qdisc", "add", "dev", "lo", "root", "netem", "delay", "1ms")
+    except Unable:
+        return False
+    finally:
+        run("ip", "netns", "del", name)
+    return True
 
 
 def die_with_parent() -> None:
