@@ -1,4 +1,3 @@
-#!/usr/bin/python3
 """Delays what goes between pairs of interfaces, for `namespaces.py` where the kernel has no netem.
 
     delays.py MS A B [A B ..]
