@@ -241,6 +241,9 @@ class Running:
         self.flush()
         deaf = {link.number for link in worker.out.values() if not link.has_left}
         near = [link for link in worker.into.values() if not link.has_left]
+        for incoming in near:
+            # What was said last may have been lost.
+            incoming.said = incoming.said if time.monotonic() - incoming.heard < 1 else 0
         return not deaf and not near or waited > FAREWELL and not deaf & live
 
 

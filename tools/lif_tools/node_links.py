@@ -3,7 +3,8 @@
 The head of a link listens, and its tail connects. Down the link go the state of the stream, which is repeated at each
 connection, windows, each with all frames that the link carries of it, and at last that the tail knows of the end. Up the
 link goes the number of the first window that isn't done at the head and behind it, and the number of one that came changed,
-to have it again. The tail keeps each window until it is done, and sends all that it keeps at each connection.
+to have it again. The tail keeps each window until it is done, and sends all that it keeps at each connection, and from some
+window on where the head asks for the rest, since it waits for it and has heard nothing for a while.
 """
 from __future__ import annotations
 
@@ -20,7 +21,7 @@ from lif_tools.common import ToolError, module, notice
 from lif_tools.formats import FRAME_BYTES, PIECES
 
 # What a message begins with.
-STATE, WINDOW, LEAVE, DONE, AGAIN = b"S", b"W", b"L", b"D", b"A"
+STATE, WINDOW, LEAVE, DONE, AGAIN, REST = b"S", b"W", b"L", b"D", b"A", b"R"
 # Marks of a window: a segment begins with it; the link can't bring it.
 BEGINS, LOST = 1, 2
 # The letter of a message and the checksum of all but itself.
@@ -30,6 +31,8 @@ HEAD = struct.Struct(">QIIBB")
 NUMBER = struct.Struct(">Q")
 # How often a window that came changed is asked for again.
 TRIES = 3
+# Seconds of silence until the rest is asked for.
+SILENCE = 2.0
 # Milliseconds until a peer that says nothing is taken as gone, and in which the last words may still go.
 GONE, LAST = 5000, 2000
 
@@ -122,6 +125,8 @@ class Incoming(Wire):
         self.asked: dict[int, int] = {}
         # Whether a message came changed of which it isn't known what it was.
         self.doubts = False
+        # When something came, or the rest was asked for.
+        self.heard = time.monotonic()
         self.on_state = on_state
         host, port = address.rsplit(":", 1)
         try:
@@ -136,6 +141,7 @@ class Incoming(Wire):
             parts = self.received()
             if parts is None:
                 break
+            self.heard = time.monotonic()
             is_new |= len(parts) == 2 and self.take(parts[0], parts[1], following)
         return is_new
 
@@ -185,6 +191,12 @@ class Incoming(Wire):
         self.asked = {each: times for each, times in self.asked.items() if each > window - 2 * self.bound}
         self.asked[window] = self.asked.get(window, 0) + 1
         self.up(AGAIN, window)
+
+    def ask_for_the_rest(self, window: int) -> None:
+        """Asks for all from a window on, where the link is silent."""
+        if time.monotonic() - self.heard > SILENCE:
+            self.heard = time.monotonic()
+            self.up(REST, window)
 
     def given_up(self, window: int) -> bool:
         """Whether a window came changed too often."""
@@ -283,6 +295,8 @@ class Outgoing(Wire):
             self.is_told = False
             if kind == AGAIN and number in self.kept:
                 self.unsent.append(number)
+            elif kind == REST:
+                self.unsent = deque(window for window in self.kept if window >= number)
         return is_new
 
     def is_done(self, number: int) -> bool:

@@ -196,6 +196,8 @@ class Worker:
         for link in self.into.values():
             self.schedule.known = max(self.schedule.known, max(link.came, default=-1) + 1)
         if self.following >= self.schedule.known:
+            for link in self.into.values():
+                link.ask_for_the_rest(self.following)
             return self.wait_for(next((link.name for link in self.into.values()), None))
         pattern = self.schedule.pattern(self.following)
         opened = self.open(pattern)
@@ -207,6 +209,8 @@ class Worker:
             # It was done before this node was started again.
             return self.skip_to(passed)
         late = [link for link in missing if not self.gives_up(link)]
+        for link in late:
+            link.ask_for_the_rest(self.following)
         full = [self.out[link] for link in opened.out if not self.out[link].has_room()]
         if late or full:
             return self.wait_for((late or full)[0].name)

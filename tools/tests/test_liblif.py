@@ -50,6 +50,28 @@ EXAMPLE = EXAMPLES / "python/butterfly.py"
 NUMBERS = (100_000, 0xFFFFFFFF)
 
 
+# Frames one behind another
+
+
+def test_frames_one_behind_another() -> None:
+    """They are those that come one by one, and those that are refused are told."""
+    with liblif.Code(FLY) as code, Node(code, "s") as one, Node(code, "s") as all_at_once, Node(code, "a") as node:
+        for source in (one, all_at_once):
+            source.begin(5, 2)
+            for generation in (5, 6):
+                source.feed(generation, cut(bytes([generation] * 2000), 2))
+        frames = [*one.frames()]
+        assert [all_at_once.due(3), all_at_once.due(100), all_at_once.due(100), all_at_once.due(0)] == [
+            b"".join(frames[:3]), b"".join(frames[3:]), b"", b""
+        ]  # fmt: skip
+        node.begin(5)
+        refused = node.accept_each(b"".join(frames) + b"rest")
+        taken = [frame for frame in frames if frame_link(frame) == code.link("s-a") and frame_generation(frame) == 5]
+        assert len(refused) == len(frames) + 1 - len(taken) and refused[-1].status is Status.BAD_LENGTH
+        assert {each.status for each in refused[:-1]} == {Status.OTHER_LINK, Status.NOT_BEGUN}
+        assert not any(map(node.accept, taken)) and len([*node.frames()]) == 16
+
+
 # The header
 
 

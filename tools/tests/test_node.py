@@ -328,6 +328,19 @@ def test_links_that_fail(regional: Path, tmp_path: Path) -> None:
             assert late.items() <= got.items() and got.items() <= (made | late).items()
 
 
+def test_a_link_that_comes_up_again(fly: Overlay) -> None:
+    """All windows wait for it, and nothing is lost, though what went over it meanwhile was."""
+    src, part = source(fly.folder, 6_000_000), fly.folder / ".out.t1.part"
+    proxy = fly.proxied("b-c", "b")
+    fly.start_all("--from", src)
+    until(lambda: part.exists() and part.stat().st_size > 500_000)
+    proxy.is_cut = True
+    until(lambda: fly.counted("c").get("waits_for") == "b-c" and fly.counted("s").get("waits_for") is not None)
+    proxy.is_cut = False
+    fly.ends()
+    assert fly.got("t1") == fly.got("t2") == src.read_bytes()
+
+
 def memory(overlay: Overlay) -> dict[str, int]:
     """How many kilobytes each node holds."""
     status = {name: Path(f"/proc/{each.pid}/status").read_text() for name, each in overlay.running.items()}
