@@ -163,10 +163,10 @@ class Namespaces:
 
     def start(self, name: str, words: Sequence[str], errors: Path, **more: Any) -> subprocess.Popen[bytes]:
         """Starts a program in a namespace; what it says goes to a file."""
-        more = {"stdin": subprocess.DEVNULL, "start_new_session": True, "preexec_fn": die_with_parent, **more}
         with open(errors, "ab") as file:
-            all_words = ["ip", "netns", "exec", name, *words]
-            process = subprocess.Popen(all_words, **{"stdout": file, "stderr": file, **more})
+            options: dict[str, Any] = {"stdin": subprocess.DEVNULL, "stdout": file, "stderr": file, **more}
+            options |= {"start_new_session": True, "preexec_fn": die_with_parent}
+            process: subprocess.Popen[bytes] = subprocess.Popen(["ip", "netns", "exec", name, *words], **options)
         self.running.append(process)
         return process
 
